@@ -43,7 +43,8 @@ class Premise:
     literal: Literal
     origin: Origin | None = None
     turned: Literal | None = None  # a fact that says the same the other way round
-    is_false: bool = False  # its negation is a fact
+    is_false: bool = False  # its negation is a fact, or follows
+    follows: bool = False  # no fact, but allowed where no fact is asked for
     ways: list[Way] = field(default_factory=list)
 
     @property
@@ -149,9 +150,11 @@ def premise_lines(premise: Premise, library: Library) -> list[str]:
     said = spell(premise.literal)
     if premise.origin is not None:
         return [f"there    {said:34} {origin_words(premise.origin, library)}".rstrip()]
+    if premise.follows:
+        return [f"follows  {said}"]
     more = ""
     if premise.is_false:
-        more = "its negation is known"
+        more = "false: its negation is known"
     elif premise.turned is not None:
         more = f"there is `{spell(premise.turned)}`"
     return [f"missing  {said:34} {more}".rstrip(),

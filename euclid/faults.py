@@ -254,7 +254,7 @@ class FaultLooker:
             return
         for line in self.lines():
             if line.number < self.line.number and self.word in new_names(line):
-                yield f"by {self.where(line.number)}: `{' '.join(line.words)}`; choose another name"
+                yield f"{self.where(line.number)} has it: `{' '.join(line.words)}`; choose another name"
                 return
 
 

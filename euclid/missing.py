@@ -5,40 +5,46 @@ What the search finds is a proposal: each is run in a scratch book, many of them
 
 from __future__ import annotations
 
-from .closure import TRANSFER, Line
-from .codes import Coded, Comparison, Unknown, clauses
+from collections.abc import Callable
+
+from .clock import Clock, OutOfTime
+from .closure import Line
+from .codes import Coded, Comparison, Unknown, clauses, negated
 from .contexts import Situation
-from .diagnosis import Diagnosis, Way
+from .diagnosis import Diagnosis, Premise, Way
+from .filling.page import Page
+from .filling.supply import Supplier
 from .literals import Diagram, Literal, Metric, negation, parse_literal, spell
 from .near import Near, near
 from .reach import Reach
 from .rules import tables
-from .scratch import Scratch, Untried
-from .script import By
+from .scratch import Scratch, Trial, Untried
+from .script import By, Contradiction
 from .syntax import Fault
 
 MOST_WAYS = 3  # to one literal
 MOST_LINES = 12  # of one way
+SECONDS = 1.5  # for one refusal
+CONTRADICTION = ["claim right = right", "contradiction"]  # lines that are accepted where the facts are absurd
 
 
 def add_ways(diagnosis: Diagnosis, situation: Situation, scratch: Scratch) -> None:
     """Puts the ways into a diagnosis, and what they tell into its message."""
     try:
-        seeker = Seeker(situation)
+        seeker = Seeker(situation, Clock(SECONDS))
     except Unknown:
         return
     wanted = parsed(diagnosis.wanted, situation)
-    own = situation.step.line.text.strip()
+    is_by = isinstance(situation.step, By)
     if wanted is not None:
-        diagnosis.ways = [way for way in seeker.ways(wanted) if way.lines != [own]]
-    for premise in diagnosis.premises:
-        if not premise.is_there:
-            premise.ways = seeker.ways(premise.literal)
-    every = [diagnosis.ways, *(premise.ways for premise in diagnosis.premises)]
-    try_all([way for ways in every for way in ways], scratch)
-    for ways in every:
-        ways[:] = best(ways)
-    say_more(diagnosis, situation, wanted, seeker, scratch)
+        diagnosis.ways = seeker.ways(wanted, False)
+    elif isinstance(situation.step, Contradiction):
+        diagnosis.ways = seeker.absurd()
+    missing = [premise for premise in diagnosis.premises if not premise.is_there]
+    for premise in missing:
+        premise.ways = seeker.ways(premise.literal, is_by)
+    try_all(diagnosis, missing, wanted, scratch)
+    explain(diagnosis, situation, wanted, Denial(seeker, scratch))
 
 
 def parsed(words: str, situation: Situation) -> Literal | None:
@@ -49,14 +55,21 @@ def parsed(words: str, situation: Situation) -> Literal | None:
         return None
 
 
-def try_all(ways: list[Way], scratch: Scratch) -> None:
-    """Runs the ways that lack nothing."""
-    complete = [way for way in ways if not way.lacks]
+def try_all(diagnosis: Diagnosis, missing: list[Premise], wanted: Literal | None, scratch: Scratch) -> None:
+    """Runs all ways that lack nothing, in one scratch book, and keeps the best."""
+    lists = [(diagnosis.ways, CONTRADICTION if wanted is None else [f"hence {spell(wanted)}"])]
+    lists += [(premise.ways, [f"hence {spell(premise.literal)}"]) for premise in missing]
+    trials: list[tuple[Way, Trial]] = [(way, [*way.lines, *last]) for ways, last in lists for way in ways if not way.lacks]
     try:
-        for way, is_ready in zip(complete, scratch.ready([way.lines for way in complete])):
-            way.is_ready = is_ready
+        answers = scratch.ready([trial for _, trial in trials])
     except Untried:
-        return
+        answers = [False] * len(trials)
+    for (way, _), is_ready in zip(trials, answers):
+        way.is_ready = is_ready
+    for premise in missing:
+        premise.follows = any(way.is_ready and not way.lines for way in premise.ways)
+    for ways, _ in lists:
+        ways[:] = best([way for way in ways if way.lines])
 
 
 def best(ways: list[Way]) -> list[Way]:
@@ -70,21 +83,23 @@ def best(ways: list[Way]) -> list[Way]:
 class Seeker:
     """Looks for ways to literals before one step."""
 
-    def __init__(self, situation: Situation) -> None:
-        self.situation = situation
+    def __init__(self, situation: Situation, clock: Clock) -> None:
+        self.situation, self.clock = situation, clock
         self.reach = Reach.of(situation.context)
 
-    def ways(self, literal: Literal) -> list[Way]:
-        """Lines that should give a literal, and instances that would but for a little."""
+    def ways(self, literal: Literal, as_fact: bool) -> list[Way]:
+        """Lines that should give a literal, and instances that would but for a little.
+
+        A way without lines says that the literal is allowed as it is, though it is no fact.
+        """
         item = self.reach.code(literal)
-        found = self.one_line(item) + self.more_lines(item) + self.transferred(item)
+        found = self.one_line(item)
+        lines = self.supplied(item, as_fact)
+        if lines is not None and len(lines) <= MOST_LINES:
+            found.append(Way(lines))
         if not found:
             found = [self.near_way(item, each) for each in near(item, self.reach.closure, MOST_WAYS)]
-        unique: dict[tuple[str, ...], Way] = {}
-        for way in found:
-            if len(way.lines) <= MOST_LINES:
-                unique.setdefault(tuple(way.lines), way)
-        return list(unique.values())
+        return list({tuple(way.lines): way for way in reversed(found)}.values())[::-1]
 
     def one_line(self, item: Coded) -> list[Way]:
         """Rules of the diagram that give it from facts alone, that of the step first."""
@@ -97,19 +112,24 @@ class Seeker:
         reasons.sort(key=lambda reason: (clauses()[reason[0]].name != own, len(reason)))
         return [Way([self.reach.words_of(Line(reason[0], reason[1:], item, 0))]) for reason in reasons[:MOST_WAYS]]
 
-    def more_lines(self, item: Coded) -> list[Way]:
-        """The lines with which the diagram shows it."""
-        if isinstance(item, Comparison) or not self.reach.shows(item) or self.reach.has(item):
-            return []
-        return [Way([self.reach.words_of(line) for line in self.reach.lines_to([item])])]
+    def supplied(self, item: Coded, as_fact: bool) -> list[str] | None:
+        """Lines after which a literal is allowed, or a fact."""
+        return self.lines_of(lambda supplier: supplier.fact(item) if as_fact else supplier.need(item))
 
-    def transferred(self, item: Coded) -> list[Way]:
-        """Transfer rules that give it, after the lines that their diagram needs."""
-        found = []
-        for made in self.reach.transfers(item)[:MOST_WAYS]:
-            lines = [self.reach.words_of(line) for line in self.reach.lines_to(made.diagram)]
-            found.append(Way([*lines, f"hence {self.reach.spell(item)}"]))
-        return found
+    def absurd(self) -> list[Way]:
+        """Lines after which the facts contradict each other."""
+        lines = self.lines_of(lambda supplier: supplier.contradiction())
+        return [] if lines is None or len(lines) > MOST_LINES else [Way(lines)]
+
+    def lines_of(self, ask: Callable[[Supplier], bool]) -> list[str] | None:
+        """The lines that a supplier writes, if it finds what is asked for."""
+        page = Page()
+        try:
+            if not ask(Supplier(Reach.of(self.situation.context), page, self.clock)):
+                return None
+        except OutOfTime:
+            return None
+        return [line.text for line in page.lines]
 
     def near_way(self, item: Coded, each: Near) -> Way:
         """An instance that lacks something, as a line."""
@@ -126,27 +146,61 @@ class Seeker:
         return " ".join(self.reach.scope.names[sort][number] for sort, number in zip(rule.sorts, each.objects))
 
 
+class Denial:
+    """Asks whether the negation of a literal follows, where the literal does not."""
+
+    def __init__(self, seeker: Seeker, scratch: Scratch) -> None:
+        self.seeker, self.scratch = seeker, scratch
+
+    def lines(self, literal: Literal) -> list[str] | None:
+        """Lines after which the negation is allowed, and that `elements` accepted with it."""
+        opposite = negation(literal)
+        lines = self.seeker.supplied(negated(self.seeker.reach.code(literal)), False)
+        if lines is None or len(lines) > MOST_LINES:
+            return None
+        last = f"hence {spell(opposite)}"
+        try:
+            return lines if self.scratch.ready([[*lines, last]])[0] else None
+        except Untried:
+            return None
+
+
 # ---- what the ways tell
 
 
-def say_more(diagnosis: Diagnosis, situation: Situation, wanted: Literal | None, seeker: Seeker, scratch: Scratch) -> None:
+def explain(diagnosis: Diagnosis, situation: Situation, wanted: Literal | None, denial: Denial) -> None:
     """Puts the likeliest cause into the message."""
-    step = situation.step
-    first = next((way for way in diagnosis.ways if way.is_ready), None)
+    step, is_ready = situation.step, any(way.is_ready for way in diagnosis.ways)
     if isinstance(step, By):
+        first = next((way for way in diagnosis.ways if way.is_ready), None)
         if first is not None and len(first.lines) == 1:
             diagnosis.message += "; " + instead(step, first.lines[0])
+        for premise in diagnosis.premises:
+            if not premise.is_there and not premise.ways[:1]:
+                premise.is_false = premise.is_false or denial.lines(premise.literal) is not None
+        return
+    if wanted is None:
         return
     if isinstance(wanted, Diagram) and step.word == "hence":
         diagnosis.message = diagnosis.message.replace("does not follow by arithmetic or one transfer rule",
                                                       "is not shown: `hence` finds no rules of the diagram")
-    if isinstance(wanted, Metric) and is_false(wanted, seeker, scratch):
-        diagnosis.message = diagnosis.message.split(": ")[0] + f": `{diagnosis.wanted}` is false: " \
-            f"`{spell(negation(wanted))}` follows from what is known"
-        diagnosis.values = [value for value in diagnosis.values if not value.is_free]
-    elif first is not None:
-        diagnosis.message += f"; `{first.lines[0]}` gives it" if len(first.lines) == 1 else \
-            f"; {len(first.lines)} lines give it"
+    if is_ready:
+        diagnosis.message += f"; {first_words(diagnosis.ways)}"
+        return
+    lines = denial.lines(wanted)
+    if lines is not None:
+        after = f" after {' and '.join(f'`{line}`' for line in lines)}" if len(lines) < 3 else " after some lines"
+        begin = diagnosis.message.split(": ")[0]
+        diagnosis.message = f"{begin}: `{diagnosis.wanted}` is false: `{spell(negation(wanted))}` follows" + \
+            (after if lines else " from the facts")
+
+
+def first_words(ways: list[Way]) -> str:
+    """What the first ready way is, for the message."""
+    lines = next(way.lines for way in ways if way.is_ready)
+    if len(lines) == 1:
+        return f"`{lines[0]}` gives it"
+    return f"{len(lines)} lines before it give it, first `{lines[0]}`"
 
 
 def instead(step: By, line: str) -> str:
@@ -155,15 +209,3 @@ def instead(step: By, line: str) -> str:
     if words[0] == "by" and words[1] == step.rule:
         return f"with the names `{' '.join(words[2 : words.index(':')])}` it is licensed"
     return f"`{line}` is licensed"
-
-
-def is_false(wanted: Metric, seeker: Seeker, scratch: Scratch) -> bool:
-    """Whether the negation of a literal follows, where it does not."""
-    opposite = negation(wanted)
-    item = seeker.reach.code(opposite)
-    if not isinstance(item, Comparison) or not seeker.reach.follows(item):
-        return False
-    try:
-        return scratch.ready([[f"hence {spell(opposite)}"]])[0]
-    except Untried:
-        return False
