@@ -48,21 +48,19 @@ class FilledBooks:
         for title, each in self.filled.items():
             for missing in each.missing:
                 text = f"{title}, step {missing.step} lacks {wanted(missing.wanted)}"
-                found.append(self.message(missing.line, text, self.details(missing)))
+                found.append(self.message(missing.line, text, self.details(missing) if missing is each.missing[0] else []))
             if each.stopped:
                 found.append(self.message(each.stopped_at, f"{title} is not filled: {each.stopped}"))
             if title in self.refused:
                 text = f"{title} was filled, and `elements` refuses it: {self.refused[title]}"
                 found.append(self.message(each.theorem.first, text))
             elif each.is_whole():
-                found += [self.message(each.theorem.first, f"put into {title}: {text}", kind="note")
+                found += [self.message(place_of(each, text), f"put before this step of {title}: {text}", kind="note")
                           for text in each.applied]
         return found
 
     def details(self, missing: Missing) -> list[str]:
-        """What was tried for what is missing, and what comes nearest; nothing where other things are missing before."""
-        if not missing.why:
-            return []
+        """What was tried for what is missing, and what comes nearest."""
         theorem = ", one use of an earlier theorem" if self.most_applied else ""
         return [TRIED + theorem, *missing.why]
 
@@ -73,6 +71,11 @@ class FilledBooks:
         if sketch_of(full) is not None:
             place = type(place)(shown(full.with_suffix(SUFFIX)), place.line, place.column)
         return Message(place, kind, text, details=list(details))
+
+
+def place_of(filled: FilledTheorem, text: str) -> int:
+    """The number of the author's line before which a line was put."""
+    return next((number for number, lines in filled.under().items() if text in map(str.strip, lines)), filled.theorem.first)
 
 
 def wanted(words: str) -> str:
