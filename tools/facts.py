@@ -11,7 +11,8 @@
 - The usage line, the exit statuses and the libraries that are trusted are those of the code: `check_program`.
 - The limits and the reserved words of docs/book.md are those of the code: `check_language`.
 - What Book I applies and rests on is what its `apply` lines say: `check_book_one`.
-- README has at most 150 lines, and says how many lines the second verifier has: `check_readme`.
+- README has at most 150 lines, shows the book and the answers that are there, and says how many lines the second verifier
+  has: `check_readme`.
 - The newest version of CHANGELOG.md is that of CITATION.cff, and of release/, or the program there is unreleased:
   `check_versions`.
 - Pages of definitions and files of proofs, which docs/definitions.md and docs/proofs.md name without their suffix, are
@@ -21,6 +22,7 @@ Each check yields findings: a page, the number of a line, and what is wrong ther
 """
 
 import re
+import subprocess
 
 import join
 import rests
@@ -377,12 +379,24 @@ def check_book_one(top):
 # ---- README
 
 
+def answer_to(top, book):
+    """What the program of release/ writes of a book."""
+    with open(top / book, "rb") as source:
+        return subprocess.run([top / "release/elements", "check"], stdin=source, capture_output=True).stdout.decode()
+
+
 def check_readme(top):
     page = top / "README.md"
     text = read(page)
     lines = text.count("\n")
     if lines > MOST_README_LINES:
         yield page, MOST_README_LINES + 1, f"{lines} lines: {MOST_README_LINES} are the most"
+    wrong = "examples/refused/magnitudes-without-the-greater-length.book"
+    sources = [read(top / "examples/I.1.book"), answer_to(top, "examples/I.1.book"), answer_to(top, wrong)]
+    for block in re.findall(r"(?:^ {4}.*\n)+", text, re.M):
+        shown = "".join(line[4:] for line in block.splitlines(True) if not line.startswith("    #"))
+        if re.match(r"theorem|\||unlicensed", shown) and not any(shown in source for source in sources):
+            yield page, line_of(text, block), "neither in examples/I.1.book nor in what the program answers"
     verifier = read(top / "tools/verify.py").count("\n")
     if f"{verifier} lines of [Python](tools/verify.py)" not in re.sub(r"\s+", " ", text):
         yield page, line_of(text, "lines of [Python]"), f"tools/verify.py has {verifier} lines"
