@@ -30,6 +30,7 @@ class Scratch:
     theorem: Theorem
     number: int
     seconds: float = 20.0
+    most_runs: int = MOST_RUNS
     left_out: set[str] = field(default_factory=set)  # earlier theorems that are refused, and what rests on them
     runs: int = 0
 
@@ -76,7 +77,7 @@ class Scratch:
             refused |= set(batch) - set(left)
             if not left:
                 return
-            if self.runs >= MOST_RUNS:
+            if self.runs >= self.most_runs:
                 refused |= set(left)
                 return
             writer = Writer(self.theorem, self.number, [trials[number] for number in left])

@@ -41,9 +41,10 @@ class Way:
 class Search:
     """Objects for the variables of a rule with which its premises are known, but for a few."""
 
-    def __init__(self, reach: Reach, sorts: Sequence[Sort], premises: Sequence[Pattern], most_unknown: int) -> None:
+    def __init__(self, reach: Reach, sorts: Sequence[Sort], premises: Sequence[Pattern], most_unknown: int,
+                 nodes: int = MOST_NODES) -> None:
         self.closure, self.sorts, self.premises = reach.closure, sorts, premises
-        self.most, self.nodes = most_unknown, MOST_NODES
+        self.most, self.nodes = most_unknown, nodes
 
     def solutions(self, bound: Bound) -> Iterator[tuple[int, ...]]:
         """All ways to bind the other variables."""
@@ -226,3 +227,13 @@ def is_hopeless(premise: Literal, wanted: Literal) -> bool:
     if premise.word == "between" and premise.positive:
         return len(set(premise.objects)) < 3
     return premise.word == "meets" and premise.positive and len(set(premise.objects)) < 2
+
+
+def lacking_words(lacks: Sequence[Literal], unknown: Sequence[Literal], lines: int) -> str:
+    """The premises that are no facts, with those that follow told apart."""
+    follows = [spell(each) for each in lacks if each not in unknown]
+    parts = [spell(each) for each in unknown]
+    if follows:
+        count = f"{lines} line{'s' * (lines != 1)}"
+        parts.append(f"{' ; '.join(follows)} (follow{'s' * (len(follows) == 1)}: {count})")
+    return " ; ".join(parts)

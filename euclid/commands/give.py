@@ -15,7 +15,7 @@ from ..reach import Reach, Unknown
 from ..scratch import Scratch, Untried
 from ..syntax import Fault
 from ..targets import Opened, add_json, add_paths, opened
-from ..ways import Way, Ways
+from ..ways import Way, Ways, lacking_words
 from ..words import positive
 
 HELP = """Shows which rules and constructions can give a literal; with --at what each lacks at a step.
@@ -184,19 +184,6 @@ def put_found(found: Found, is_json: bool) -> None:
             continue
         rule = f"  by {way.rule}" if way.line.startswith("hence") else ""
         print(f"    {way.line}{rule}")
-        print(f"        lacks {lacking_words(way)}")
+        print(f"        lacks {lacking_words(way.lacks, way.unknown, way.lines)}")
     if not found.ready and not found.near and not is_json:
         print("    no rule gives it from what is there, or from that and one literal more")
-
-
-def lacking_words(way: Way) -> str:
-    """The premises that are no facts, with those that follow told apart."""
-    unknown = set(way.unknown)
-    follows = [spell(each) for each in way.lacks if each not in unknown]
-    parts = [" ; ".join(spell(each) for each in way.lacks if each in unknown)] if unknown else []
-    if follows:
-        lines = f"{way.lines} line{'s' * (way.lines != 1)}"
-        parts.append(f"{' ; '.join(follows)} (follow{'s' * (len(follows) == 1)}: {lines})")
-    return " ; ".join(parts)
-
-
