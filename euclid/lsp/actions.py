@@ -46,14 +46,21 @@ def is_as_it_was(project: Project, checker: Checker, diagnosis: Diagnosis) -> bo
 
 
 def ways(uri: str, project: Project, diagnosis: Diagnosis, first: int) -> list[Json]:
-    """The ways that are ready, as lines before the step."""
+    """The ways that are ready: lines before the step, or in the place of a citation that is wrong."""
     line = text_of(project.library, diagnosis.number)
     indent = line[: len(line) - len(line.lstrip())]
+    number = diagnosis.number - first
+    is_citation = line.split()[:1] == ["by"]
     found: list[Json] = []
     for way in diagnosis.ready():
-        text = "".join(f"{indent}{each}\n" for each in way.lines)
-        title = "insert " + " ; ".join(f"`{each}`" for each in way.lines)
-        found.append(action(title, uri, insertion(diagnosis.number - first, text), not found))
+        said = " ; ".join(f"`{each}`" for each in way.lines)
+        if is_citation and way in diagnosis.ways:
+            new = "\n".join(indent + each for each in way.lines)
+            edit = {"range": span(line, number + 1, 1, len(line) + 1), "newText": new}
+            found.append(action(f"write {said} instead", uri, edit, not found))
+        else:
+            text = "".join(f"{indent}{each}\n" for each in way.lines)
+            found.append(action(f"insert {said}", uri, insertion(number, text), not found))
     return found
 
 
