@@ -2,7 +2,7 @@
 
 from __future__ import annotations
 
-from collections.abc import Collection, Iterator, Sequence
+from collections.abc import Collection, Iterator, Mapping, Sequence
 from functools import lru_cache
 from itertools import permutations
 from typing import NamedTuple
@@ -192,12 +192,15 @@ INTO_DIAGRAMS = {"ms1": 1, "ms2": 1, "mr1": 1, "ds2": 1, "ds3a": 1, "ds3b": 1, "
                  "dr1a": 1, "dr1b": 1, "dr2b": 1}
 
 
-def into_diagrams(parts: set[Quantity], closure: Closure) -> Iterator[Instance]:
+FURTHER = INTO_DIAGRAMS | {"ms3": 1}
+
+
+def into_diagrams(parts: set[Quantity], closure: Closure, places: Mapping[str, int] = INTO_DIAGRAMS) -> Iterator[Instance]:
     """Instances that give a literal of diagrams that is not known, from these magnitudes."""
     for rule in transfer_rules():
-        if rule.name not in INTO_DIAGRAMS:
+        if rule.name not in places:
             continue
-        target, (pattern,) = rule.patterns[-INTO_DIAGRAMS[rule.name]], rule.sums
+        target, (pattern,) = rule.patterns[-places[rule.name]], rule.sums
         starting = [{}] if rule.name == "ds2" else [bound for part in sorted(parts) for bound in placed(pattern, part)]
         for bound in starting:
             for objects in solutions(rule, bound, target, closure):

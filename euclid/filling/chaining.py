@@ -7,13 +7,13 @@ together, a set of them is looked for of which none can be spared.
 
 from __future__ import annotations
 
-from collections.abc import Callable, Collection
+from collections.abc import Callable, Collection, Iterator
 
 from .. import magnitudes
 from ..codes import Comparison, Quantity
-from ..magnitudes import System
+from ..magnitudes import System, Tester
 from ..reach import Reach
-from ..transfers import Instance, touching
+from ..transfers import FURTHER, Instance, into_diagrams, touching
 
 # What an author is likely to leave out, the plainest first.
 OBVIOUS = ("ds1", "ds3b", "da2a", "dr2a", "da3a", "da3b")
@@ -56,6 +56,15 @@ class Chainer:
                 if given(made).says == "=":
                     system.equate(dict(given(made).form))
         return done
+
+    def into_diagrams(self) -> Iterator[Instance]:
+        """Transfers into the diagram whose magnitudes follow from all facts with all sums that may
+        be written."""
+        facts = [*self.reach.metric, *map(given, self.usable(self.candidates(None, LESS_OBVIOUS)))]
+        tester = Tester(facts, self.reach.will_be_apart)
+        for made in into_diagrams(tester.parts, self.reach.closure, FURTHER):
+            if all(map(tester.follows, made.metric)):
+                yield made
 
     def candidates(self, wanted: Comparison | None, names: Collection[str]) -> list[Instance]:
         """The transfers that are tied to the literal, those that are cheap in lines first."""

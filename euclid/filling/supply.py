@@ -9,6 +9,7 @@ from __future__ import annotations
 from collections.abc import Callable, Iterable
 from functools import partial
 from itertools import islice
+from typing import NamedTuple
 
 from .. import magnitudes
 from ..clock import Clock
@@ -22,7 +23,16 @@ from .page import INDENT, Page
 
 # The transfers into diagrams that have few instances: they are looked at before lines are written.
 QUICK = ("ms1", "ms2", "mr1", "ds3a", "ds4a", "da1b", "dr1a", "dr1b")
-MOST_INSTANCES, MOST_CHAINED, HARVESTS = 5000, 40, 3
+MOST_INSTANCES, MOST_CHAINED, MOST_HARVESTED, HARVESTS = 5000, 40, 400, 3
+
+
+class Chained(NamedTuple):
+    """A literal of diagrams that follows from magnitudes, with the sums that are written first."""
+
+    item: Coded
+    diagram: tuple[int, ...]
+    metric: tuple[Comparison, ...]
+    chain: tuple[Instance, ...]
 
 
 class Supplier:
@@ -32,6 +42,7 @@ class Supplier:
         self.reach, self.page, self.clock = reach, page, clock
         self.closure = reach.closure
         self.chainer = Chainer(reach)
+        self.is_deep = True  # whether all is tried, also what takes long
 
     def need(self, item: Coded) -> bool:
         """Makes the literal allowed."""
@@ -56,7 +67,7 @@ class Supplier:
         for _ in range(HARVESTS):
             if attempt():
                 return True
-            if not self.harvest():
+            if not (self.harvest() or self.is_deep and self.harvest_chained()):
                 return False
         return attempt()
 
@@ -70,6 +81,20 @@ class Supplier:
             if all(map(self.reach.will_follow, made.metric)):
                 self.closure.add_transfer(made)
         return before != (len(self.closure.trail), len(self.closure.clashes))
+
+    def harvest_chained(self) -> bool:
+        """The same, where the magnitudes follow only with sums that have to be written first."""
+        found = []
+        for made in islice(self.chainer.into_diagrams(), MOST_HARVESTED):
+            self.clock.check()
+            chains = [self.chainer.chosen(item) for item in made.metric]
+            if None not in chains:
+                chain = [each for chosen in chains for each in chosen or []]
+                diagram = [code for each in chain for code in each.diagram]
+                found.append(Chained(made.item, (*made.diagram, *diagram), made.metric, tuple(chain)))
+        for each in found:
+            self.closure.add_transfer(each)
+        return bool(found)
 
     def hence(self, item: Coded) -> bool:
         """Writes the literal as a `hence` line."""
@@ -114,7 +139,9 @@ class Supplier:
     def need_premises(self, place: int) -> bool:
         """Makes the metric premises of a transfer into the diagram follow."""
         made = self.closure.transfers[place][0]
-        assert isinstance(made, Instance)
+        if isinstance(made, Chained) and not self.write_chain(made.chain):
+            return False
+        assert isinstance(made, (Instance, Chained))
         return all(map(self.need_arithmetic, made.metric))
 
     def claim(self, item: int, block: list[str]) -> bool:
@@ -208,14 +235,18 @@ class Supplier:
         """Makes a literal follow by transfers that are written as `hence` lines."""
         self.closure.saturate()
         chosen = self.chainer.chosen(item)
-        if chosen is None:
-            return False
-        for made in chosen:
+        return chosen is not None and self.write_chain(chosen) and self.need_arithmetic(item)
+
+    def write_chain(self, chain: Iterable[Instance]) -> bool:
+        """Writes transfers as `hence` lines, those that are facts left out."""
+        for made in chain:
+            if self.reach.has(made.item):
+                continue
             if not (self.cite(made.diagram) and all(map(self.need_arithmetic, made.metric))):
                 return False
             self.reach.add(made.item)
             self.page.put("hence " + spell(worded(made, self.reach.scope)))
-        return self.need_arithmetic(item)
+        return True
 
     def needed_apart(self, item: Comparison | None) -> list[int]:
         """Inequalities of points without any of which the literal does not follow."""
