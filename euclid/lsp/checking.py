@@ -23,6 +23,7 @@ from .workspace import Project, Workspace
 
 ERROR, WARNING, INFORMATION = 1, 2, 3
 SOURCE = "elements"
+PAUSE = 0.25  # seconds without a change before it is looked for how to mend what is wrong
 
 
 @dataclass
@@ -115,8 +116,11 @@ class Checker:
         report = state.diagnoser.report(library, with_ways=False)
         state.report = report
         self.tell(state, diagnostics(report), versions)
+        if report.diagnoses:
+            with self.condition:
+                self.condition.wait_for(lambda: self.job is not None or self.stopped, PAUSE)
         for diagnosis in report.diagnoses:
-            if self.job is not None:
+            if self.job is not None or self.stopped:
                 return
             add_ways(report, diagnosis)
         if report.diagnoses:

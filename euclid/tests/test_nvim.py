@@ -63,6 +63,18 @@ class Neovim(unittest.TestCase):
             self.assertTrue(out.exists(), done.stderr.decode(errors="replace"))
             self.assertEqual(out.read_text(encoding="utf-8"), WANTED)
 
+    @unittest.skipIf(shutil.which("nvim") is None, "there is no nvim")
+    def test_indents_are_those_of_fmt(self) -> None:
+        source = (TOP / "library" / "book-3" / "III.35.book").read_text(encoding="ascii")
+        with tempfile.TemporaryDirectory() as name:
+            book = Path(name) / "flat.book"
+            book.write_text("".join(line.lstrip() + "\n" for line in source.splitlines()), encoding="ascii")
+            command = ["nvim", "-u", "NONE", "-es", "--cmd", f"set rtp+={TOP / 'editors' / 'vim'}",
+                       "-c", "filetype plugin indent on", "-c", f"edit {book}", "-c", "normal! gg=G", "-c", "wq"]
+            subprocess.run(command, stdin=subprocess.DEVNULL, capture_output=True, timeout=60, check=False)
+            steps = [line for line in book.read_text(encoding="ascii").splitlines() if not line.lstrip().startswith("#")]
+            self.assertEqual(steps, [line for line in source.splitlines() if not line.lstrip().startswith("#")])
+
 
 if __name__ == "__main__":
     unittest.main()

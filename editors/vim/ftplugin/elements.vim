@@ -4,10 +4,10 @@ if exists('b:did_ftplugin')
 endif
 let b:did_ftplugin = 1
 setlocal commentstring=#\ %s comments=:# iskeyword=@,48-57,_,39,.,-
-setlocal define=^\\s*\\(theorem\\\|define\\)\\s\\+ suffixesadd=.book
+setlocal expandtab shiftwidth=2 define=^\\s*\\(theorem\\\|define\\)\\s\\+ suffixesadd=.book
 setlocal foldmethod=expr foldexpr=ElementsFold(v:lnum) foldlevel=99
 compiler elements
-let b:undo_ftplugin = 'setlocal commentstring< comments< iskeyword< define< suffixesadd< foldmethod< foldexpr< foldlevel<'
+let b:undo_ftplugin = 'setlocal commentstring< comments< iskeyword< define< suffixesadd< foldmethod< foldexpr< foldlevel< expandtab< shiftwidth<'
 let b:undo_ftplugin .= ' makeprg< errorformat<'
 
 if exists('*ElementsFold')
