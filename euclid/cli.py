@@ -53,7 +53,8 @@ def overview() -> str:
     """What `euclid --help` says."""
     rows = [f"  {name:8} {command(name).HELP.strip().splitlines()[0]}" for name in COMMANDS]
     return "\n".join(["usage: euclid COMMAND ..", "", "The companion of `elements`, the proof checker for System E.", "",
-                      *rows, "", "euclid COMMAND --help has each, with an example; euclid --version names both programs."])
+                      *rows, "", "example: euclid check library/book-1", "",
+                      "euclid COMMAND --help has each, with an example; euclid --version names both programs."])
 
 
 def main(words: list[str]) -> int:

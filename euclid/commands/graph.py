@@ -114,4 +114,7 @@ def tell_left_out(here: Opened, outcomes: Outcomes) -> int:
             why = f"rests on {outcome.on}" if outcome.verdict == Verdict.RESTS else f"is {outcome.verdict.value}"
             print(f"{here.library.place(item.first)}: note: {item.title} {why}, and is left out", file=sys.stderr)
             status = max(status, FAULTY if outcome.verdict == Verdict.FAULTY else REFUSED)
+    for stray in outcomes.strays:
+        place = here.library.place(stray.lines[0].number)
+        print(f"{place}: note: this is outside of a theorem, and is left out", file=sys.stderr)
     return FAULTY if outcomes.strays else status
