@@ -144,8 +144,10 @@ class BadInput(unittest.TestCase):
         self.assertEqual(said, b"")
 
     def test_wrong_words(self) -> None:
-        for words in ([], ["nonsense"], ["facts"], ["facts", "I.1"], ["find"], ["graph", "--of"], ["rename", "a"],
-                      ["trim", "--nonsense"], ["give"], ["apply", "I.1", "-1"]):
+        cases: list[list[str]] = [
+            [], ["nonsense"], ["facts"], ["facts", "I.1"], ["find"], ["graph", "--of"], ["rename", "a"],
+            ["trim", "--nonsense"], ["give"], ["apply", "I.1", "-1"]]
+        for words in cases:
             done = euclid(*words)
             self.assertEqual(done.status, WRONG_USE, words)
             self.assertNotIn("Traceback", done.stderr)
