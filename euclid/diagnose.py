@@ -155,7 +155,8 @@ def of_refusal(report: Report, theorem: Theorem, answer: Answer) -> Diagnosis:
     kind = "refused" if answer.kind == "unlicensed" else "too-wide"
     found = Diagnosis(kind, theorem.title, answer.step, line.number, line.column(0), line.column(len(line.words)),
                       "", answer.wanted)
-    situation = situation_of(report, theorem, answer.step)
+    filled = filled_before(report, theorem, answer.step)
+    situation = situation_at(theorem, report.book.known_before(theorem), answer.step, filled)
     found.situation = situation
     said = f"{theorem.title} step {answer.step}: "
     if step is None or situation is None:
@@ -164,17 +165,24 @@ def of_refusal(report: Report, theorem: Theorem, answer: Answer) -> Diagnosis:
         found.message = said + f"the arithmetic of `{answer.wanted}` has too large numbers; show it in smaller steps"
     else:
         found.message = said + why_refused(found, step, situation, answer)
+        found.sentences += blanks_before(theorem, filled)
     return found
 
 
-def situation_of(report: Report, theorem: Theorem, number: int) -> Situation | None:
-    """The context before the step, blanks before it filled."""
+def filled_before(report: Report, theorem: Theorem, number: int) -> dict[int, list[str]]:
+    """What filled the blanks of the steps before one."""
     left_out = report.refused_titles() - {theorem.title}
     try:
-        filled = Scratch(report.book, theorem, number, left_out=left_out).filled()
+        return Scratch(report.book, theorem, number, left_out=left_out).filled()
     except Untried:
-        filled = {}
-    return situation_at(theorem, report.book.known_before(theorem), number, filled)
+        return {}
+
+
+def blanks_before(theorem: Theorem, filled: dict[int, list[str]]) -> list[str]:
+    """A sentence for each step before that had blanks."""
+    return [f"step {step.number} was filled: `apply {step.title} {' '.join(filled[step.number])}`"
+            for step in theorem.steps()
+            if isinstance(step, Apply) and "_" in step.arguments and step.number in filled]
 
 
 def why_refused(found: Diagnosis, step: Step, situation: Situation, answer: Answer) -> str:
@@ -251,14 +259,24 @@ def literal_of(words: str, situation: Situation) -> Literal | None:
 
 
 def values_of(answer: Answer, situation: Situation) -> list[Value]:
-    """The counterexample, with a mark at each term of which nothing is known."""
-    said = {term.normal() for fact in situation.context.literals() if isinstance(fact, Metric)
-            for term in fact.terms()}
+    """The counterexample, with marks at the terms of which nothing is known, and at those that matter."""
+    facts = [{term.normal() for term in fact.terms()} for fact in situation.context.literals() if isinstance(fact, Metric)]
+    wanted = literal_of(answer.wanted, situation)
+    own = {term.normal() for term in wanted.terms()} if isinstance(wanted, Metric) else set[Term]()
+    near = own.union(*(terms for terms in facts if terms & own)) if own else set[Term]().union(*facts)
     found = []
     for spelled, number in answer.values:
         word, *points = spelled.split()
-        found.append(Value(spelled, number, word != "right" and Term(word, tuple(points)).normal() not in said))
-    return found
+        term = Term(word, tuple(points)).normal()
+        is_free = word != "right" and not any(term in terms for terms in facts)
+        found.append(Value(spelled, number, is_free, term in near or word == "right"))
+    return sorted(found, key=lambda value: not is_of(value, own))
+
+
+def is_of(value: Value, terms: set[Term]) -> bool:
+    """Whether a value is that of one of these terms."""
+    word, *points = value.term.split()
+    return Term(word, tuple(points)).normal() in terms
 
 
 def why_no_literal(found: Diagnosis, step: Step, situation: Situation, answer: Answer) -> str:

@@ -11,6 +11,7 @@ from .messages import Message
 from .syntax import count_of
 
 
+MOST_VALUES = 12  # of a counterexample, as text
 MOST_SHOWN = 100  # of the characters of a long line, on either side of the place
 
 
@@ -60,6 +61,7 @@ class Value:
     term: str
     number: int
     is_free: bool
+    is_near: bool = True  # it is a term of what is wanted, or of a fact with one
 
 
 @dataclass
@@ -177,10 +179,13 @@ def value_lines(values: list[Value]) -> list[str]:
     """The counterexample as a table."""
     if not values:
         return []
-    width = max(len(each.term) for each in values)
-    free = "nothing that is known speaks of it"
-    return ["with these values all that is known is true, and this is false:",
-            *(f"  {each.term:{width}}  {each.number}{'   ' + free if each.is_free else ''}" for each in values)]
+    shown = [each for each in values if each.is_near][:MOST_VALUES]
+    width = max(len(each.term) for each in shown)
+    free = "   nothing that is known speaks of it"
+    lines = ["with these values all that is known is true, and this is false:",
+             *(f"  {each.term:{width}}  {each.number}{free if each.is_free else ''}" for each in shown)]
+    more = len(values) - len(shown)
+    return lines + ([f"  and {count_of(more, 'other value')}"] if more else [])
 
 
 def missing_words(premises: list[Premise]) -> str:

@@ -77,7 +77,7 @@ class FaultLooker:
     def hints(self, kind: str) -> list[str]:
         """What may be meant, the likeliest first."""
         if kind == FaultKind.MALFORMED:
-            found = [*self.bytes(), *self.signs(), *self.first_word(), *self.misspelled(), *self.title(), *self.shapes()]
+            found = list(self.bytes()) or [*self.signs(), *self.first_word(), *self.misspelled(), *self.title(), *self.shapes()]
         elif kind == FaultKind.UNKNOWN_NAME:
             found = [*self.later_title(), *self.close_rule(), *self.segment(), *self.later_object(), *self.close_object()]
         elif kind == FaultKind.WRONG_SORT:
@@ -226,7 +226,7 @@ class FaultLooker:
     def close_object(self) -> Iterator[str]:
         """A name like this one."""
         near = [name for name in self.scope if name.lower() == self.word.lower() or set(name) == set(self.word)]
-        yield from meant(self.word, near or self.scope)
+        yield from meant(self.word, near or self.scope, 0.6)
 
     def order_of_names(self) -> Iterator[str]:
         """The order that a rule's names have."""
@@ -258,9 +258,9 @@ class FaultLooker:
                 return
 
 
-def meant(word: str, words: Iterable[str]) -> Iterator[str]:
+def meant(word: str, words: Iterable[str], like: float = 0.7) -> Iterator[str]:
     """A word that is like this one."""
-    found = difflib.get_close_matches(word, list(words), 1, 0.6)
+    found = difflib.get_close_matches(word, list(words), 1, like)
     if found and found[0] != word:
         yield f"did you mean `{found[0]}`?"
 

@@ -6,25 +6,29 @@ What the search finds is a proposal: each is run in a scratch book, many of them
 from __future__ import annotations
 
 from collections.abc import Callable
+from itertools import islice
 
 from .clock import Clock, OutOfTime
+from .choices import Chooser
 from .closure import Line
 from .codes import Coded, Comparison, Unknown, clauses, negated
-from .contexts import Situation
+from .contexts import BLANK, Situation, turned
 from .diagnosis import Diagnosis, Premise, Way
 from .filling.page import Page
 from .filling.supply import Supplier
-from .literals import Diagram, Literal, Metric, negation, parse_literal, spell
+from .filling.theorems import Catalogue
+from .filling.ways import Finder
+from .literals import Diagram, Literal, Metric, is_same, negation, parse_literal, spell
 from .near import Near, near
 from .reach import Reach
 from .rules import tables
 from .scratch import Scratch, Trial, Untried
-from .script import By, Contradiction
+from .script import Apply, By, Contradiction, Step
 from .syntax import Fault
 
 MOST_WAYS = 3  # to one literal
 MOST_LINES = 12  # of one way
-SECONDS = 1.5  # for one refusal
+SECONDS = 0.9  # for one refusal
 CONTRADICTION = ["claim right = right", "contradiction"]  # lines that are accepted where the facts are absurd
 
 
@@ -43,8 +47,72 @@ def add_ways(diagnosis: Diagnosis, situation: Situation, scratch: Scratch) -> No
     missing = [premise for premise in diagnosis.premises if not premise.is_there]
     for premise in missing:
         premise.ways = seeker.ways(premise.literal, is_by)
+    own = situation.step.line.text.strip()
+    for ways in (diagnosis.ways, *(premise.ways for premise in missing)):
+        ways[:] = [way for way in ways if way.lines != [own]]
     try_all(diagnosis, missing, wanted, scratch)
+    if isinstance(situation.step, Apply):
+        choose(diagnosis, situation.step, seeker, scratch)
+    if wanted is not None and not is_by and not diagnosis.ready():
+        by_theorems(diagnosis, wanted, seeker, scratch)
+    if any(way.is_ready for way in diagnosis.ways):
+        diagnosis.ways = [way for way in diagnosis.ways if way.is_ready]
+    elif wanted is not None and any(is_same(premise.literal, wanted) for premise in missing):
+        diagnosis.ways = []  # they are told at the premise
     explain(diagnosis, situation, wanted, Denial(seeker, scratch))
+
+
+def by_theorems(diagnosis: Diagnosis, wanted: Literal, seeker: Seeker, scratch: Scratch) -> None:
+    """Uses of earlier theorems that give what is wanted, where nothing less does."""
+    known = scratch.book.known_before(scratch.theorem)
+    finder = Finder(Reach.of(seeker.situation.context, seeker.clock), known, Catalogue())
+    try:
+        found = finder.ways(seeker.reach.code(wanted), False, MOST_WAYS).ways
+    except (OutOfTime, Unknown):
+        return
+    ways = [Way(way.lines) for way in found if way.applied and len(way.lines) <= MOST_LINES]
+    keep_ready(ways, scratch, [f"hence {spell(wanted)}"])
+    diagnosis.ways = ways + diagnosis.ways
+
+
+def keep_ready(ways: list[Way], scratch: Scratch, last: Trial) -> None:
+    """Keeps the ways that `elements` accepts, with lines after them."""
+    try:
+        for way, is_ready in zip(ways, scratch.ready([[*way.lines, *last] for way in ways])):
+            way.is_ready = is_ready
+    except Untried:
+        pass
+    ways[:] = [way for way in ways if way.is_ready]
+
+
+def choose(diagnosis: Diagnosis, step: Apply, seeker: Seeker, scratch: Scratch) -> None:
+    """Other arguments for a theorem, or the nearest objects for its blanks."""
+    used = scratch.book.known_before(scratch.theorem).theorems[step.title]
+    judge = Supplier(Reach.of(seeker.situation.context), Page(), seeker.clock).is_allowed
+    chooser = Chooser(step, used, seeker.reach, judge, seeker.clock)
+    last = [" ".join(["as", *(name for name, _ in step.new)])] if step.new else []
+    if BLANK not in step.arguments:
+        try:
+            found = list(islice(chooser.reordered(), MOST_WAYS))
+        except OutOfTime:
+            return
+        ways = [Way([" ".join(["apply", step.title, *arguments, *last])]) for arguments in found]
+        keep_ready(ways, scratch, [])
+        diagnosis.ways += ways
+        return
+    choices = chooser.nearest()
+    for number, choice in enumerate(choices):
+        said = f"`{' '.join(choice.arguments)}`"
+        lacks = f"it lacks `{spell(choice.lacks)}`" if choice.lacks else \
+            f"no fact is like given literal {choice.at}, `{spell(used.given[choice.at - 1])}` of the theorem"
+        if number == 0:
+            diagnosis.message += f"; nearest is {said}: {lacks}"
+        diagnosis.sentences.append(f"nearest: {said}: {lacks}")
+        if choice.lacks:
+            line = " ".join(["apply", step.title, *choice.arguments, *last])
+            ways = [Way([*way.lines, line]) for way in seeker.ways(choice.lacks, False) if not way.lacks]
+            keep_ready(ways, scratch, [])
+            diagnosis.ways += ways
 
 
 def parsed(words: str, situation: Situation) -> Literal | None:
@@ -98,8 +166,10 @@ class Seeker:
         if lines is not None and len(lines) <= MOST_LINES:
             found.append(Way(lines))
         if not found:
-            found = [self.near_way(item, each) for each in near(item, self.reach.closure, MOST_WAYS)]
-        return list({tuple(way.lines): way for way in reversed(found)}.values())[::-1]
+            others = {self.reach.code(each) for each in turned(literal)}
+            found = [self.near_way(item, each) for each in near(item, self.reach.closure, MOST_WAYS)
+                     if not others & set(each.lacks)]
+        return list({(*way.lines, way.by): way for way in reversed(found)}.values())[::-1]
 
     def one_line(self, item: Coded) -> list[Way]:
         """Rules of the diagram that give it from facts alone, that of the step first."""
@@ -179,14 +249,18 @@ def explain(diagnosis: Diagnosis, situation: Situation, wanted: Literal | None, 
             if not premise.is_there and not premise.ways[:1]:
                 premise.is_false = premise.is_false or denial.lines(premise.literal) is not None
         return
+    if is_ready:
+        diagnosis.message += f"; {first_words(diagnosis.ways, step)}"
     if wanted is None:
         return
     if isinstance(wanted, Diagram) and step.word == "hence":
         diagnosis.message = diagnosis.message.replace("does not follow by arithmetic or one transfer rule",
                                                       "is not shown: `hence` finds no rules of the diagram")
     if is_ready:
-        diagnosis.message += f"; {first_words(diagnosis.ways)}"
         return
+    near_one = next((way for way in diagnosis.ways if way.by), None)
+    if near_one is not None:
+        diagnosis.message += f"; `{near_one.by.split()[0]}` would give it, but {lacks_words(near_one.lacks)}"
     lines = denial.lines(wanted)
     if lines is not None:
         after = f" after {' and '.join(f'`{line}`' for line in lines)}" if len(lines) < 3 else " after some lines"
@@ -195,9 +269,19 @@ def explain(diagnosis: Diagnosis, situation: Situation, wanted: Literal | None, 
             (after if lines else " from the facts")
 
 
-def first_words(ways: list[Way]) -> str:
+def lacks_words(lacks: list[Literal]) -> str:
+    """What lacks, as a sentence without its beginning."""
+    return f"{' and '.join(f'`{spell(each)}`' for each in lacks)} {'lacks' if len(lacks) == 1 else 'lack'}"
+
+
+def first_words(ways: list[Way], step: Step) -> str:
     """What the first ready way is, for the message."""
     lines = next(way.lines for way in ways if way.is_ready)
+    if isinstance(step, Apply) and lines[-1].split()[:2] == ["apply", step.title]:
+        before = f" after `{lines[0]}`" if len(lines) == 2 else f" after {len(lines) - 1} lines" if len(lines) > 2 else ""
+        words = lines[-1].split()
+        arguments = words[2 : words.index("as") if "as" in words else len(words)]
+        return f"with the arguments `{' '.join(arguments)}` it is licensed{before}"
     if len(lines) == 1:
         return f"`{lines[0]}` gives it"
     return f"{len(lines)} lines before it give it, first `{lines[0]}`"

@@ -8,7 +8,7 @@ from itertools import combinations, islice
 from typing import NamedTuple
 
 from .closure import Closure
-from .codes import SIGN, Clause, Coded, Pattern, SumPattern, clauses, coded
+from .codes import KINDS, SIGN, Clause, Coded, Pattern, SumPattern, clauses, coded, decode
 from .transfers import Bound, Transfer, placed_at, solutions, starts, transfer_rules
 
 MOST_OF_A_RULE = 60  # instances that are looked at, for one choice of what is lacking
@@ -30,12 +30,12 @@ def near(item: Coded, closure: Closure, most: int = 3) -> list[Near]:
     closure.saturate()
     end = time.monotonic() + SECONDS
     found: dict[tuple[int, ...], Near] = {}
-    for count in (1, 2):
+    for count in (1,) if isinstance(item, int) else (1, 2):
         for each in all_near(item, closure, count):
-            found.setdefault(each.lacks, each)
+            found.setdefault(tuple(sorted(each.lacks)), each)
             if time.monotonic() > end:
                 break
-        if len(found) >= most:
+        if found:
             break
     return sorted(found.values(), key=lambda each: (len(each.lacks), not each.is_forward, len(each.objects)))[:most]
 
@@ -73,13 +73,22 @@ def of_transfer(rule: Transfer, start: Pattern | SumPattern, bound: Bound, item:
         rest = rule._replace(patterns=tuple(each for each in others if each not in skipped))
         for objects in islice(solutions(rest, bound, start, closure), MOST_OF_A_RULE):
             lacks = lacking(skipped, objects, closure)
-            if lacks:
+            if lacks and item not in lacks:
                 yield Near(rule.name, tuple(objects), lacks, start in rule.sums, True)
 
 
 def lacking(patterns: tuple[Pattern, ...], objects: list[int], closure: Closure) -> tuple[int, ...]:
     """What lacks, if it is not known and may still be true."""
     codes = tuple(dict.fromkeys(coded(pattern, objects) ^ SIGN for pattern in patterns))
-    if any(closure.knows(code) or closure.knows(code ^ SIGN) for code in codes):
+    if any(closure.knows(code) or closure.knows(code ^ SIGN) or is_plain(code) for code in codes):
         return ()
     return codes
+
+
+def is_plain(code: int) -> bool:
+    """Whether nobody would mean a literal: that two objects are one, or something of one object twice."""
+    kind, positive, objects = decode(code)
+    word, sorts = KINDS[kind]
+    return (word == "=" and positive) or any(
+        one == other and sort == sorts[at] for at, one in enumerate(objects)
+        for other, sort in zip(objects[:at], sorts[:at]))

@@ -7,6 +7,7 @@ import sys
 
 from .checking import Verdict
 from .diagnose import Diagnoser, Filling, Report
+from .filling.sketches import sketch_messages
 from .library import Library, Place
 from .messages import ACCEPTED, FAILED, FAULTY, REFUSED, Message, WrongUse, put_json, tell
 from .twice import Differ, verified_twice
@@ -34,11 +35,14 @@ def check_once(args: argparse.Namespace, library: Library, diagnoser: Diagnoser 
 def tell_report(args: argparse.Namespace, report: Report, failed: str) -> None:
     """The refusals, the notes, and the count."""
     notes = [each for each in report.fillings if report.library.is_own(each.step.line.number)]
+    sketches = sketch_messages(report.library)
     if args.json:
         for diagnosis in report.diagnoses:
             put_json(diagnosis.data(report.library))
         for filling in notes:
             put_json(filling_data(filling, report.library))
+        for message in sketches:
+            put_json(message.data())
         for item, outcome in zip(report.book.items, report.outcomes.items):
             if outcome.verdict == Verdict.RESTS:
                 put_json({"kind": "rests", **place_data(report.library.place(item.first)), "title": item.title,
@@ -51,6 +55,8 @@ def tell_report(args: argparse.Namespace, report: Report, failed: str) -> None:
     for filling in notes:
         if filling.is_degenerate and not args.quiet:
             tell(filling_note(filling, report.library))
+    for message in sketches:
+        tell(message)
     print(count_words(report) + (", verified twice" if args.twice and not failed else ""))
 
 

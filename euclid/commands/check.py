@@ -51,8 +51,8 @@ def is_accepted(args: argparse.Namespace, library: Library) -> bool:
     if args.only or args.twice:
         return False
     text = library.text()
-    if " _" in text:  # what filled a blank may be worth a note
-        return False
+    if " _" in text or any(path.with_suffix(".sketch").is_file() for path in library.own):
+        return False  # what filled a blank may be worth a note, and a sketch may have parted from its book
     answer = check(text)
     if not answer.is_accepted():
         return False

@@ -262,7 +262,13 @@ class Supplier:
 
             if magnitudes.follows(item, facts, apart):
                 needed = fewer
-        return [encode(POINTS_EQUAL, False, pair) for pair in needed]
+        both = [[encode(POINTS_EQUAL, False, each) for each in (pair, pair[::-1])] for pair in needed]
+        self.closure.shorten(code for pair in both for code in pair if self.closure.knows(code))
+        return [min(pair, key=self.cost) for pair in both]
+
+    def cost(self, code: int) -> int:
+        """About how many lines it takes until a literal is a fact."""
+        return self.closure.lines_of([code]) if self.closure.knows(code) else MOST_INSTANCES
 
     def contradiction(self) -> bool:
         """Makes the facts contradict each other."""
