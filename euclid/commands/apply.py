@@ -91,6 +91,7 @@ def search(here: Opened, theorem: Theorem, situation: Situation, args: argparse.
             return confirmed(finder, scratch, some_of_each(uses, most), [], "", args.all)
         wanted = literal_of(args.wanted, situation)
         uses = [use for use in finder.showing(wanted) if not args.of or use.title in args.of]
+        uses = some_of_each(uses, 0 if args.all else MOST_READY)
     except OutOfTime:
         return Found(is_whole=False)
     longer = longer_ways(theorem, situation, args, here, wanted, {use.line for use in uses})
