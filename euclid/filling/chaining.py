@@ -10,7 +10,8 @@ from __future__ import annotations
 from collections.abc import Callable, Collection, Iterator
 
 from .. import magnitudes
-from ..codes import Comparison, Quantity
+from ..codes import KIND, SEG, Comparison, Quantity, quantity
+from ..literals import CIRCLE, POINT
 from ..magnitudes import System, Tester
 from ..reach import Reach
 from ..transfers import FURTHER, Instance, into_diagrams, touching
@@ -20,6 +21,7 @@ OBVIOUS = ("ds1", "ds3b", "da2a", "dr2a", "da3a", "da3b")
 LESS_OBVIOUS = (*OBVIOUS, "ds3a", "ds4a", "ds4b", "da1a", "da1b", "da1c", "da4", "da5a", "dr1a", "dr1b")
 EQUAL_POINTS = (*LESS_OBVIOUS, "ms1", "ms2", "ms3", "ma1", "ma2", "mr1", "mr2")
 MOST_CANDIDATES, ROUNDS = 300, 2
+ON_CIRCLE, INSIDE, CENTER = (2 * KIND[word, (POINT, CIRCLE)] for word in ("on", "inside", "center"))
 Best = dict[tuple[Comparison, tuple[Comparison, ...]], Instance]
 
 
@@ -71,7 +73,7 @@ class Chainer:
         closure = self.reach.closure
         facts = magnitudes.related(wanted, self.reach.metric)
         parts = {part for fact in facts for part in fact.quantities()}
-        parts |= set(wanted.quantities()) if wanted else set()
+        parts |= set(wanted.quantities()) if wanted else self.radii()
         best: Best = {}
         done: set[Quantity] = set()
         for _ in range(ROUNDS):
@@ -84,6 +86,15 @@ class Chainer:
                 break
         return sorted(best.values(), key=lambda made: closure.lines_of(made.diagram))
 
+    def radii(self) -> set[Quantity]:
+        """The segments from known centers to points on or inside of their circles."""
+        closure, found = self.reach.closure, set()
+        for circle in range(len(self.reach.scope.names[CIRCLE])):
+            points = closure.beside(ON_CIRCLE, 0, [circle]) | closure.beside(INSIDE, 0, [circle])
+            centers = closure.beside(CENTER, 0, [circle])
+            found |= {quantity(SEG, (a, b)) for a in members(centers) for b in members(points) if a != b}
+        return found
+
     def keep_cheaper(self, best: Best, made: Instance) -> None:
         """Keeps of the instances with one literal and the same metric premises the one whose
         diagram takes the fewest lines."""
@@ -93,6 +104,13 @@ class Chainer:
         lines_of = self.reach.closure.lines_of
         if key not in best or lines_of(made.diagram) < lines_of(best[key].diagram):
             best[key] = made
+
+
+def members(objects: int) -> Iterator[int]:
+    """The numbers of a set."""
+    while objects:
+        yield (objects & -objects).bit_length() - 1
+        objects &= objects - 1
 
 
 def given(made: Instance) -> Comparison:
