@@ -240,7 +240,7 @@ def premises_at(situation: Situation, needs: list[Literal]) -> list[Premise]:
         premise = Premise(literal, fact.origin if fact else None)
         if fact is None:
             premise.turned = turned_fact(situation, literal)
-            premise.is_false = situation.context.has(negation(literal))
+            premise.denied = "is a fact" if situation.context.has(negation(literal)) else ""
         found.append(premise)
     return found
 

@@ -44,7 +44,7 @@ class Premise:
     literal: Literal
     origin: Origin | None = None
     turned: Literal | None = None  # a fact that says the same the other way round
-    is_false: bool = False  # its negation is a fact, or follows
+    denied: str = ""  # where it is false: whether its negation is a fact or follows
     follows: bool = False  # no fact, but allowed where no fact is asked for
     ways: list[Way] = field(default_factory=list)
 
@@ -93,7 +93,7 @@ class Diagnosis:
         line = line_of(library, self.number)
         if line.strip():
             found += marked(line, self.start, self.end)[: 1 if self.step else 2]
-        found += [text for way in self.ways if way.is_ready for text in way.text()]
+        found += [text for way in self.ways if way.is_ready and way.lines[-1:] != [line.strip()] for text in way.text()]
         found += [self.reason] if self.reason else []
         for premise in self.premises:
             found += premise_lines(premise, library)
@@ -155,8 +155,8 @@ def premise_lines(premise: Premise, library: Library) -> list[str]:
     if premise.follows:
         return [f"follows  {said}"]
     more = ""
-    if premise.is_false:
-        more = "false: its negation is known"
+    if premise.denied:
+        more = f"false: its negation {premise.denied}"
     elif premise.turned is not None:
         more = f"there is `{spell(premise.turned)}`"
     return [f"missing  {said:34} {more}".rstrip(),
@@ -165,7 +165,7 @@ def premise_lines(premise: Premise, library: Library) -> list[str]:
 
 def premise_data(premise: Premise, library: Library) -> dict[str, object]:
     """A premise as an object of JSON."""
-    data: dict[str, object] = {"literal": spell(premise.literal), "there": premise.is_there, "false": premise.is_false,
+    data: dict[str, object] = {"literal": spell(premise.literal), "there": premise.is_there, "false": bool(premise.denied),
                                "turned": spell(premise.turned) if premise.turned else None,
                                "ways": [way.data() for way in premise.ways], "origin": None}
     if premise.origin is not None:

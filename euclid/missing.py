@@ -247,7 +247,7 @@ def explain(diagnosis: Diagnosis, situation: Situation, wanted: Literal | None, 
             diagnosis.message += "; " + instead(step, first.lines[0])
         for premise in diagnosis.premises:
             if not premise.is_there and not premise.ways[:1]:
-                premise.is_false = premise.is_false or denial.lines(premise.literal) is not None
+                premise.denied = premise.denied or ("follows" if denial.lines(premise.literal) is not None else "")
         return
     if is_ready:
         diagnosis.message += f"; {first_words(diagnosis.ways, step)}"
