@@ -29,6 +29,7 @@ NODES, SHARE, WORK = 700, 3000, 400_000  # for one join, for one theorem, for al
 MOST_OF_THEOREM = 40  # uses of one theorem
 NEAR_NODES = 400
 MOST_NEAR_OF_THEOREM = 6
+MOST_UNKNOWN = 3  # of the given literals, where nothing lacks less than two
 
 
 @dataclass(frozen=True)
@@ -95,7 +96,8 @@ class Finder:
                         found.setdefault(use.line, use)
             except (OutOfTime, TooMuch):
                 self.is_whole = False
-        return sorted((use for use in found.values() if use.new), key=Use.key)
+        uses = sorted((use for use in found.values() if use.new), key=Use.key)
+        return [use for use in uses if len(use.unknown) <= 1] or [use for use in uses if len(use.unknown) <= MOST_UNKNOWN]
 
     def begin(self) -> None:
         """Begins a search."""

@@ -90,11 +90,11 @@ def search(here: Opened, theorem: Theorem, situation: Situation, args: argparse.
             most = 0 if args.all else OF_EACH if not args.of else MOST_READY
             return confirmed(finder, scratch, some_of_each(uses, most), [], "", args.all)
         wanted = literal_of(args.wanted, situation)
-        uses = [use for use in finder.showing(wanted) if not args.of or use.title in args.of]
-        uses = some_of_each(uses, 0 if args.all else MOST_READY)
+        showing = [use for use in finder.showing(wanted) if not args.of or use.title in args.of]
+        uses = some_of_each(showing, 0 if args.all else MOST_READY)
     except OutOfTime:
         return Found(is_whole=False)
-    longer = longer_ways(theorem, situation, args, here, wanted, {use.line for use in uses})
+    longer = longer_ways(theorem, situation, args, here, wanted, {use.line for use in showing})
     return confirmed(finder, scratch, uses, longer, spell(wanted), args.all)
 
 
