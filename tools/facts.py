@@ -370,6 +370,50 @@ def check_book_one(top):
         yield page, 1, f"Book I has {count}"
 
 
+# ---- README
+
+
+def answer_to(top, book):
+    """What the program of release/ writes of a book."""
+    with open(top / book, "rb") as source:
+        return subprocess.run([top / "release/elements", "check"], stdin=source, capture_output=True).stdout.decode()
+
+
+def check_readme(top):
+    page = top / "README.md"
+    text = read(page)
+    lines = text.count("\n")
+    if lines > MOST_README_LINES:
+        yield page, MOST_README_LINES + 1, f"{lines} lines: {MOST_README_LINES} are the most"
+    wrong = "examples/refused/magnitudes-without-the-greater-length.book"
+    sources = [read(top / "examples/I.1.book"), answer_to(top, "examples/I.1.book"), answer_to(top, wrong)]
+    for block in re.findall(r"(?:^ {4}.*\n)+", text, re.M):
+        shown = "".join(line[4:] for line in block.splitlines(True) if not line.startswith("    #"))
+        if re.match(r"theorem|\||unlicensed", shown) and not any(shown in source for source in sources):
+            yield page, line_of(text, block), "neither in examples/I.1.book nor in what the program answers"
+    verifier = read(top / "tools/verify.py").count("\n")
+    if f"{verifier} lines of [Python](tools/verify.py)" not in re.sub(r"\s+", " ", text):
+        yield page, line_of(text, "lines of [Python]"), f"tools/verify.py has {verifier} lines"
+
+
+# ---- versions
+
+
+def check_versions(top):
+    page = top / "CHANGELOG.md"
+    version, date = re.search(r"^## ([0-9.]+), ([0-9-]+)$", read(page), re.M).groups()
+    page = top / "CITATION.cff"
+    for line in (f"version: {version}", f"date-released: {date}"):
+        if line not in read(page).split("\n"):
+            yield page, 1, f"the newest version of CHANGELOG.md has {line}"
+    page = top / "release/SHA256SUMS"
+    released = re.match(r"# elements (.*)", read(page)).group(1)
+    if released not in (version, "unreleased"):
+        yield page, 1, f"the newest version of CHANGELOG.md is {version}"
+    if released == "unreleased" and "\n## Unreleased\n" not in read(top / "CHANGELOG.md"):
+        yield top / "CHANGELOG.md", 1, "the program of release/ is unreleased: say what changed under Unreleased"
+
+
 # ---- files that are named without their suffix
 
 
