@@ -6,7 +6,6 @@ import argparse
 import sys
 from pathlib import Path
 
-from ..answers import check
 from ..drawing.attempt import Scene
 from ..drawing.course import Source, name_of
 from ..drawing.describe import description
@@ -14,10 +13,10 @@ from ..drawing.figure import Figure, State, steps_shown
 from ..drawing.search import chapters, find_any
 from ..drawing.sources import Sources
 from ..drawing.svg import svg
-from ..library import load
 from ..literals import names_in, renamed, spell
 from ..messages import ACCEPTED, WrongUse
 from ..script import Theorem
+from ..targets import add_paths, opened
 
 HELP = """Draws a theorem: what is given, and what the proof draws.
 
@@ -31,23 +30,19 @@ example: euclid draw I.47 --step 12 -o step-12.svg library/book-1
 def arguments(parser: argparse.ArgumentParser) -> None:
     """The words of the command."""
     parser.add_argument("title", metavar="TITLE", help="the theorem")
-    parser.add_argument("paths", nargs="+", type=Path, metavar="BOOK|LIBRARY")
     parser.add_argument("--step", type=int, metavar="K", help="the figure at this step, in colour what it adds and "
                         "what it follows from; 0 is what is given")
     parser.add_argument("--hide", action="append", default=[], metavar="NAME", help="leave out this object; may come "
                         "more than once")
     parser.add_argument("-o", dest="output", type=Path, metavar="FILE", help="write to this file")
+    add_paths(parser)
 
 
 def run(args: argparse.Namespace) -> int:
     """Draws one figure."""
-    library = load(args.paths)
-    book = library.book()
-    theorem = book.theorem(args.title)
-    if theorem is None:
-        raise WrongUse(f"no theorem has the title `{args.title}`")
-    sources = Sources(book, check(library.text()))
-    source = sources.source(theorem)
+    here = opened(args.paths)
+    theorem = here.theorem(args.title)
+    source = Sources(here.book).source(theorem)
     if args.step is not None:
         check_step(theorem, source, args.step)
     scene = scene_with(source, args.step)

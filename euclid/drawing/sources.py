@@ -2,43 +2,48 @@
 
 from __future__ import annotations
 
-from ..answers import Answer
+from ..checking import Checker, Outcome, Verdict
 from ..contexts import Filled
-from ..derivation import Arithmetic, Certificate, Clash, Derivation, Fact, Proved, Reason, Transfer, Unread, proved, read_derivation
+from ..derivation import Arithmetic, Certificate, Clash, Fact, Part, Proved, Reason, Unread, proved
 from ..literals import Literal, negation
 from ..script import Book, Theorem
+from ..statements import Known
 from .course import Source
+
+NEWEST = 2  # the version of derivation texts that has the others' spellings too
 
 
 class Sources:
-    """The theorems of a book as `elements` answered it: those that it accepted with their reasons, the one that it
+    """The theorems of a book as `elements` answered it: those that it accepted with their reasons, one that it
     refused up to the step."""
 
-    def __init__(self, book: Book, answer: Answer) -> None:
-        self.book, self.answer = book, answer
-        self.derivation = Derivation()
-        try:
-            self.derivation = read_derivation(answer.derivation)
-        except Unread:
-            pass  # a fault comes before all else
+    def __init__(self, book: Book) -> None:
+        self.book = book
+        outcomes = Checker().check(book).items
+        self.outcomes = {item.title: outcome for item, outcome in zip(book.items, outcomes)
+                         if isinstance(item, Theorem)}
 
     def source(self, theorem: Theorem) -> Source:
         """A theorem, with what is known of it."""
-        known = self.book.known_before(theorem)
-        filled, reasons, last = self.found(theorem)
-        return Source(theorem, known, filled, reasons, last)
+        return source_of(theorem, self.book.known_before(theorem), self.outcomes.get(theorem.title))
 
-    def found(self, theorem: Theorem) -> tuple[Filled, dict[int, list[Literal]], int]:
-        """The blanks of a theorem filled, its reasons, and the step at which it is refused."""
-        part = self.derivation.parts.get(theorem.title)
-        if part is None:
-            refused = self.answer.title == theorem.title and self.answer.kind in ("unlicensed", "too-wide")
-            return {}, {}, self.answer.step if refused else 0
-        try:
-            proof = proved(part, theorem, self.book.known_before(theorem), self.derivation.version)
-        except Unread:
-            return part.filled(), {}, 0
-        return proof.filled, premises(proof), 0
+
+def source_of(theorem: Theorem, known: Known, outcome: Outcome | None) -> Source:
+    """A theorem with its blanks filled, its reasons, and the step at which it is refused."""
+    if outcome is None:
+        return Source(theorem, known)
+    refused = outcome.answer.step if outcome.verdict == Verdict.REFUSED and outcome.answer else 0
+    filled, reasons = found_in(outcome.part, theorem, known) if outcome.part else ({}, {})
+    return Source(theorem, known, filled, reasons, refused)
+
+
+def found_in(part: Part, theorem: Theorem, known: Known) -> tuple[Filled, dict[int, list[Literal]]]:
+    """What a block of a derivation text says of the blanks and the reasons of a theorem."""
+    try:
+        proof = proved(part, theorem, known, NEWEST)
+    except Unread:
+        return part.filled(), {}
+    return proof.filled, premises(proof)
 
 
 def premises(proof: Proved) -> dict[int, list[Literal]]:
@@ -60,5 +65,4 @@ def facts_below(certificate: Certificate) -> list[Literal]:
         return certificate.facts()
     if isinstance(certificate, Clash):
         return [certificate.literal, negation(certificate.literal)]
-    assert isinstance(certificate, Transfer)
     return [fact for part in certificate.parts for fact in facts_below(part.certificate)]

@@ -10,7 +10,6 @@ import unittest
 import xml.dom.minidom
 from pathlib import Path
 
-from euclid.answers import check
 from euclid.drawing.course import Source
 from euclid.drawing.figure import Figure
 from euclid.drawing.layout import Layout
@@ -40,8 +39,7 @@ end
 
 def sources(paths: list[Path]) -> Sources:
     """The theorems of a library."""
-    library = load(paths)
-    return Sources(library.book(), check(library.text()))
+    return Sources(load(paths).book())
 
 
 ALL = sources([LIBRARY])
