@@ -7,7 +7,8 @@ import sys
 import time
 from pathlib import Path
 
-from ..messages import ACCEPTED, REFUSED, WrongUse
+from ..checking import Verdict
+from ..messages import ACCEPTED, FAULTY, REFUSED, WrongUse
 from ..pages.figures import Keeper, kept_folder
 from ..pages.model import site_of
 from ..pages.site import make
@@ -41,4 +42,7 @@ def run(args: argparse.Namespace) -> int:
     accepted = sum(entry.is_accepted for entry in site.order())
     print(f"{args.output}: {made.files} files, {made.bytes:,} bytes; {accepted} of {len(site.entries)} theorems accepted; "
           f"{made.figures} figures, in {made.holding} of them all facts hold; {time.monotonic() - begun:.1f} s", file=sys.stderr)
+    outcomes = site.report.outcomes
+    if outcomes.strays or any(each.verdict == Verdict.FAULTY for each in outcomes.items):
+        return FAULTY
     return ACCEPTED if accepted == len(site.entries) else REFUSED

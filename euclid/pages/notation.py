@@ -26,15 +26,16 @@ MOST_LIKE = 3  # points on one line that are said together
 
 # What a construction draws, by its number in docs/rules.md; letters are those of its pattern.
 DRAWN = {
-    1: "a point {p}", 2: "{p} on {L}", 3: "{p} on {L} between {b} and {c}", 4: "{p} on {L} beyond {c} from {b}",
-    5: "{p} on the side of {L} where {b} is", 6: "{p} on the side of {L} where {b} is not", 7: "{p} on {A}",
-    8: "{p} inside {A}", 9: "{p} outside {A}", 10: "{L}, the line through {a} and {b}",
-    11: "{A}, the circle about {a} through {b}", 12: "{p}, where {L} and {M} cross",
-    13: "{p}, where {L} crosses {A}", 14: "{p} and {q}, where {L} crosses {A}",
-    15: "{p}, where {L} crosses {A} between {b} and {c}", 16: "{p}, where {L} crosses {A} beyond {b} from {c}",
-    17: "{p}, where {A} and {B} cross", 18: "{p} and {q}, where {A} and {B} cross",
-    19: "{p}, where {A} and {B} cross on the side of {L} where {b} is",
-    20: "{p}, where {A} and {B} cross on the side of {L} where {b} is not",
+    1: "{p} be a point", 2: "{p} be a point on {L}", 3: "{p} be a point on {L} between {b} and {c}",
+    4: "{p} be a point on {L} beyond {c} from {b}", 5: "{p} be a point on the side of {L} where {b} is",
+    6: "{p} be a point on the side of {L} where {b} is not", 7: "{p} be a point on {A}", 8: "{p} be a point inside {A}",
+    9: "{p} be a point outside {A}", 10: "{L} be the line through {a} and {b}",
+    11: "{A} be the circle about {a} through {b}", 12: "{p} be where {L} and {M} cross",
+    13: "{p} be a point where {L} crosses {A}", 14: "{p} and {q} be where {L} crosses {A}",
+    15: "{p} be where {L} crosses {A} between {b} and {c}", 16: "{p} be where {L} crosses {A} beyond {b} from {c}",
+    17: "{p} be a point where {A} and {B} cross", 18: "{p} and {q} be where {A} and {B} cross",
+    19: "{p} be where {A} and {B} cross on the side of {L} where {b} is",
+    20: "{p} be where {A} and {B} cross on the side of {L} where {b} is not",
 }
 
 
@@ -102,14 +103,19 @@ def is_on(literal: Literal) -> bool:
 
 def sentences(notation: Notation, literals: Sequence[Literal], sorts: Mapping[str, Sort]) -> list[str]:
     """Literals as a list of short sentences."""
-    found = []
+    return [said for said, _ in grouped(notation, literals, sorts)]
+
+
+def grouped(notation: Notation, literals: Sequence[Literal], sorts: Mapping[str, Sort]) -> list[tuple[str, Sequence[Literal]]]:
+    """Short sentences, each with the literals that it says."""
+    found: list[tuple[str, Sequence[Literal]]] = []
     for group in gathered(literals):
         if len(group) == 1:
-            found.append(notation.literal(group[0], sorts))
+            found.append((notation.literal(group[0], sorts), group))
             continue
         points = [notation.name(each.objects[0], POINT) for each in group if isinstance(each, Diagram)]
         first = group[0]
         assert isinstance(first, Diagram)
         curve = notation.name(first.objects[1], sorts.get(first.objects[1], LINE))
-        found.append(f"{', '.join(points[:-1])} and {points[-1]} are on {curve}")
+        found.append((f"{', '.join(points[:-1])} and {points[-1]} are on {curve}", group))
     return found

@@ -6,14 +6,14 @@ from collections.abc import Mapping
 
 from ..contexts import Origin
 from ..derivation import Arithmetic, Certificate, Fact, Transfer
-from ..literals import Literal, Sort, negation
+from ..literals import Literal, Sort, key, negation
 from ..script import Apply, By, Cases, Claim, Contradiction, Hence, Let, Qed, Superpose
 from .certificates import Certificates
-from .figures import Drawn
 from .markup import esc, link
 from .model import Entry, Site
-from .notation import Notation, sentences
-from .rows import Premise, Proof, Row
+from .notation import Notation, grouped, sentences
+from .rows import Premise, Proof, Row, start_sorts
+from .rule_pages import shape_words
 from .shell import construction_file, rule_link, theorem_link
 
 ROOT = "../"
@@ -24,10 +24,11 @@ MOST_SAID = 6  # literals of one step that are said in its cell
 class ProofTable:
     """The table of one proof."""
 
-    def __init__(self, site: Site, entry: Entry, proof: Proof, notation: Notation, folded: frozenset[int],
-                 figures: Drawn) -> None:
-        self.site, self.entry, self.proof, self.notation = site, entry, proof, notation
-        self.folded, self.figures = folded, figures
+    def __init__(self, site: Site, entry: Entry, proof: Proof, notation: Notation, folded: frozenset[int]) -> None:
+        self.site, self.entry, self.proof, self.notation, self.folded = site, entry, proof, notation, folded
+        sorts = start_sorts(entry.theorem)
+        groups = grouped(notation, entry.theorem.statement.given, sorts)
+        self.given = {key(literal): f"g{number}" for number, (_, group) in enumerate(groups, 1) for literal in group}
 
     def text(self) -> str:
         """The section."""
@@ -96,7 +97,7 @@ class ProofTable:
         if isinstance(step, Let):
             drawn = self.notation.drawn(step.construction, step.letters, sorts)
             avoided = ", ".join(self.notation.name(name, sort) for name, sort in step.avoided)
-            return esc(f"Let there be {drawn}" + (f", off {avoided}" if avoided else ""))
+            return esc(f"Let {drawn}" + (f", off {avoided}" if avoided else ""))
         if isinstance(step, Apply):
             return self.applied(step, row)
         if isinstance(step, Claim):
@@ -112,7 +113,7 @@ class ProofTable:
     def applied(self, step: Apply, row: Row) -> str:
         """What a theorem gives."""
         new = ", ".join(self.notation.name(name, sort) for name, sort in step.new)
-        front = f"Let there be {esc(new)}: " if new else ""
+        front = f"Let {esc(new)} be drawn: " if new else ""
         return front + (self.all_said(row.gives, row.sorts) or "what it shows")
 
     def superposed(self, step: Superpose, sorts: Mapping[str, Sort]) -> str:
@@ -131,9 +132,8 @@ class ProofTable:
             return f"{rule_link(self.site, step.rule, ROOT)} <small>{esc(' '.join(step.names))}</small>"
         if isinstance(step, Let):
             shape = step.construction
-            words = " ".join(word for word in shape.pattern if len(word) > 1)
-            return link(f"{ROOT}rule/{construction_file(shape.number)}", esc(f"construction {shape.number}"),
-                        title=f"{words}: {shape.words}") + self.details(row)
+            return link(f"{ROOT}rule/{construction_file(shape.number)}", esc(f"construction {shape.number}, {shape_words(shape)}"),
+                        title=shape.words) + self.details(row)
         if isinstance(step, Apply):
             arguments = self.proof.filled.get(step.number, step.arguments)
             return f"{theorem_link(self.site, step.title, ROOT)} <small>{esc(' '.join(arguments))}</small>{self.details(row)}"
@@ -169,7 +169,7 @@ class ProofTable:
 
         def named(literal: Literal) -> str:
             origin = origins.get(literal)
-            return esc(self.said(literal, row.sorts)) + (f" ({self.origin_link(origin)})" if origin else "")
+            return esc(self.said(literal, row.sorts)) + (f" ({self.origin_link(origin, literal)})" if origin else "")
 
         certificates = Certificates(self.notation, row.sorts, named, f"{ROOT}rule/")
         texts = "".join(certificates.reason(reason) for reason in reasons)
@@ -181,17 +181,17 @@ class ProofTable:
         """Links to the steps that a step follows from."""
         found: dict[str, list[Premise]] = {}
         for premise in row.premises:
-            found.setdefault(self.target(premise.origin), []).append(premise)
+            found.setdefault(self.target(premise.origin, premise.literal), []).append(premise)
         links = []
         for target, premises in found.items():
             title = "; ".join(self.said(premise.literal, row.sorts) for premise in premises)
             links.append(link(target, esc(self.origin_word(premises[0].origin)), title=title))
         return " ".join(links)
 
-    def target(self, origin: Origin) -> str:
+    def target(self, origin: Origin, literal: Literal) -> str:
         """Where a fact comes from."""
         if origin.kind in ("given", "declared"):
-            return "#given"
+            return f"#{self.given.get(key(literal), 'given')}"
         return f"#e{origin.step}" if origin.kind == "else" else f"#s{origin.step}"
 
     def origin_word(self, origin: Origin) -> str:
@@ -199,6 +199,6 @@ class ProofTable:
         return "given" if origin.kind in ("given", "declared") else \
             f"else {origin.step}" if origin.kind == "else" else str(origin.step)
 
-    def origin_link(self, origin: Origin) -> str:
+    def origin_link(self, origin: Origin, literal: Literal) -> str:
         """A link to where a fact comes from."""
-        return link(self.target(origin), esc(self.origin_word(origin)))
+        return link(self.target(origin, literal), esc(self.origin_word(origin)))

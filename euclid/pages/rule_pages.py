@@ -2,6 +2,7 @@
 
 from __future__ import annotations
 
+import re
 from collections.abc import Mapping, Sequence
 from dataclasses import dataclass
 
@@ -74,8 +75,13 @@ def of_rule(rule: Rule) -> Law:
 
 def of_construction(shape: Construction) -> Law:
     """A construction."""
-    return Law(f"construction-{shape.number}", construction_file(shape.number), f"Construction {shape.number}: {shape.shape}",
+    return Law(f"construction-{shape.number}", construction_file(shape.number), f"Construction {shape.number}: {shape_words(shape)}",
                shape.words, "construction", shape.line, shape.needs, shape.gives, shape.arguments, shape.new)
+
+
+def shape_words(shape: Construction) -> str:
+    """The name of a construction in words."""
+    return re.sub(r"(?<=[a-z])(?=[A-Z])", " ", shape.shape).lower()
 
 
 # ---- figures
@@ -144,7 +150,7 @@ def clause(law: Law) -> str:
     if law.kind == "construction":
         number = int(law.name.split("-")[1])
         names = {letter: LETTER.name(letter, sort) for letter, sort in law.sorts.items()}
-        front = f"<p>Let there be {esc(DRAWN[number].format(**names))}.</p>"
+        front = f"<p>Let {esc(DRAWN[number].format(**names))}.</p>"
         needs = f"<p>It needs</p><ul>{items(map(esc, given))}</ul>" if given else "<p>It needs nothing.</p>"
         gives = f"<p>It gives</p><ul>{items(map(esc, then))}</ul>" if then else "<p>It gives no fact.</p>"
         return front + needs + gives

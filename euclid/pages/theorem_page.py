@@ -10,7 +10,7 @@ from ..script import Theorem
 from .figures import Drawn
 from .markup import esc, items, link
 from .model import Entry, Site, where
-from .notation import Notation, sentences
+from .notation import Notation, grouped, sentences
 from .proof_table import ProofTable
 from .rows import Proof, proof_of, start_sorts
 from .shell import page, rule_link, theorem_link, theorem_links
@@ -89,7 +89,9 @@ class TheoremPage:
         if declared:
             parts.append(f"<dt>Let there be</dt><dd>{declared}</dd>")
         if statement.given:
-            parts.append(f"<dt>Given</dt><dd>{self.list_of(sentences(self.notation, statement.given, self.sorts))}</dd>")
+            said = grouped(self.notation, statement.given, self.sorts)
+            given = "".join(f'<li id="g{number}">{esc(text)}</li>' for number, (text, _) in enumerate(said, 1))
+            parts.append(f'<dt id="given">Given</dt><dd><ul>{given}</ul></dd>')
         if statement.made:
             parts.append(f"<dt>There can be drawn</dt><dd>{self.declared(statement.made)}</dd>")
         word = "such that" if statement.made else "Then"
@@ -97,7 +99,7 @@ class TheoremPage:
         formal = "\n".join(line.text.strip() for line in self.theorem.lines
                            if line.number >= self.theorem.first and not line.is_comment() and line.text.strip()
                            and (self.theorem.proof_line is None or line.number < self.theorem.proof_line.number))
-        return (f'<section id="statement" tabindex="-1"><h2>What it says</h2><div id="given"><dl>{"".join(parts)}</dl></div>'
+        return (f'<section id="statement" tabindex="-1"><h2>What it says</h2><dl>{"".join(parts)}</dl>'
                 f'<details class="formal"><summary>As the book has it</summary><pre>{esc(formal)}</pre></details></section>')
 
     def list_of(self, said: list[str]) -> str:
@@ -156,7 +158,7 @@ class TheoremPage:
 
     def steps(self) -> str:
         """The proof as a table."""
-        table = ProofTable(self.site, self.entry, self.proof, self.notation, self.folded, self.figures)
+        table = ProofTable(self.site, self.entry, self.proof, self.notation, self.folded)
         return table.text()
 
     # What it rests on
