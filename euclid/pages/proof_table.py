@@ -180,13 +180,17 @@ class ProofTable:
     def premises(self, row: Row) -> str:
         """Links to the steps that a step follows from."""
         found: dict[str, list[Premise]] = {}
-        for premise in row.premises:
-            found.setdefault(self.target(premise.origin, premise.literal), []).append(premise)
-        links = []
-        for target, premises in found.items():
-            title = "; ".join(self.said(premise.literal, row.sorts) for premise in premises)
-            links.append(link(target, esc(self.origin_word(premises[0].origin)), title=title))
-        return " ".join(links)
+        order = sorted(row.premises, key=lambda premise: premise.origin.line)
+        for premise in order:
+            found.setdefault(self.origin_word(premise.origin), []).append(premise)
+        return " ".join(self.premise_link(word, premises, row) for word, premises in found.items())
+
+    def premise_link(self, word: str, premises: list[Premise], row: Row) -> str:
+        """A link to a step, or to what of the given is used."""
+        targets = list(dict.fromkeys(self.target(premise.origin, premise.literal) for premise in premises))
+        title = "; ".join(self.said(premise.literal, row.sorts) for premise in premises)
+        every = " ".join(target[1:] for target in targets) if len(targets) > 1 else ""
+        return link(targets[0], esc(word), title=title, data_all=every)
 
     def target(self, origin: Origin, literal: Literal) -> str:
         """Where a fact comes from."""
