@@ -1,0 +1,39 @@
+"""The figure of a theorem that is being written."""
+
+from __future__ import annotations
+
+from ..answers import check
+from ..drawing.describe import description
+from ..drawing.figure import Figure, steps_shown
+from ..drawing.search import chapters, find_any
+from ..drawing.sources import Sources
+from ..drawing.svg import svg
+from ..library import Library
+from ..reading import read_lines
+from ..script import Theorem
+from .pool import Data
+
+
+def drawn(whole: Library, start: int, line: int) -> Data:
+    """The figure of the theorem at a line, with what the step there adds in colour."""
+    book = whole.book()
+    item = book.item_at_line(line + start)
+    if not isinstance(item, Theorem) or item.first <= start:
+        return {"svg": ""}
+    lines = [each for each in whole.lines() if each.number <= item.last]
+    alone = read_lines(lines)
+    theorem = alone.theorem(item.title)
+    if theorem is None:
+        return {"svg": ""}
+    source = Sources(alone, check("".join(each.text + "\n" for each in lines))).source(theorem)
+    scene = find_any(source)
+    if scene is None:
+        return {"svg": "", "why": "no figure was found in which all that is given holds"}
+    number = max((each.number for each in theorem.steps() if each.line.number <= line + start), default=0)
+    chosen = next((each for each in [scene, *chapters(scene)] if number in steps_shown(each.events)), scene)
+    figure = Figure(chosen, [])
+    shown = steps_shown(figure.events)
+    last = max((step for step in shown if step <= number), default=None)
+    state = figure.whole if last is None else figure.states[shown[last]]
+    title = theorem.title + (f", step {last}" if last else "")
+    return {"svg": svg(figure, state, title, description(source.theorem)), "title": theorem.title, "step": last or 0}
