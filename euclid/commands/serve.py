@@ -8,7 +8,7 @@ from pathlib import Path
 
 from ..messages import WrongUse
 from ..program import program
-from ..rules import TOP
+from ..places import TOP
 from ..serve.pool import Pool
 from ..serve.server import Server, Site
 

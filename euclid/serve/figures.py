@@ -2,7 +2,6 @@
 
 from __future__ import annotations
 
-from ..answers import check
 from ..drawing.describe import description
 from ..drawing.figure import Figure, steps_shown
 from ..drawing.search import chapters, find_any
@@ -20,12 +19,9 @@ def drawn(whole: Library, start: int, line: int) -> Data:
     item = book.item_at_line(line + start)
     if not isinstance(item, Theorem) or item.first <= start:
         return {"svg": ""}
-    lines = [each for each in whole.lines() if each.number <= item.last]
-    alone = read_lines(lines)
-    theorem = alone.theorem(item.title)
-    if theorem is None:
-        return {"svg": ""}
-    source = Sources(alone, check("".join(each.text + "\n" for each in lines))).source(theorem)
+    theorem = item
+    alone = read_lines([each for each in whole.lines() if each.number <= item.last])
+    source = Sources(alone).source(theorem)
     scene = find_any(source)
     if scene is None:
         return {"svg": "", "why": "no figure was found in which all that is given holds"}

@@ -44,16 +44,21 @@ def joined(folder: str, until: str, text: str) -> tuple[Library, int]:
     """
     before, book = library(folder)
     titles = {line.words[1] for line in lines_of(text) if line.words[:1] in (("theorem",), ("define",)) and len(line.words) > 1}
-    end = sum(len(file.lines) for file in before.files)
+    end = sum(file.count for file in before.files)
     for item in book.items:
         if item.title in titles:
             end = min(end, item.lines[0].number - 1)
     if until and (last := next((item for item in book.items if item.title == until), None)) is not None:
         end = min(end, last.last)
-    files = [SourceFile(file.path, file.text, file.lines[: max(end - file.start + 1, 0)], file.start)
-             for file in before.files if file.start <= end]
-    own = SourceFile(TEXT, text, lines_of(text), end + 1)
-    return Library([*files, own], {TEXT}), end
+    files = [cut(file, end - file.start + 1) for file in before.files if file.start <= end]
+    return Library([*files, SourceFile(TEXT, text, end + 1)], {TEXT}), end
+
+
+def cut(file: SourceFile, count: int) -> SourceFile:
+    """The first lines of a file."""
+    if count >= file.count:
+        return file
+    return SourceFile(file.path, "".join(line.text + "\n" for line in file.lines[:count]), file.start)
 
 
 def check(job: Data) -> Data:
@@ -193,8 +198,8 @@ def check_filled(job: Data, folder: str, until: str, text: str) -> Data:
     answer["filled"] = [{"line": number, "lines": lines} for number, lines in under.items()]
     answer["text"] = "".join(line + "\n" for line in found)
     answer["steps"] = [dict(each, line=own_lines[each["line"] - 1], put=is_put[each["line"] - 1]) for each in steps(report, start)]
-    line = int(job.get("line", 0))
-    answer["facts"] = facts(report, start, own_lines.index(line) + 1 if line in own_lines else 0)
+    cursor = int(job.get("line", 0))
+    answer["facts"] = facts(report, start, own_lines.index(cursor) + 1 if cursor in own_lines else 0)
     answer["lesson"] = lesson(job, report)
     return answer
 

@@ -13,7 +13,7 @@ from ..diagnose import Report
 from ..library import Faulty, shown
 from ..literals import key
 from ..reading import read_book
-from ..rules import TOP
+from ..places import TOP
 from ..script import Theorem
 from ..statements import Known, Statement
 from .pool import Data

@@ -15,6 +15,7 @@ from http.server import BaseHTTPRequestHandler, ThreadingHTTPServer
 from pathlib import Path
 from typing import Any
 
+from ..rules import tables
 from . import lessons
 from .pool import Data, Full, Gone, Pool
 
@@ -45,7 +46,7 @@ class Site:
         self.files["/"] = self.files["/index.html"]
         self.folder, self.libraries = folder, libraries
         found = [task.data() for task in lessons.tasks(folder).values()]
-        data = json.dumps({"lessons": found, "libraries": list(libraries)}).encode()
+        data = json.dumps({"lessons": found, "libraries": list(libraries), "rules": rules()}).encode()
         self.files["/course.json"] = (data, "application/json")
 
     def job(self, data: Data) -> Data:
@@ -61,6 +62,12 @@ class Site:
         else:
             job |= {"folder": self.libraries.get(str(data.get("library", "")), ""), "until": str(data.get("until", ""))[:24]}
         return job
+
+
+def rules() -> list[Data]:
+    """The rules that `by` may cite, for completion."""
+    return [{"name": each.name, "words": each.words, "variables": list(each.variables),
+             "sorts": [sort.value for sort in each.sorts]} for each in tables().diagram.values()]
 
 
 class Server(ThreadingHTTPServer):
