@@ -53,10 +53,13 @@ def program() -> Path:
 
 
 def limited(seconds: float, megabytes: int) -> None:
-    """Sets the limits of the process that is about to begin."""
+    """Sets the limits of the process that is about to begin; narrower ones of this process stay."""
     whole = max(1, int(seconds + 0.999))
-    resource.setrlimit(resource.RLIMIT_CPU, (whole, whole + 1))
-    resource.setrlimit(resource.RLIMIT_AS, (megabytes << 20, megabytes << 20))
+    for kind, soft, hard in ((resource.RLIMIT_CPU, whole, whole + 1), (resource.RLIMIT_AS, megabytes << 20, megabytes << 20)):
+        most = resource.getrlimit(kind)[1]
+        if most != resource.RLIM_INFINITY:
+            soft, hard = min(soft, most), min(hard, most)
+        resource.setrlimit(kind, (soft, hard))
 
 
 def run(words: Sequence[str], text: str | bytes, seconds: float = SECONDS, megabytes: int = MEGABYTES) -> Run:

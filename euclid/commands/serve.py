@@ -20,6 +20,7 @@ of any other machine.
 
 example: euclid serve --port 8080
 """
+WARM = "theorem warm\npoints a b\ngiven a != b\nshow b != a\nproof\napply I.10 a b as c\nqed\nend\n"  # what a worker begins with
 LIBRARIES = {"Book I": "library/book-1", "Books I to IV": "library"}
 
 
@@ -39,7 +40,7 @@ def run(args: argparse.Namespace) -> int:
         raise WrongUse("there are 1 to 64 workers, and ports up to 65535")
     program()
     libraries = {name: str(TOP / folder) for name, folder in LIBRARIES.items() if (TOP / folder).is_dir()}
-    pool = Pool(args.workers)
+    pool = Pool(args.workers, warm={"kind": "check", "text": WARM, "folder": libraries.get("Book I", ""), "euclid": True})
     server = Server((args.listen, args.port), Site(str(args.folder.resolve()), libraries), pool)
     host = f"[{args.listen}]" if ":" in args.listen else args.listen
     print(f"http://{host}:{server.server_address[1]}/", flush=True)

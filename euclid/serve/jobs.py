@@ -95,7 +95,7 @@ def verdicts(report: Report, start: int) -> Data:
         counts[outcome.verdict] += 1
     messages = [message(report, each, start) for each in report.diagnoses if each.number > start]
     waiting = [{"line": item.first - start, "column": 1, "end": len(item.head.text) + 1, "kind": "warning",
-                "text": f"not checked: it rests on `{outcome.on}`, which is not accepted", "details": []}
+                "text": f"not checked: it rests on `{outcome.on}`, which is not accepted"}
                for item, outcome in own(report, start) if outcome.verdict == Verdict.RESTS]
     return {"accepted": counts[Verdict.ACCEPTED], "refused": counts[Verdict.REFUSED] + counts[Verdict.FAULTY],
             "rest": counts[Verdict.RESTS], "messages": messages + waiting,
@@ -104,10 +104,15 @@ def verdicts(report: Report, start: int) -> Data:
 
 def message(report: Report, diagnosis: Diagnosis, start: int) -> Data:
     """What is wrong, with its place in the text."""
+    data = diagnosis.data(report.library)
+    line = report.book.lines[diagnosis.number - 1].words if diagnosis.number <= len(report.book.lines) else ()
+    is_citation = line[:1] == ("by",)
+    ways = [{"lines": way.lines, "instead": is_citation and way in diagnosis.ways} for way in diagnosis.ready()]
+    premises = [{"literal": spell(each.literal), "there": each.is_there, "turned": spell(each.turned) if each.turned else "",
+                 "false": each.denied, "follows": each.follows} | (origin(each.origin, start) if each.origin else {}) for each in diagnosis.premises]
     return {"line": diagnosis.number - start, "column": diagnosis.start, "end": max(diagnosis.end, diagnosis.start + 1),
-            "kind": "error", "text": diagnosis.message, "details": diagnosis.details(report.library)[2:],
-            "ways": [way.lines for way in diagnosis.ready()],
-            "values": [{"term": each.term, "value": each.number, "free": each.is_free} for each in diagnosis.values]}
+            "kind": "error", "text": diagnosis.message, "reason": data["reason"], "premises": premises,
+            "sentences": diagnosis.sentences, "ways": ways, "values": data["values"]}
 
 
 # ---- steps and facts
@@ -184,8 +189,8 @@ def check_filled(job: Data, folder: str, until: str, text: str) -> Data:
         at = theorem.last
         filled = fill_theorem(theorem, book.known_before(theorem), seconds=FILL_SECONDS)
         put(filled, found, own_lines, is_put, start)
-        missing += [{"line": each.line - start, "column": 1, "end": 200, "kind": "error", "details": each.why, "ways": [],
-                     "values": [], "text": f"`{each.wanted}` was not found"} for each in filled.missing]
+        missing += [{"line": each.line - start, "column": 1, "end": 200, "kind": "error", "sentences": each.why,
+                     "text": f"`{each.wanted}` was not found"} for each in filled.missing]
     keep(whole, found, own_lines, is_put, at, start + len(whole.files[-1].lines), start)
     report, start = report_of(folder, until, "".join(line + "\n" for line in found))
     answer = verdicts(report, start)

@@ -112,8 +112,8 @@ class Ticket:
 class Pool:
     """Jobs of all clients, taken in turn: each client's next one, and then the next client's."""
 
-    def __init__(self, count: int, seconds: float = SECONDS) -> None:
-        self.seconds = seconds
+    def __init__(self, count: int, seconds: float = SECONDS, warm: Data | None = None) -> None:
+        self.seconds, self.warm = seconds, warm
         self.waiting: OrderedDict[str, deque[Ticket]] = OrderedDict()
         self.condition = threading.Condition()
         self.is_ended = False
@@ -163,7 +163,9 @@ class Pool:
             return ticket
 
     def work(self, worker: Worker) -> None:
-        """One job after the other."""
+        """One job after the other; the first is done to have all that is needed at hand."""
+        if self.warm is not None:
+            worker.run(self.warm)
         while (ticket := self.take()) is not None:
             if ticket.is_gone:
                 continue

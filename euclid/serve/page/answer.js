@@ -26,20 +26,32 @@ export function showVerdict(place, data) {
   else { place.className = "waiting"; place.textContent = "Nothing to check yet"; }
 }
 
+/** A sentence, in which words between backticks are code. */
+function sentence(text) {
+  return text.split("`").map((part, at) => (at % 2 ? code(part) : part));
+}
+
+function premiseItem(each, go) {
+  if (each.there) return element("li", { class: "there" }, "there ", code(each.literal), " ", element("small", {}, jump(each.from, each.line, go)));
+  const more = each.turned ? [" \u2014 there is ", code(each.turned)] : each.false ? [` \u2014 false: its contrary ${each.false}`] : [];
+  if (each.follows) return element("li", { class: "there" }, "follows ", code(each.literal));
+  return element("li", { class: "missing" }, "missing ", code(each.literal), ...more);
+}
+
 export function showMessages(place, messages, go, insert) {
   place.replaceChildren(...messages.map((each) => {
     const box = element("article", { class: `message ${each.kind}` });
-    box.append(element("h3", {}, jump(`Line ${each.line}`, each.line, go), ": ", each.text));
-    const lines = (each.details ?? []).filter((line) => !/^with these values/.test(line));
-    const list = element("ul");
-    for (const line of each.values?.length ? lines.filter((text) => !/^ {2}\S/.test(text)) : lines) {
-      const kind = line.startsWith("missing") ? "missing" : line.startsWith("there") ? "there" : "";
-      list.append(element("li", { class: kind }, line.trim()));
-    }
-    if (list.children.length) box.append(list);
+    box.append(element("h3", {}, jump(`Line ${each.line}`, each.line, go), ": ", ...sentence(each.text)));
+    if (each.reason) box.append(element("p", {}, ...sentence(each.reason)));
+    if (each.premises?.length) box.append(element("ul", {}, ...each.premises.map((premise) => premiseItem(premise, go))));
+    for (const said of each.sentences ?? []) box.append(element("p", {}, ...sentence(said)));
     if (each.values?.length) box.append(counterexample(each.values));
-    for (const way of each.ways ?? []) {
-      box.append(element("p", { class: "row" }, element("button", { type: "button", onclick: () => insert(each.line, way) }, "Put in"), code(way.join("\n"))));
+    if (each.ways?.length) {
+      const ways = each.ways.map((way) => {
+        const button = element("button", { type: "button", onclick: () => insert(each.line, way) }, way.instead ? "Write this instead" : "Put in before it");
+        return element("div", { class: "row way" }, button, element("pre", {}, way.lines.join("\n")));
+      });
+      box.append(element("details", {}, element("summary", {}, ways.length === 1 ? "A way" : `${ways.length} ways`), ...ways));
     }
     return box;
   }));
@@ -85,14 +97,29 @@ function byWhat(step) {
   return said.length ? `by ${[...new Set(said)].join(", ")}` : step.grounds.length ? "from what is known" : "";
 }
 
+function stepItem(step, go) {
+  const item = element("li", { value: step.step });
+  const line = element("span", { class: "math" }, "\u00a0\u00a0".repeat(step.depth) + step.text);
+  if (!step.grounds.length) { item.append(jump(line, step.line, go)); return item; }
+  const grounds = element("ul", {}, ...step.grounds.map((each) => groundItem(each, go)));
+  if (step.words) grounds.prepend(element("li", {}, step.words));
+  item.append(element("details", {}, element("summary", {}, line, " ", element("small", {}, byWhat(step))), grounds));
+  return item;
+}
+
+/** The steps; lines that were put in at Euclid's length are folded under the step that needs them. */
 export function showSteps(place, steps, go) {
-  place.replaceChildren(...steps.map((step) => {
-    const item = element("li", { value: step.step, class: step.put ? "put" : "" });
-    const line = element("span", { class: "math" }, "\u00a0\u00a0".repeat(step.depth) + step.text);
-    if (!step.grounds.length) { item.append(jump(line, step.line, go)); return item; }
-    const grounds = element("ul", {}, ...step.grounds.map((each) => groundItem(each, go)));
-    if (step.words) grounds.prepend(element("li", {}, step.words));
-    item.append(element("details", {}, element("summary", {}, line, " ", element("small", {}, byWhat(step))), grounds));
-    return item;
-  }));
+  const items = [];
+  let put = [];
+  for (const step of steps) {
+    const item = stepItem(step, go);
+    if (step.put) { put.push(item); continue; }
+    if (put.length) {
+      const words = put.length === 1 ? "a line that the figure shows" : `${put.length} lines that the figure shows`;
+      item.append(element("details", { class: "put" }, element("summary", {}, element("small", {}, words)), element("ol", {}, ...put)));
+    }
+    put = [];
+    items.push(item);
+  }
+  place.replaceChildren(...items, ...put);
 }

@@ -65,7 +65,7 @@ async function check() {
 function show(data) {
   const go = (line) => editor.go(line);
   showVerdict(at("verdict"), data);
-  showMessages(at("messages"), data.messages, go, (line, lines) => editor.insert(line, lines));
+  showMessages(at("messages"), data.messages, go, (line, way) => editor.insert(line, way.lines, way.instead));
   editor.mark(data.messages.filter((each) => each.kind === "error"));
   state.facts = data.facts;
   showFacts(at("facts"), data.facts, go);
@@ -84,7 +84,7 @@ function showFigure(drawing) {
   at("figure-words").textContent = drawing.why ?? (drawing.svg ? `${drawing.title}${drawing.step ? `, at step ${drawing.step}` : ""}` : "");
   if (drawing.svg) {
     picture.src = "data:image/svg+xml;charset=utf-8," + encodeURIComponent(drawing.svg);
-    picture.alt = new DOMParser().parseFromString(drawing.svg, "image/svg+xml").querySelector("desc")?.textContent ?? "the figure";
+    picture.alt = drawing.svg.match(/<desc[^>]*>([^<]*)</)?.[1] ?? "the figure";
   }
 }
 

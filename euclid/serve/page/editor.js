@@ -80,11 +80,11 @@ export class Editor {
     this.look();
   }
 
-  /** Puts lines in before a line. */
-  insert(line, texts) {
+  /** Puts lines in before a line, or in its place. */
+  insert(line, texts, isInstead) {
     const lines = this.value.split("\n");
     const indent = lines[line - 1].match(/^[ \t]*/)[0];
-    lines.splice(line - 1, 0, ...texts.map((text) => indent + text));
+    lines.splice(line - 1, isInstead ? 1 : 0, ...texts.map((text) => indent + text));
     this.value = lines.join("\n");
     this.go(line);
     this.changed();
