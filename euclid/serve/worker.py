@@ -15,6 +15,7 @@ sys.dont_write_bytecode = True
 if __package__ in (None, ""):
     sys.path[0] = str(Path(__file__).resolve().parents[2])
 
+from euclid import program  # noqa: E402
 from euclid.serve.jobs import JOBS  # noqa: E402
 from euclid.serve.pool import Data, read, write  # noqa: E402
 
@@ -40,7 +41,7 @@ def answer(job: Data) -> Data:
 
 def main() -> None:
     """Jobs until the pool is gone."""
-    sys.setrecursionlimit(4000)
+    program.most_seconds = SECONDS
     out, source = os.fdopen(os.dup(1), "wb"), sys.stdin.buffer
     os.dup2(2, 1)  # nothing else goes to the pool
     resource.setrlimit(resource.RLIMIT_AS, (MEGABYTES << 20, MEGABYTES << 20))
