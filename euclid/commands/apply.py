@@ -28,8 +28,8 @@ it; where there are none, those from which it follows, perhaps with lines before
 nothing new is left out, and arguments that come twice are last. Without --for or --of two uses of
 each theorem are shown.
 
-example: euclid apply I.5 23 --for 'seg d c = seg g b' library/book-1
-example: euclid apply I.5 23 --of I.4 library/book-1
+example: euclid apply I.5 19 --for 'seg d c = seg g b' library/book-1
+example: euclid apply I.5 19 --of I.4 library/book-1
 """
 
 MOST_READY, MOST_NEAR, OF_EACH, MOST_LONG = 14, 6, 2, 4
