@@ -11,8 +11,8 @@ from itertools import islice
 from .clock import Clock, OutOfTime
 from .choices import Chooser
 from .closure import Line
-from .codes import Coded, Comparison, Unknown, clauses, negated
-from .contexts import BLANK, Situation, turned
+from .codes import Coded, Comparison, Unknown, clauses, negated, turned_round
+from .contexts import BLANK, Situation
 from .diagnosis import Diagnosis, Premise, Way
 from .filling.page import Page
 from .filling.supply import Supplier
@@ -33,11 +33,15 @@ CONTRADICTION = ["claim right = right", "contradiction"]  # lines that are accep
 
 
 def add_ways(diagnosis: Diagnosis, situation: Situation, scratch: Scratch) -> None:
-    """Puts the ways into a diagnosis, and what they tell into its message."""
+    """Puts the ways into a diagnosis, and what they tell into its message, as far as the time goes."""
     try:
-        seeker = Seeker(situation, Clock(SECONDS))
-    except Unknown:
+        put_ways(diagnosis, situation, scratch, Seeker(situation, Clock(SECONDS)))
+    except (OutOfTime, Unknown):  # the latter where there are more objects than have numbers
         return
+
+
+def put_ways(diagnosis: Diagnosis, situation: Situation, scratch: Scratch, seeker: Seeker) -> None:
+    """The same, with what looks for them."""
     wanted = parsed(diagnosis.wanted, situation)
     is_by = isinstance(situation.step, By)
     if wanted is not None:
@@ -166,7 +170,7 @@ class Seeker:
         if lines is not None and len(lines) <= MOST_LINES:
             found.append(Way(lines))
         if not found:
-            others = {self.reach.code(each) for each in turned(literal)}
+            others = set(turned_round(item)) if isinstance(item, int) else set()
             found = [self.near_way(item, each) for each in near(item, self.reach.closure, MOST_WAYS)
                      if not others & set(each.lacks)]
         return list({(*way.lines, way.by): way for way in reversed(found)}.values())[::-1]
