@@ -13,19 +13,14 @@ from ..script import Theorem
 from .pool import Data
 
 
-def drawn(whole: Library, start: int, line: int) -> Data:
-    """The figure of the theorem at a line, with what the step there adds in colour."""
-    book = whole.book()
-    item = book.item_at_line(line + start)
-    if not isinstance(item, Theorem) or item.first <= start:
-        return {"svg": ""}
-    theorem = item
-    alone = read_lines([each for each in whole.lines() if each.number <= item.last])
+def drawn(whole: Library, theorem: Theorem, line: int) -> Data:
+    """The figure of a theorem, with what the step at a line of the joined text adds in colour."""
+    alone = read_lines([each for each in whole.lines() if each.number <= theorem.last])
     source = Sources(alone).source(theorem)
     scene = find_any(source)
     if scene is None:
         return {"svg": "", "why": "no figure was found in which all that is given holds"}
-    number = max((each.number for each in theorem.steps() if each.line.number <= line + start), default=0)
+    number = max((each.number for each in theorem.steps() if each.line.number <= line), default=0)
     chosen = next((each for each in [scene, *chapters(scene)] if number in steps_shown(each.events)), scene)
     figure = Figure(chosen, [])
     shown = steps_shown(figure.events)

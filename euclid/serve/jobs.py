@@ -131,6 +131,12 @@ def steps(report: Report, start: int) -> list[Data]:
     return found
 
 
+def theorem_at(book: Book, start: int, line: int) -> Theorem | None:
+    """The theorem of the text at a line, or the last one before it."""
+    found = [each for each in book.theorems() if start < each.first <= line + start]
+    return found[-1] if found else None
+
+
 def ground(each: Ground, start: int) -> Data:
     """Why a literal is allowed."""
     data: Data = {"kind": each.kind, "literal": spell(each.literal) if each.literal else "", "rule": each.rule,
@@ -155,8 +161,8 @@ def words(each: Origin | None) -> str:
 
 def facts(report: Report, start: int, line: int) -> Data:
     """The objects and facts before the step at a line, or the next one."""
-    item = report.book.item_at_line(line + start)
-    if not isinstance(item, Theorem) or item.first <= start:
+    item = theorem_at(report.book, start, line)
+    if item is None:
         return {}
     step = item.step_at_line(line + start)
     outcome = report.outcome(item.title)
@@ -241,7 +247,9 @@ def figure(job: Data) -> Data:
 
     text = str(job["text"])[:MOST_BYTES]
     whole, start = joined(str(job.get("folder", "")), str(job.get("until", "")), text)
-    return drawn(whole, start, int(job.get("line", 0)))
+    line = int(job.get("line", 0))
+    theorem = theorem_at(whole.book(), start, line)
+    return drawn(whole, theorem, line + start) if theorem else {"svg": ""}
 
 
 def listing(job: Data) -> Data:
