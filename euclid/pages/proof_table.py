@@ -51,7 +51,7 @@ class ProofTable:
         """One row."""
         step, depth = row.step, min(row.depth, DEEPEST)
         classes = [f"d{depth}"] if depth else []
-        classes += ["fold"] if step.line.number in self.folded and not row.is_else else []
+        classes += ["fold"] if step.line.number in self.folded else []
         classes += ["quiet"] if row.is_quiet else []
         refused = self.entry.refused_at
         classes += ["after"] if refused and step.number > refused else []

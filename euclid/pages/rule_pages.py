@@ -15,7 +15,7 @@ from ..rules import LETTERS, Construction, Rule, tables
 from ..script import Block, Theorem
 from ..statements import Known, Objects, Statement
 from ..syntax import source_line
-from .figures import Keeper, inline_svg
+from .figures import MAKERS, Keeper, inline_svg, sum_of_code
 from .markup import esc, items, link, table, tag
 from .model import Site
 from .notation import DRAWN, Notation, sentences
@@ -106,7 +106,7 @@ def scene_of(law: Law) -> Scene | None:
 
 def figure_of(law: Law, keeper: Keeper) -> str:
     """The figure of a law, kept or drawn."""
-    path = keeper.path("rules", law.name, spell_all(law.given), spell_all(law.then), " ".join(law.sorts))
+    path = keeper.path("rules", sum_of_code(MAKERS), law.name, spell_all(law.given), spell_all(law.then), " ".join(law.sorts))
     text = keeper.get(path)
     if text is None:
         scene = scene_of(law)
