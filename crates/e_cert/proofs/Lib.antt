@@ -1,3 +1,4 @@
 pub mod FormsOfCertificates
 pub mod CertLineLits
 pub mod FormsOfCertLines
+pub mod Fronts

@@ -5,7 +5,6 @@ use Rattle.e_literal.specs.declared.literal.Lit.{Lit}
 use Rattle.e_literal.specs.declared.object.Obj.{Obj}
 use Rattle.e_literal.specs.Facts.{others}
 use Rattle.e_clause.specs.declared.cert.RowName.{RowName}
-use Rattle.e_clause.specs.declared.cert.RowName.TheVariants as names
 use Rattle.e_clause.specs.declared.cert.Sums.{Sums}
 use Rattle.e_clause.specs.declared.cert.Sums.TheVariants.{One, Two}
 use Rattle.e_clause.specs.declared.cert.MetricCert.{MetricCert}
@@ -16,16 +15,12 @@ use Rattle.e_clause.specs.declared.cert.Cert.TheVariants.{Plain, Transfer}
 use Rattle.e_clause.specs.declared.cert.Against.TheVariants as against
 use Rattle.e_clause.specs.Instance.{Inst, number_of_rule}
 use Rattle.e_clause.specs.Sigs.{sig_of}
-use Rattle.e_clause.specs.RuleKinds.{is_transfer}
 use Rattle.e_deriv.specs.declared.names.Names.{Names}
 use Rattle.e_line.specs.declared.fault.FaultKind.{FaultKind}
 use Rattle.e_line.specs.declared.fault.FaultKind.TheVariants.{Malformed}
-use Rattle.e_line.specs.declared.literal.RawLit.{RawLit}
 use Rattle.e_line.specs.Reading.{◌>>=◌, or_malformed}
-use Rattle.e_names.specs.Scope.{lit_in, term_in, args_in, variables_of, right_count}
-use Rattle.e_line.specs.LineLimits.{few_monos}
-use Rattle.e_cert.specs.declared.cert_line.RawRow.{RawRow}
-use Rattle.e_cert.specs.declared.cert_line.RawRow.TheVariants as rows
+use Rattle.e_names.specs.Scope.{lit_in, args_in, variables_of, right_count}
+use Rattle.e_cert.specs.Rows.{most_rows, row_in, transfer_rule}
 use Rattle.e_cert.specs.declared.cert_line.CertLine.{CertLine}
 use Rattle.e_cert.specs.declared.cert_line.CertLine.TheVariants as certlines
 use Rattle.e_cert.specs.declared.owed.OpenSums.{OpenSums}
@@ -38,26 +33,6 @@ use Rattle.e_cert.specs.declared.kept.StepCerts.{StepCerts}
 use Rattle.e_cert.specs.declared.kept.StepCerts.TheVariants as kept
 
 -- ---- sums
-
--- rows of one sum
-abbrev pub most_rows : ℕ
-most_rows = 4096
-
--- a literal of a certificate, with its names and its limits
-abbrev pub fact_in : Names → RawLit → Result Lit FaultKind
-fact_in ns raw = lit_in ns raw >>= λ l. few_monos (raw ∷ []) >>= λ few. Ok l
-
--- a row with the objects of its names
-unfoldable pub row_in : Names → RawRow → Result RowName FaultKind
-row_in ns (rows.Fact raw) = fact_in ns raw >>= λ l. Ok (names.Fact l)
-row_in ns rows.Goal = Ok names.Goal
-row_in ns (rows.Pos raw) = term_in ns raw >>= λ t. Ok (names.Pos t)
-row_in ns (rows.Top raw) = term_in ns raw >>= λ t. Ok (names.Top t)
-row_in ns rows.Right = Ok names.Right
-row_in ns (rows.Least raw) = term_in ns raw >>= λ t. Ok (names.Least t)
-row_in ns rows.Above = Ok names.Above
-row_in ns rows.Below = Ok names.Below
-row_in ns (rows.FactAt k) = Ok (names.FactAt k)
 
 -- one more row
 abbrev pub with_row : List (ℤ × RowName) → ℤ → RowName → Result (List (ℤ × RowName)) FaultKind
@@ -132,11 +107,6 @@ takes_metric d = false
 abbrev pub clash_put : Obligation → Lit → Result Obligation FaultKind
 clash_put (due.Contradiction None) l = Ok (due.Contradiction (Some (against.Clash l)))
 clash_put d l = Err Malformed
-
--- the rule of a transfer is a transfer rule
-abbrev pub transfer_rule : Option ℕ → Result ℕ FaultKind
-transfer_rule None = Err Malformed
-transfer_rule (Some r) = if is_transfer r then Ok r else Err Malformed
 
 -- how many places of a list have another literal than the wanted one
 abbrev pub count_others : Lit → List Lit → ℕ
@@ -214,8 +184,3 @@ kept_of (due.Contradiction (Some a)) = Ok (Some (kept.Against a))
 
 unfoldable pub finish_certs : Pending → Result (Option StepCerts) FaultKind
 finish_certs o = with_sums_ended o o.sums >>= λ e. kept_of e.due
-
--- the first of a line's certificates
-abbrev pub first_cert : List Cert → Option Cert
-first_cert [] = None
-first_cert (c ∷ cs) = Some c

@@ -1,6 +1,6 @@
 //! The certificates of a line that were read.
 ghost use Rattle.std.specs.Prelude.{◌≡◌, ◌++◌, ◌∷◌, [], ℤ, OnOk, length};
-ghost use Rattle.e_cert.specs.Owed.{first_cert};
+ghost use Rattle.e_cert.specs.Certificates.{first_cert};
 
 use e_clause::{Against, Cert, RowName, Sum};
 use e_literal::Items;

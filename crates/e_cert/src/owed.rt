@@ -4,9 +4,11 @@ ghost use Rattle.e_clause.specs.Instance.{number_of_rule};
 ghost use Rattle.e_clause.specs.declared.cert.Part.TheVariants as parts;
 ghost use Rattle.e_line.specs.Reading.{Gives, Moves};
 ghost use Rattle.e_names.specs.Scope.{FewNames};
-ghost use Rattle.e_cert.specs.Owed.{fact_in, row_in, with_row, row_put, sum_begun};
+ghost use Rattle.e_cert.specs.Owed.{with_row, row_put, sum_begun};
+ghost use Rattle.e_cert.specs.Rows.{fact_in, row_in};
 ghost use Rattle.e_cert.specs.Owed.{differs_put, sums_ended, certificate};
-ghost use Rattle.e_cert.specs.Owed.{part_put, metric_put, takes_metric, clash_put, transfer_rule};
+ghost use Rattle.e_cert.specs.Owed.{part_put, metric_put, takes_metric, clash_put};
+ghost use Rattle.e_cert.specs.Rows.{transfer_rule};
 ghost use Rattle.e_cert.specs.Owed.{count_others, transfer_at, open_transfer_in, transfer_begun};
 ghost use Rattle.e_cert.specs.Owed.{with_sums_ended, after_cert_line, kept_of, finish_certs};
 
@@ -99,7 +101,7 @@ fn fact_in(alloc: Global, names: &Names, raw: &RawLit) -> Result<Lit, LineError>
     }
 }
 
-#[tactic(auto, unfolding(crate::specs::Owed::row_in))]
+#[tactic(auto, unfolding(crate::specs::Rows::row_in))]
 fn row_in(alloc: Global, names: &Names, row: &RawRow) -> Result<RowName, LineError>
     requires { FewNames names.now }
     ensures { Gives (λ r. r) result (row_in names.now row.now) }

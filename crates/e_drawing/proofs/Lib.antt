@@ -1,3 +1,4 @@
 pub mod PlanLines
 pub mod Named
 pub mod Drawn
+pub mod Citing

@@ -4,3 +4,4 @@ pub mod Plans
 pub mod Texts
 pub mod Answers
 pub mod inner
+pub mod Citing

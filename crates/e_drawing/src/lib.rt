@@ -4,9 +4,11 @@
 
 mod answers;
 mod drawing;
+mod laws;
 mod number;
 mod plan;
 mod raw;
 mod reading;
 
 pub use drawing::{Drawing, draw};
+pub use laws::refuted_is_not_shown;

@@ -1,15 +1,16 @@
 -- Each derivation text has a judgement.
 use Rattle.std.proofs.Common.{◌≡◌, inl, inr, ℕ, zero, suc, ◌+◌, ◌<◌, ◌≤◌, List, [], ◌∷◌, length, Option, Some, None, Result, Ok, Err, refl, ap, arith}
+use Rattle.std.specs.Prelude.{option_and_then}
 use Rattle.e_clause.specs.declared.cert.Version.{Version}
 use Rattle.e_theorem.specs.Statements.{stated}
 use Rattle.e_deriv.specs.Certified.{is_certified, derivation_steps, verdict}
 use Rattle.e_line.specs.Reading.{◌>>=◌}
 use Rattle.e_names.specs.TitledStatements.{TitledStatement, stated_by}
 use Rattle.e_book.specs.TheoremViews.{TheoremView}
-use Rattle.e_book.specs.Grammar.{Rest}
+use Rattle.e_book.specs.Grammar.{Rest, theorem_ended}
 use Rattle.e_line.proofs.base.Bound.{bind_ok}
-use Rattle.e_read.specs.declared.reading.BlockParser.{BlockParser}
-use Rattle.e_read.specs.Text.{TextPiece, Derived, Last, at_start, parser_after_line, garbled_at, finished, or_on, is_end, piece_from}
+use Rattle.e_read.specs.Text.{TextPiece, Derived, Last, Block, at_start, with_line, garbled_at, or_on, is_end, piece_from}
+use Rattle.e_read.proofs.Bridge.{with_certs}
 use Rattle.e_read.proofs.TakenLines.{either}
 use Rattle.e_verify.proofs.checking.PassedLines.{all_pass}
 use Rattle.e_judgement.specs.declared.judgement.Judgement.{Judgement}
@@ -30,22 +31,22 @@ same_rest p q xs ys e = ap (λ (a : Found). a.1) (inside (p, xs) (q, ys) e) wher
   inside : (a b : Found) → let x : Result Found ℕ = Ok a in x ≡ Ok b → a ≡ b
   inside a b e = cc
 
-shorter_on : (t : Option TheoremView) (lines rest : Rest) (more : Result Found ℕ) (p : TextPiece) → or_on t lines more ≡ found p rest → (more ≡ found p rest → length rest < length lines) → length rest < suc (length lines)
-shorter_on None lines rest more p e h = omega (arith, h e)
-shorter_on (Some x) lines rest more p e h = omega (arith, ap length (same_rest (Derived x) p lines rest e))
+shorter_on : (t : Option TheoremView) (b : Block) (lines rest : Rest) (more : Result Found ℕ) (p : TextPiece) → or_on t b.kept lines more ≡ found p rest → (more ≡ found p rest → length rest < length lines) → length rest < suc (length lines)
+shorter_on None b lines rest more p e h = omega (arith, h e)
+shorter_on (Some x) b lines rest more p e h = omega (arith, ap length (same_rest (Derived (with_certs x b.kept)) p lines rest e))
 
-shorter : (known : List TitledStatement) (last : ℕ) (r : BlockParser) (lines : Rest) (p : TextPiece) (rest : Rest) → piece_from known last r lines ≡ found p rest → length rest < length lines
+shorter : (known : List TitledStatement) (last : ℕ) (b : Block) (lines : Rest) (p : TextPiece) (rest : Rest) → piece_from known last b lines ≡ found p rest → length rest < length lines
 unfolding piece_from
-shorter known last r [] p rest e = absurd cc
-shorter known last r (Err f ∷ lines) p rest e = absurd cc
-shorter known last r (Ok l ∷ lines) p rest e =
-    let next : Result BlockParser ℕ = garbled_at l.number (parser_after_line known r l) in
-    let then : BlockParser → Result Found ℕ = λ x. or_on (finished x.parser x.kept) lines (piece_from known last x lines) in
-    elim (either (is_end known r.parser l) (found Last lines) (next >>= then) (found p rest) e) [
+shorter known last b [] p rest e = absurd cc
+shorter known last b (Err f ∷ lines) p rest e = absurd cc
+shorter known last b (Ok l ∷ lines) p rest e =
+    let next : Result Block ℕ = garbled_at l.number (with_line known b l) in
+    let then : Block → Result Found ℕ = λ x. or_on (option_and_then theorem_ended x.said) x.kept lines (piece_from known last x lines) in
+    elim (either (is_end known b.said l) (found Last lines) (next >>= then) (found p rest) e) [
       | inl q ↦ omega (arith, ap length (same_rest Last p lines rest q.1))
       | inr q ↦
           let x = bind_ok next then (p, rest) q.1 in
-          shorter_on (finished x.0.parser x.0.kept) lines rest (piece_from known last x.0 lines) p x.2 (λ h. shorter known last x.0 lines p rest h)
+          shorter_on (option_and_then theorem_ended x.0.said) x.0 lines rest (piece_from known last x.0 lines) p x.2 (λ h. shorter known last x.0 lines p rest h)
     ]
 
 module _ (v : Version) where

@@ -17,7 +17,8 @@ use Rattle.e_cert.specs.declared.kept.StepCerts.{StepCerts}
 use Rattle.e_read.specs.declared.reading.BlockParser.{BlockParser}
 use Rattle.e_read.specs.Filled.{script_with_certs}
 use Rattle.e_read.specs.Laws.{begins_with_bar, is_of_theorem}
-use Rattle.e_read.specs.Text.{TextPiece, Derived, Last, parser_after_line, derived, garbled_at, is_finished, finished, or_on, is_end, piece_from}
+use Rattle.e_read.specs.Text.{TextPiece, Derived, Last, garbled_at}
+use Rattle.e_read.specs.inner.Machine.{parser_after_line, derived, is_finished, finished, or_on, is_end, piece_from}
 use Rattle.e_read.proofs.TakenLines.{Stepped, line_taken, form_read, not_skipped, book_line, either}
 
 abbrev pub Answer : Type 0

@@ -20,7 +20,10 @@ use Rattle.e_read.specs.declared.reader.Piece.TheVariants as pieces
 use Rattle.e_read.specs.declared.reader.TextFault.{TextFault}
 use Rattle.e_read.specs.Filled.{script_with_certs}
 use Rattle.e_read.specs.Laws.{is_of_theorem, ReadsAsBook}
-use Rattle.e_read.specs.Text.{at_start, piece_from, without_certs, OfTheorem, TextReads}
+use Rattle.e_read.specs.Text.{without_certs, OfTheorem, TextReads}
+use Rattle.e_read.specs.inner.Machine.{at_start, piece_from}
+use Rattle.e_read.specs.Text as text
+use Rattle.e_read.proofs.TextTied.{text_read}
 use Rattle.e_read.proofs.Bridge.{derives, Plainly, plainly}
 use Rattle.e_read.proofs.ReadCertificates.{version_read}
 use Rattle.e_read.proofs.Erased.{erased_filled, erased_plain}
@@ -38,9 +41,9 @@ bare_is v known last lines rest t e =
     let script : erased (script_with_certs p.entry.script p.kept).0 ≡ p.entry.script = erased_filled p.entry.script p.kept ∙ erased_plain p.entry.script h.script in
     record { plain = p; spelled = h; same = ap without_certs p.same ∙ ap (λ (s : Script). record p.entry { script = s }) script }
 
-pub reads_as_book : (v : Version) (known : List TitledStatement) (last : ℕ) (t : TheoremView) (lines rest : List (Result LineView LineFault)) → piece_from known last (at_start v) lines ≡ derives t rest → ReadsAsBook known last t lines rest
+pub reads_as_book : (v : Version) (known : List TitledStatement) (last : ℕ) (t : TheoremView) (lines rest : List (Result LineView LineFault)) → text.piece_from known last (text.at_start v) lines ≡ derives t rest → ReadsAsBook known last t lines rest
 reads_as_book v known last t lines rest e =
-    let b = bare_is v known last lines rest t e in
+    let b = bare_is v known last lines rest t (text_read v known last lines ∙ e) in
     record { front = b.plain.front; all = b.plain.all; read = sym (grammar_read known last (filter is_of_theorem b.plain.front ++ rest)) ∙ b.plain.read ∙ ap (λ (x : TheoremView). answered (pair x rest)) (sym b.same) }
 
 pub text_spelled : (v : Version) (known : List TitledStatement) (last : ℕ) (lines rest : List (Result LineView LineFault)) (t : TheoremView) → piece_from known last (at_start v) lines ≡ derives t rest → HasSpelling known (without_certs t)

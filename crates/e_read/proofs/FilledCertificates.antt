@@ -9,7 +9,7 @@ use Rattle.e_deriv.specs.Versions.{has_certs_of}
 use Rattle.e_cert.proofs.FormsOfCertificates.{are_certs_of_version, AreOfVersion}
 use Rattle.e_cert.specs.declared.kept.StepCerts.{StepCerts}
 use Rattle.e_cert.specs.declared.kept.StepCerts.TheVariants as kept
-use Rattle.e_cert.specs.Owed.{first_cert}
+use Rattle.e_cert.specs.Certificates.{first_cert}
 use Rattle.e_read.specs.Filled.{next_certs, next_against, after_next, script_with_certs}
 use Rattle.e_clause.specs.declared.cert.Version.{Version}
 use Rattle.e_clause.specs.Versions.{is_cert_of, is_against_of}

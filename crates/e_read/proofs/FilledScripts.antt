@@ -11,7 +11,7 @@ use Rattle.e_clause.specs.declared.cert.Cert.{Cert}
 use Rattle.e_deriv.specs.Script.{Script, Cite, Hence, Make, Apply, Claim, Superposed, Qed, Contradiction, Cases}
 use Rattle.e_deriv.proofs.Scripts.{scripts, steps_script-append}
 use Rattle.e_cert.specs.declared.kept.StepCerts.{StepCerts}
-use Rattle.e_cert.specs.Owed.{first_cert}
+use Rattle.e_cert.specs.Certificates.{first_cert}
 use Rattle.e_read.specs.Filled.{next_certs, next_against, after_next, script_with_certs}
 
 pub filled-Cite : (by : By) (rest : Script) (ks : List StepCerts) → script_with_certs (Cite by rest) ks ≡ (Cite by (script_with_certs rest ks).0, (script_with_certs rest ks).1)

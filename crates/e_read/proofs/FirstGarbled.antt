@@ -8,7 +8,10 @@ use Rattle.e_names.specs.TitledStatements.{TitledStatement}
 use Rattle.e_book.specs.TheoremViews.{TheoremView}
 use Rattle.e_read.specs.declared.reading.BlockParser.{BlockParser}
 use Rattle.e_read.specs.Laws.{GarblesAt, EndsTooSoon}
-use Rattle.e_read.specs.Text.{Derived, Last, at_start, parser_after_line, garbled_at, finished, is_end, piece_from}
+use Rattle.e_read.specs.Text.{Derived, Last, garbled_at}
+use Rattle.e_read.specs.inner.Machine.{at_start, parser_after_line, finished, is_end, piece_from}
+use Rattle.e_read.specs.Text as text
+use Rattle.e_read.proofs.TextTied.{text_read}
 use Rattle.e_read.proofs.Bridge.{Answer}
 use Rattle.e_read.proofs.Pieces.{piece_none, piece_fault, piece_last, piece_garbled, piece_ended, piece_next}
 
@@ -87,9 +90,17 @@ first_from known last r (Err f ∷ ls) n e =
     inl (at_once known r (Err f) ls n (λ end other. piece_fault known end r f other ∙ ap wrong is))
 first_from known last r (Ok l ∷ ls) n e = by_line known last r l ls n (λ next h. first_from known last next ls n h) e
 
-pub garbled_first : (v : Version) (known : List TitledStatement) (last : ℕ) (lines : Rest) (n : ℕ) → piece_from known last (at_start v) lines ≡ wrong n → GarblesAt v known lines n ⊎ (EndsTooSoon v known lines × (n ≡ last))
-garbled_first v known last lines n e = to_law (first_from known last (at_start v) lines n e)
-  where
-    to_law : From known (at_start v) lines n ⊎ TooSoon known (at_start v) lines last n → GarblesAt v known lines n ⊎ (EndsTooSoon v known lines × (n ≡ last))
-    to_law (inl b) = inl (record { front = b.front; line = b.line; rest = b.rest; all = b.all; before = b.before; there = b.there })
-    to_law (inr t) = inr t
+-- the same in the words of the law
+to_law : (v : Version) (known : List TitledStatement) (last : ℕ) (lines : Rest) (n : ℕ) → From known (at_start v) lines n ⊎ TooSoon known (at_start v) lines last n → GarblesAt v known lines n ⊎ (EndsTooSoon v known lines × (n ≡ last))
+to_law v known last lines n (inl b) = inl (record {
+  front = b.front;
+  line = b.line;
+  rest = b.rest;
+  all = b.all;
+  before = λ end. sym (text_read v known end b.front) ∙ b.before end;
+  there = λ end other. sym (text_read v known end (b.front ++ b.line ∷ other)) ∙ b.there end other;
+})
+to_law v known last lines n (inr t) = inr ((λ end. sym (text_read v known end lines) ∙ t.0 end), t.1)
+
+pub garbled_first : (v : Version) (known : List TitledStatement) (last : ℕ) (lines : Rest) (n : ℕ) → text.piece_from known last (text.at_start v) lines ≡ wrong n → GarblesAt v known lines n ⊎ (EndsTooSoon v known lines × (n ≡ last))
+garbled_first v known last lines n e = to_law v known last lines n (first_from known last (at_start v) lines n (text_read v known last lines ∙ e))

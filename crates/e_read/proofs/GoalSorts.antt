@@ -12,7 +12,7 @@ use Rattle.e_book.specs.declared.blocks.BlockKind.TheVariants as kind
 use Rattle.e_book.specs.Blocks.{is_claim, has_claim, made_in}
 use Rattle.e_names.specs.Scope.{scope_of_names, qed_in}
 use Rattle.e_names.proofs.read_lines.Building.{qed_fits}
-use Rattle.e_read.specs.Needs.{shown_inside, shown_around}
+use Rattle.e_read.specs.inner.Needs.{shown_inside, shown_around}
 
 pub qed_sorts : (ns : Names) (sorts : List Sort) (names : List (List ℕ)) (os : List Obj) → qed_in ns sorts names ≡ Ok os → map (λ (o : Obj). o.sort) os ≡ sorts
 qed_sorts ns sorts names os e = sorts_of_objects (scope_of_names ns) sorts os (qed_fits ns sorts names os e)

@@ -1,5 +1,7 @@
 pub mod FilledScripts
 pub mod TakenLines
+pub mod DueTied
+pub mod TextTied
 pub mod Bridge
 pub mod Erased
 pub mod Consequences

@@ -11,7 +11,8 @@ use Rattle.e_read.specs.declared.reader.Progress.{Progress}
 use Rattle.e_read.specs.declared.reader.Progress.TheVariants as turns
 use Rattle.e_read.specs.declared.reader.TextFault.{TextFault}
 use Rattle.e_read.specs.declared.reader.TextFault.TheVariants as faults
-use Rattle.e_read.specs.Text.{TextPiece, Derived, Last, parser_after_line, garbled_at, is_finished, finished, is_end, piece_from, LineReads, ProgressIs}
+use Rattle.e_read.specs.Text.{TextPiece, Derived, Last, garbled_at}
+use Rattle.e_read.specs.inner.Machine.{parser_after_line, is_finished, finished, is_end, piece_from, LineReads, ProgressIs}
 
 -- after the last line of the text
 pub piece_none : (known : List TitledStatement) (last : ℕ) (r : BlockParser) → piece_from known last r [] ≡ Err last

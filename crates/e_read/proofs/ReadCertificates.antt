@@ -26,9 +26,12 @@ use Rattle.e_cert.specs.declared.owed.Obligation.TheVariants as due
 use Rattle.e_cert.specs.declared.owed.Pending.{Pending}
 use Rattle.e_cert.specs.declared.kept.StepCerts.{StepCerts}
 use Rattle.e_read.specs.declared.reading.BlockParser.{BlockParser}
-use Rattle.e_read.specs.Strict.{is_apart}
-use Rattle.e_read.specs.Needs.{one_each, needs_of_raw_apply, needs_at_qed, due_of}
-use Rattle.e_read.specs.Text.{owes_nothing, at_start, owed_by, gone_on, parser_after_line, Derived, Last, derived, garbled_at, finished, or_on, is_end, piece_from}
+use Rattle.e_read.specs.inner.Strict.{is_apart}
+use Rattle.e_read.specs.inner.Needs.{one_each, needs_of_raw_apply, needs_at_qed, due_of}
+use Rattle.e_read.specs.Text.{Derived, Last, garbled_at}
+use Rattle.e_read.specs.inner.Machine.{owes_nothing, at_start, owed_by, gone_on, parser_after_line, derived, finished, or_on, is_end, piece_from}
+use Rattle.e_read.specs.Text as text
+use Rattle.e_read.proofs.TextTied.{text_read}
 use Rattle.e_read.proofs.Bridge.{Answer, derives, no_last, garbled_ok, derived_is, goes_on}
 use Rattle.e_read.proofs.TakenLines.{Stepped, line_taken, either}
 use Rattle.e_cert.proofs.FormsOfCertificates.{are_certs_of_version, AreOfVersion}
@@ -141,5 +144,5 @@ module _ (v : Version) where
   version_read known last lines rest t e = certs_read known last (at_start v) lines rest t start_good e
 
   -- so their literals are well formed
-  pub good_certs_read : (known : List TitledStatement) (last : ℕ) (lines rest : List (Result LineView LineFault)) (t : TheoremView) → piece_from known last (at_start v) lines ≡ derives t rest → has_writable_certs t.script ≡ true
-  good_certs_read known last lines rest t e = good_of_version v t.script (version_read known last lines rest t e)
+  pub good_certs_read : (known : List TitledStatement) (last : ℕ) (lines rest : List (Result LineView LineFault)) (t : TheoremView) → text.piece_from known last (text.at_start v) lines ≡ derives t rest → has_writable_certs t.script ≡ true
+  good_certs_read known last lines rest t e = good_of_version v t.script (version_read known last lines rest t (text_read v known last lines ∙ e))

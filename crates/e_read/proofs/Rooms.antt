@@ -10,7 +10,7 @@ use Rattle.e_deriv.specs.PlacedSteps.{theorem_at}
 use Rattle.e_deriv.specs.Fitting.{is_small_statement}
 use Rattle.e_deriv.proofs.Smallness.{few_objects}
 use Rattle.e_book.specs.declared.parser.TheoremParser.{TheoremParser}
-use Rattle.e_read.specs.Text.{at_start, FitsParser, FitsReading}
+use Rattle.e_read.specs.inner.Machine.{at_start, FitsParser, FitsReading}
 
 -- the objects that are declared and made have numbers
 pub made_fits : (d : TheoremParser) → FitsParser d → let s = grown nothing d.declared in

@@ -26,10 +26,11 @@ use Rattle.e_read.specs.declared.reading.BlockParser.{BlockParser}
 use Rattle.e_cert.specs.CertLines.{cert_line_is_of}
 use Rattle.e_line.specs.Strict.{is_strict_line, exact_line_of, exact_line}
 use Rattle.e_cert.specs.Strict.{exact_cert_line}
-use Rattle.e_read.specs.Strict.{is_apart}
+use Rattle.e_read.specs.inner.Strict.{is_apart}
 use Rattle.e_cert.specs.Owed.{after_cert_line, finish_certs}
 use Rattle.e_read.specs.Laws.{begins_with_bar}
-use Rattle.e_read.specs.Text.{owes_nothing, with_cert_line, certified, owed_by, gone_on, finish_line, with_raw_line, parser_after_exact_line, is_bar, worded, is_lf_end, parser_after_bytes, parser_after_line}
+use Rattle.e_read.specs.Text.{is_bar, is_lf_end}
+use Rattle.e_read.specs.inner.Machine.{owes_nothing, with_cert_line, certified, owed_by, gone_on, finish_line, with_raw_line, parser_after_exact_line, worded, parser_after_bytes, parser_after_line}
 
 pub either : {A : Type 0} (b : Bool) (x y z : A) → cond b x y ≡ z → ((b ≡ true) × (x ≡ z)) ⊎ ((b ≡ false) × (y ≡ z))
 either true x y z e = inl (refl, e)

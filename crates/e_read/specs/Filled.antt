@@ -6,7 +6,7 @@ use Rattle.e_deriv.specs.declared.block.Step.{Step}
 use Rattle.e_deriv.specs.declared.block.Close.{Close}
 use Rattle.e_deriv.specs.Script.{step_script, close_script, Script, Cite, Hence, Make, Apply, Claim}
 use Rattle.e_deriv.specs.Script.{Superposed, Qed, Contradiction, Cases}
-use Rattle.e_cert.specs.Owed.{first_cert}
+use Rattle.e_cert.specs.Certificates.{first_cert}
 use Rattle.e_cert.specs.declared.kept.StepCerts.{StepCerts}
 use Rattle.e_cert.specs.declared.kept.StepCerts.TheVariants.{Certs, Against as OfContradiction}
 

@@ -1,5 +1,5 @@
-pub mod Strict
-pub mod Needs
+pub mod Owing
 pub mod Filled
 pub mod Text
 pub mod Laws
+pub mod inner

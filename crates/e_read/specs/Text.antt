@@ -1,128 +1,114 @@
--- A block of a derivation text, line by line.
-use Rattle.std.specs.Prelude.{◌≡◌, IfSome, IsTrue, ℕ, ◌≤◌, Bool, true, false, ◌∷◌, ◌++◌, List, []}
-use Rattle.std.specs.Prelude.{length, decimal, codes, Option, Some, None, Result, Ok, Err}
-use Rattle.std.specs.Prelude.{if◌then◌else◌}
+-- The grammar of derivation texts: the lines of a book, each as its raw line is spelled, and below
+-- each the certificates that it owes.
+use Rattle.std.specs.Prelude.{◌≡◌, ℕ, ◌&&◌, Bool, true, false, List, [], ◌∷◌, ◌++◌, length, decimal, codes}
+use Rattle.std.specs.Prelude.{option_and_then, Option, Some, None, Result, Ok, Err, if◌then◌else◌}
 use Rattle.std.specs.Option.{option_to_list}
 use Rattle.std.specs.Str.{bytes_eq}
 use Rattle.e_text.specs.Tokens.{tokens_of, joined_words}
-use Rattle.e_text.specs.Lines.{LineView, Ahead, view_of_line, line_of_fault}
-use Rattle.e_text.specs.declared.line.Line.{Line}
+use Rattle.e_text.specs.Lines.{LineView, Ahead, line_of_fault}
 use Rattle.e_text.specs.declared.line.LineEnd.{LineEnd}
 use Rattle.e_text.specs.declared.line.LineEnd.TheVariants as ends
 use Rattle.e_text.specs.declared.line.LineFault.{LineFault}
 use Rattle.e_clause.specs.declared.cert.Version.{Version}
+use Rattle.e_deriv.specs.declared.names.Names.{Names}
 use Rattle.e_deriv.specs.Script.{erased}
 use Rattle.e_line.specs.declared.fault.FaultKind.{FaultKind}
 use Rattle.e_line.specs.declared.fault.FaultKind.TheVariants.{Malformed}
 use Rattle.e_line.specs.declared.raw_line.RawLine.{RawLine}
-use Rattle.e_book.specs.declared.parser.TheoremParser.{TheoremParser}
-use Rattle.e_book.specs.declared.theorem.Theorem.{Theorem}
 use Rattle.e_line.specs.Reading.{◌>>=◌}
+use Rattle.e_line.specs.Strict.{exact_line}
 use Rattle.e_names.specs.TitledStatements.{TitledStatement}
-use Rattle.e_book.specs.ParserViews.{entry_of_parser}
+use Rattle.e_book.specs.declared.theorem.Theorem.{Theorem}
 use Rattle.e_book.specs.TheoremViews.{TheoremView, entry_of}
-use Rattle.e_names.specs.Scope.{FewNames}
-use Rattle.e_book.specs.Steps.{begin, step, no_names, count_names, FitsScope}
-use Rattle.e_book.specs.Grammar.{last_line}
-use Rattle.e_book.specs.Book.{is_done}
+use Rattle.e_book.specs.Steps.{no_names}
+use Rattle.e_book.specs.Open.{Open}
+use Rattle.e_book.specs.Counts.{context_at}
+use Rattle.e_book.specs.Grammar.{Rest, line_after, theorem_ended}
 use Rattle.e_cert.specs.declared.cert_line.CertLine.{CertLine}
-use Rattle.e_cert.specs.declared.owed.Obligation.TheVariants as due
-use Rattle.e_cert.specs.declared.owed.Pending.{Pending}
 use Rattle.e_cert.specs.declared.kept.StepCerts.{StepCerts}
-use Rattle.e_read.specs.declared.reading.BlockParser.{BlockParser}
+use Rattle.e_cert.specs.CertLines.{cert_line_is_of}
+use Rattle.e_cert.specs.Strict.{exact_cert_line}
+use Rattle.e_cert.specs.Certificates.{Lack, Wrong, Due, Nothing, below}
 use Rattle.e_read.specs.declared.reader.Piece.{Piece as PieceRead}
 use Rattle.e_read.specs.declared.reader.Piece.TheVariants as read
-use Rattle.e_read.specs.declared.reader.Progress.{Progress}
-use Rattle.e_read.specs.declared.reader.Progress.TheVariants as turns
 use Rattle.e_read.specs.declared.reader.TextFault.{TextFault}
 use Rattle.e_read.specs.declared.reader.TextFault.TheVariants as faults
-use Rattle.e_cert.specs.CertLines.{cert_line_is_of}
-use Rattle.e_line.specs.Strict.{exact_line}
-use Rattle.e_cert.specs.Strict.{exact_cert_line}
-use Rattle.e_read.specs.Strict.{is_apart}
-use Rattle.e_cert.specs.Owed.{after_cert_line, finish_certs}
-use Rattle.e_read.specs.Needs.{due_of}
 use Rattle.e_read.specs.Filled.{script_with_certs}
+use Rattle.e_read.specs.Owing.{due_after, is_apart}
 
--- ---- lines
-
-abbrev pub owes_nothing : Pending
-owes_nothing = record { names = no_names; due = due.Nothing; sums = None }
+-- what has come of a block: what the lines of its theorem have said; what the last of them owes,
+-- with the names in scope before it, and the lines of certificates below it; and the certificates
+-- of the lines before it
+pub record Block : Type 0 where
+  pub version : Version
+  pub said : Option Open
+  pub names : Names
+  pub due : Due
+  pub lines : List CertLine
+  pub kept : List StepCerts
 
 -- before the first line of a block, in a text of this version
-abbrev pub at_start : Version → BlockParser
-at_start v = record { version = v; parser = None; owed = owes_nothing; kept = [] }
+abbrev pub at_start : Version → Block
+at_start v =
+    record { version = v; said = None; names = no_names; due = Nothing; lines = []; kept = [] }
 
--- a line of a certificate is taken, and what is owed after it is left
-unfoldable pub with_cert_line : BlockParser → CertLine → Result BlockParser FaultKind
-with_cert_line r m = after_cert_line r.owed m >>= λ o. Ok (record r { owed = o })
+-- the lines are a front of certificates, or all
+abbrev pub is_front : {A : Type 0} → Result A Lack → Bool
+is_front (Err Wrong) = false
+is_front found = true
 
--- a line of a certificate, which may come in the version of the text
-unfoldable pub certified : BlockParser → List ℕ → List (List ℕ) → Result BlockParser FaultKind
-certified r line words =
-    exact_cert_line line words
-    >>= λ m. if cert_line_is_of r.version m then with_cert_line r m else Err Malformed
+-- one more line of certificates, with which they are still a front of what is owed
+abbrev pub with_cert_line : Block → CertLine → Result Block FaultKind
+with_cert_line b m =
+    if cert_line_is_of b.version m && is_front (below b.names b.due (b.lines ++ m ∷ []))
+    then Ok (record b { lines = b.lines ++ m ∷ [] }) else Err Malformed
 
--- what a line owes, with the names in scope before it
-unfoldable pub owed_by : List TitledStatement → TheoremParser → RawLine → Result Pending FaultKind
-owed_by known d f =
-    due_of known d f >>= λ new. Ok (record { names = d.in_scope; due = new; sums = None })
+abbrev pub or_lacks : {A : Type 0} → Result A Lack → Result A FaultKind
+or_lacks (Ok x) = Ok x
+or_lacks (Err e) = Err Malformed
 
--- a line begins a theorem, or goes on with it, and owes certificates of its own
-abbrev pub gone_on : List TitledStatement → Option TheoremParser → RawLine
-    → Result (TheoremParser × Pending) FaultKind
-gone_on known None f = begin known f >>= λ e. Ok (e, owes_nothing)
-gone_on known (Some d) f =
-    if is_apart d f then (owed_by known d f >>= λ o. step known d f >>= λ e. Ok (e, o)) else
+-- the names in scope before the next line, and what it owes
+abbrev pub owing_after : List TitledStatement → Option Open → RawLine
+    → Result (Names × Due) FaultKind
+owing_after known None f = Ok (no_names, Nothing)
+owing_after known (Some o) f =
+    if is_apart o f then (due_after known o f >>= λ due. Ok ((context_at known o).names, due)) else
     Err Malformed
 
--- nothing is owed any more, and what was read is kept
-abbrev pub finish_line : BlockParser → Result BlockParser FaultKind
-finish_line r =
-    finish_certs r.owed >>= λ k. Ok (record {
-      version = r.version;
-      parser = r.parser;
-      owed = owes_nothing;
-      kept = r.kept ++ option_to_list k;
-    })
-
--- any other line comes where nothing is owed any more
-unfoldable pub with_raw_line : List TitledStatement → BlockParser → RawLine
-    → Result BlockParser FaultKind
-with_raw_line known r f =
-    finish_line r >>= λ s. gone_on known s.parser f
-    >>= λ e. Ok (record { version = s.version; parser = Some e.0; owed = e.1; kept = s.kept })
-
-unfoldable pub parser_after_exact_line : List TitledStatement → BlockParser → List ℕ
-    → Result BlockParser FaultKind
-parser_after_exact_line known r line = exact_line line >>= λ f. with_raw_line known r f
+-- the next line of the theorem, where what the line before it owes has come
+abbrev pub with_raw_line : List TitledStatement → Block → RawLine → Result Block FaultKind
+with_raw_line known b f = do
+  certs ← or_lacks (below b.names b.due b.lines)
+  owed ← owing_after known b.said f
+  o ← line_after known b.said f
+  Ok (record {
+    version = b.version;
+    said = Some o;
+    names = owed.0;
+    due = owed.1;
+    lines = [];
+    kept = b.kept ++ option_to_list certs;
+  })
 
 abbrev pub is_bar : List ℕ → Bool
 is_bar word = bytes_eq word (codes "|")
 
 -- a line by its words: the sign `|` comes before each line of a certificate
-unfoldable pub worded : List TitledStatement → BlockParser → List ℕ → List (List ℕ)
-    → Result BlockParser FaultKind
-worded known r line [] = Err Malformed
-worded known r line (w ∷ ws) =
-    if is_bar w then certified r line ws else parser_after_exact_line known r line
+abbrev pub with_words : List TitledStatement → Block → List ℕ → List (List ℕ)
+    → Result Block FaultKind
+with_words known b line [] = Err Malformed
+with_words known b line (w ∷ ws) =
+    if is_bar w then (exact_cert_line line ws >>= λ m. with_cert_line b m) else
+    (exact_line line >>= λ f. with_raw_line known b f)
 
 abbrev pub is_lf_end : LineEnd → Bool
 is_lf_end ends.Lf = true
 is_lf_end end = false
 
--- a line by its bytes
-unfoldable pub parser_after_bytes : List TitledStatement → BlockParser → List ℕ
-    → Result BlockParser FaultKind
-parser_after_bytes known r line = worded known r line (tokens_of line)
-
 -- each line ends with a line feed
-unfoldable pub parser_after_line : List TitledStatement → BlockParser → LineView
-    → Result BlockParser FaultKind
-parser_after_line known r l =
-    if is_lf_end l.end then parser_after_bytes known r l.bytes else Err Malformed
-
--- ---- blocks
+abbrev pub with_line : List TitledStatement → Block → LineView → Result Block FaultKind
+with_line known b l =
+    if is_lf_end l.end then with_words known b l.bytes (tokens_of l.bytes) else Err Malformed
 
 -- what comes next: a theorem with its derivation for its script, or the last line
 pub data TextPiece : Type 0 where
@@ -133,82 +119,34 @@ pub data TextPiece : Type 0 where
 abbrev pub last_line_of : ℕ → List ℕ
 last_line_of n = joined_words (codes "accepted" ∷ decimal n ∷ [])
 
-abbrev pub is_last_line : List TitledStatement → LineView → Bool
-is_last_line known l =
-    if is_lf_end l.end then bytes_eq l.bytes (last_line_of (length known)) else false
-
--- a theorem with its certificates at their lines
-abbrev pub derived : TheoremParser → List StepCerts → TheoremView
-derived d kept =
-    let t = entry_of_parser d in record t { script = (script_with_certs t.script kept).0 }
+-- it comes in the place of a theorem's first line
+abbrev pub is_end : List TitledStatement → Option Open → LineView → Bool
+is_end known None l = is_lf_end l.end && bytes_eq l.bytes (last_line_of (length known))
+is_end known (Some o) l = false
 
 abbrev pub garbled_at : {A : Type 0} → ℕ → Result A FaultKind → Result A ℕ
 garbled_at line (Ok x) = Ok x
 garbled_at line (Err kind) = Err line
 
--- the last line of a theorem has come
-abbrev pub is_finished : Option TheoremParser → Bool
-is_finished None = false
-is_finished (Some d) = is_done d
-
-abbrev pub finished : Option TheoremParser → List StepCerts → Option TheoremView
-finished None kept = None
-finished (Some d) kept = if is_done d then Some (derived d kept) else None
-
-abbrev pub or_on : Option TheoremView → List (Result LineView LineFault)
-    → Result (TextPiece × List (Result LineView LineFault)) ℕ
-    → Result (TextPiece × List (Result LineView LineFault)) ℕ
-or_on None lines more = more
-or_on (Some t) lines more = Ok (Derived t, lines)
-
--- the line is the last one of a text, at the place of a theorem's first line
-abbrev pub is_end : List TitledStatement → Option TheoremParser → LineView → Bool
-is_end known None l = is_last_line known l
-is_end known (Some d) l = false
+-- a theorem that has ended, with its certificates at their lines, or what comes after
+abbrev pub or_on : Option TheoremView → List StepCerts → Rest → Result (TextPiece × Rest) ℕ
+    → Result (TextPiece × Rest) ℕ
+or_on None kept lines more = more
+or_on (Some t) kept lines more =
+    Ok (Derived (record t { script = (script_with_certs t.script kept).0 }), lines)
 
 -- the rest of what comes next and the lines after it, or the first line that is malformed at its
 -- place; last is the number after the last line
-unfoldable pub piece_from : List TitledStatement → ℕ → BlockParser
-    → List (Result LineView LineFault) → Result (TextPiece × List (Result LineView LineFault)) ℕ
-piece_from known last r [] = Err last
-piece_from known last r (Err f ∷ lines) = Err (line_of_fault f)
-piece_from known last r (Ok line ∷ lines) =
-    if is_end known r.parser line then Ok (Last, lines) else
-    (garbled_at line.number (parser_after_line known r line)
-    >>= λ next. or_on (finished next.parser next.kept) lines (piece_from known last next lines))
+unfoldable pub piece_from : List TitledStatement → ℕ → Block → Rest → Result (TextPiece × Rest) ℕ
+piece_from known last b [] = Err last
+piece_from known last b (Err f ∷ lines) = Err (line_of_fault f)
+piece_from known last b (Ok line ∷ lines) =
+    if is_end known b.said line then Ok (Last, lines) else
+    (garbled_at line.number (with_line known b line)
+    >>= λ n. or_on (option_and_then theorem_ended n.said) n.kept lines
+    (piece_from known last n lines))
 
--- what a line made of a block, unless memory ran out
-abbrev pub LineReads : Result (Unit {0}) TextFault → BlockParser → Result BlockParser ℕ → Type 0
-LineReads (Ok u) new read = read ≡ Ok new
-LineReads (Err (faults.Garbled line)) new read = read ≡ Err line
-LineReads (Err faults.NoMemory) new read = Unit {0}
-
--- the next line, or what comes next is garbled whatever of a block has come
-abbrev pub LineIs : Result Line TextFault → Ahead → Ahead → Type 0
-LineIs (Ok line) old new = old.lines ≡ Ok (view_of_line line) ∷ new.lines
-LineIs (Err (faults.Garbled n)) old new =
-    (known : List TitledStatement) (r : BlockParser)
-    → piece_from known (last_line old) r old.lines ≡ Err n
-LineIs (Err faults.NoMemory) old new = ⊥
-
--- what comes next, where this line comes before any others and made this of the block, unless
--- memory ran out
-abbrev pub ProgressIs : List TitledStatement → BlockParser → LineView → BlockParser
-    → Result Progress TextFault → Type 0
-ProgressIs known old line new (Ok turns.Last) =
-    (last : ℕ) (rest : List (Result LineView LineFault))
-    → piece_from known last old (Ok line ∷ rest) ≡ Ok (Last, rest)
-ProgressIs known old line new (Ok turns.Complete) = IsTrue (is_finished new.parser)
-    × ((t : TheoremView) → finished new.parser new.kept ≡ Some t → (last : ℕ)
-    (rest : List (Result LineView LineFault))
-    → piece_from known last old (Ok line ∷ rest) ≡ Ok (Derived t, rest))
-ProgressIs known old line new (Ok turns.Continue) =
-    (last : ℕ) (rest : List (Result LineView LineFault))
-    → piece_from known last old (Ok line ∷ rest) ≡ piece_from known last new rest
-ProgressIs known old line new (Err (faults.Garbled n)) =
-    (last : ℕ) (rest : List (Result LineView LineFault))
-    → piece_from known last old (Ok line ∷ rest) ≡ Err n
-ProgressIs known old line new (Err faults.NoMemory) = Unit {0}
+-- ---- what is read
 
 -- what was answered is what comes next, unless memory ran out
 abbrev pub TextReads : List TitledStatement → Result PieceRead TextFault → Ahead
@@ -226,18 +164,3 @@ without_certs t = record t { script = erased t.script }
 abbrev pub OfTheorem : (Theorem → Type 0) → PieceRead → Type 0
 OfTheorem holds (read.Theorem t) = holds t
 OfTheorem holds (read.Last n) = Unit {0}
-
--- ---- what is known of a block while its lines come: its names and counts are within the limits
-
-pub record FitsParser (d : TheoremParser) : Type 0 where
-  pub scope : FitsScope d
-  -- no more objects are made than have names
-  pub made : length d.made ≤ count_names d.names
-
-pub record FitsReading (r : BlockParser) : Type 0 where
-  pub parser : IfSome r.parser FitsParser
-  pub names : FewNames r.owed.names
-
-pub record FitsBegun (d : TheoremParser) (o : Pending) : Type 0 where
-  pub parser : FitsParser d
-  pub names : FewNames o.names

@@ -1,7 +1,7 @@
 //! A script with certificates at its lines.
 ghost use Rattle.std.specs.Prelude.{◌≡◌, IfOk, OnOk};
 ghost use Rattle.e_deriv.specs.Script.{script_of};
-ghost use Rattle.e_cert.specs.Owed.{first_cert};
+ghost use Rattle.e_cert.specs.Certificates.{first_cert};
 ghost use Rattle.e_read.specs.Filled.{after_next, next_certs, next_against};
 ghost use Rattle.e_read.specs.Filled.{Fills, FillsStep, FillsClose};
 

@@ -15,9 +15,10 @@ ghost use Rattle.e_names.specs.TitledStatements.{stated_by};
 ghost use Rattle.e_line.specs.Reading.{Gives, each, or_malformed};
 ghost use Rattle.e_book.specs.Blocks.{made_in};
 ghost use Rattle.e_book.specs.Steps.{FitsScope};
-ghost use Rattle.e_read.specs.Needs;
-ghost use Rattle.e_read.specs.Text.{FitsParser};
-ghost use Rattle.e_read.specs.Needs.{open_goal, one_each, needs_in, due_of};
+ghost use Rattle.e_read.specs.inner.Needs;
+ghost use Rattle.e_read.specs.inner.Machine.{FitsParser};
+ghost use Rattle.e_read.specs.Owing.{needs_in};
+ghost use Rattle.e_read.specs.inner.Needs.{open_goal, one_each, due_of};
 
 use e_book::{BlockKind, OpenBlock, TheoremParser};
 use e_cert::{Certs, Obligation};
@@ -83,7 +84,7 @@ fn needs_in(
 }
 
 /// What an application owes.
-#[tactic(auto, unfolding(crate::specs::Needs::needs_of_raw_apply))]
+#[tactic(auto, unfolding(crate::specs::inner::Needs::needs_of_raw_apply))]
 fn needs_of_use(
     alloc: Global,
     known: &Theorems,
@@ -180,7 +181,7 @@ fn goal_made(parser: &TheoremParser) -> &[Sort]
 }
 
 /// What a close by `qed` owes.
-#[tactic(auto, unfolding(crate::specs::Needs::needs_at_qed))]
+#[tactic(auto, unfolding(crate::specs::inner::Needs::needs_at_qed))]
 fn needs_at_qed(
     alloc: Global,
     parser: &TheoremParser,
@@ -195,7 +196,7 @@ fn needs_at_qed(
 }
 
 /// What a line owes.
-#[tactic(auto, unfolding(crate::specs::Needs::due_of))]
+#[tactic(auto, unfolding(crate::specs::inner::Needs::due_of))]
 pub(crate) fn due_of(
     alloc: Global,
     known: &Theorems,

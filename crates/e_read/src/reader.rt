@@ -11,9 +11,11 @@ ghost use Rattle.e_names.specs.TitledStatements.{stated_by};
 ghost use Rattle.e_book.specs.Grammar.{last_line};
 ghost use Rattle.e_book.specs.TheoremViews.{entry_of};
 ghost use Rattle.e_book.specs.HasSpelling.{HasSpelling};
-ghost use Rattle.e_read.specs.Text.{at_start, garbled_at, parser_after_line};
-ghost use Rattle.e_read.specs.Text.{LineIs, LineReads, ProgressIs, FitsReading};
-ghost use Rattle.e_read.specs.Text.{piece_from, without_certs, OfTheorem, TextReads};
+ghost use Rattle.e_read.specs.Text.{garbled_at, at_start, piece_from};
+ghost use Rattle.e_read.specs.Text.{without_certs, OfTheorem, TextReads};
+ghost use Rattle.e_read.specs.inner.Machine;
+ghost use Rattle.e_read.specs.inner.Machine.{parser_after_line};
+ghost use Rattle.e_read.specs.inner.Machine.{LineIs, LineReads, ProgressIs, FitsReading};
 
 use crate::reading::BlockParser;
 use e_book::Theorem;
@@ -137,7 +139,8 @@ fn read_piece(
     requires few { length known.now < 2 ^ 32 - 1 }
     requires known { IsTrue (list_all is_small_statement (stated_by known.now)) }
     ensures read { TextReads known.now result lines.new
-        (piece_from known.now (last_line lines.old) (at_start version) lines.old.lines) }
+        (Machine.piece_from known.now (last_line lines.old) (Machine.at_start version)
+        lines.old.lines) }
     ensures last { OnOk result (last_line lines.new ≡ last_line lines.old) }
     ensures shorter { OnOk result (length lines.new.lines < length lines.old.lines) }
 {

@@ -10,11 +10,13 @@ ghost use Rattle.e_book.specs.TheoremViews.{entry_of};
 ghost use Rattle.e_line.specs.Reading.{texts, Gives, Moves};
 ghost use Rattle.e_names.specs.Scope.{FewNames};
 ghost use Rattle.e_book.specs.Steps.{no_names};
-ghost use Rattle.e_read.specs.Text.{owes_nothing, at_start, with_cert_line, certified, owed_by};
-ghost use Rattle.e_read.specs.Text.{gone_on, finish_line, with_raw_line, parser_after_exact_line};
-ghost use Rattle.e_read.specs.Text.{is_bar, worded, is_lf_end, parser_after_bytes};
-ghost use Rattle.e_read.specs.Text.{parser_after_line, derived, is_finished, finished, is_end};
-ghost use Rattle.e_read.specs.Text.{is_last_line, last_line_of, FitsParser, FitsReading, FitsBegun};
+ghost use Rattle.e_read.specs.inner.Machine.{owes_nothing, at_start, with_cert_line, certified, owed_by};
+ghost use Rattle.e_read.specs.inner.Machine.{gone_on, finish_line, with_raw_line, parser_after_exact_line};
+ghost use Rattle.e_read.specs.Text.{is_bar, is_lf_end};
+ghost use Rattle.e_read.specs.inner.Machine.{worded, parser_after_bytes};
+ghost use Rattle.e_read.specs.inner.Machine.{parser_after_line, derived, is_finished, finished, is_end};
+ghost use Rattle.e_read.specs.Text.{last_line_of};
+ghost use Rattle.e_read.specs.inner.Machine.{is_last_line, FitsParser, FitsReading, FitsBegun};
 
 use crate::filling::fill;
 use crate::kept::AllCerts;
@@ -92,7 +94,7 @@ fn gone_on(
 }
 
 /// What a line owes, with the names in scope before it.
-#[tactic(auto, unfolding(crate::specs::Text::owed_by))]
+#[tactic(auto, unfolding(crate::specs::inner::Machine::owed_by))]
 fn owed_by(
     alloc: Global,
     known: &Theorems,
@@ -170,7 +172,7 @@ impl BlockParser {
     }
 
     /// Takes a line of a certificate.
-    #[tactic(auto, unfolding(crate::specs::Text::certified, crate::specs::Text::with_cert_line))]
+    #[tactic(auto, unfolding(crate::specs::inner::Machine::certified, crate::specs::inner::Machine::with_cert_line))]
     fn take_certificate(
         &mut self,
         alloc: Global,
@@ -193,7 +195,7 @@ impl BlockParser {
     }
 
     /// Takes any other line: nothing is owed any more.
-    #[tactic(auto, unfolding(crate::specs::Text::parser_after_exact_line))]
+    #[tactic(auto, unfolding(crate::specs::inner::Machine::parser_after_exact_line))]
     fn take_step(
         &mut self,
         alloc: Global,
@@ -217,7 +219,7 @@ impl BlockParser {
     }
 
     /// Nothing is owed any more, and the theorem goes on with this raw line.
-    #[tactic(auto, unfolding(crate::specs::Text::with_raw_line))]
+    #[tactic(auto, unfolding(crate::specs::inner::Machine::with_raw_line))]
     fn take_raw_line(
         &mut self,
         alloc: Global,
@@ -252,7 +254,7 @@ impl BlockParser {
     }
 
     /// Takes a line by its words.
-    #[tactic(auto, unfolding(crate::specs::Text::worded))]
+    #[tactic(auto, unfolding(crate::specs::inner::Machine::worded))]
     fn take_words(
         &mut self,
         alloc: Global,
@@ -281,7 +283,7 @@ impl BlockParser {
     }
 
     /// Takes a line by its bytes.
-    #[tactic(auto, unfolding(crate::specs::Text::parser_after_bytes))]
+    #[tactic(auto, unfolding(crate::specs::inner::Machine::parser_after_bytes))]
     fn take_bytes(&mut self, alloc: Global, known: &Theorems, line: &[u8]) -> Result<(), LineError>
         requires reading { FitsReading self.old }
         requires few { OnSome self.old.parser (length known.now ≤ most_theorems) }
@@ -295,7 +297,7 @@ impl BlockParser {
     }
 
     /// Takes the next line, which ends with a line feed.
-    #[tactic(auto, unfolding(crate::specs::Text::parser_after_line))]
+    #[tactic(auto, unfolding(crate::specs::inner::Machine::parser_after_line))]
     pub(crate) fn take(
         &mut self,
         alloc: Global,

@@ -1,6 +1,7 @@
 //! Neighbouring lines that could be one.
 ghost use Rattle.std.specs.Prelude.{◌≡◌};
-ghost use Rattle.e_read.specs.Strict.{ends_with, is_apart};
+ghost use Rattle.e_read.specs.Owing.{ends_with};
+ghost use Rattle.e_read.specs.inner.Strict.{is_apart};
 
 use e_book::TheoremParser;
 use e_line::RawLine;

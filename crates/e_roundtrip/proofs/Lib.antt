@@ -6,3 +6,4 @@ pub mod Blocks
 pub mod Formed
 pub mod Texts
 pub mod Trimmed
+mod Checks

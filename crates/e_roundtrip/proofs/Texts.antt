@@ -6,3 +6,5 @@ pub mod ReadIsSpelled
 pub mod SpelledIsRead
 pub mod WrittenIsVerified
 pub mod VerifiedTexts
+pub mod OneTree
+pub mod GarbledTexts

@@ -1,5 +1,5 @@
 -- What holds between reading, spelling and verifying, whatever the code does.
-use Rattle.std.specs.Prelude.{◌≡◌, ℕ, IsTrue, List, [], ◌++◌, length, Result, Ok}
+use Rattle.std.specs.Prelude.{◌≡◌, ℕ, IsTrue, List, [], ◌++◌, length, map, Result, Ok}
 use Rattle.std.specs.List.{list_all}
 use Rattle.e_text.specs.Lines.{LineView, text_of_lines}
 use Rattle.e_text.specs.declared.line.LineFault.{LineFault}
@@ -19,12 +19,12 @@ use Rattle.e_book.specs.HasSpelling.{HasSpelling}
 use Rattle.e_trim.specs.Trimmed.{trimmed}
 use Rattle.e_read.specs.Text.{Derived, at_start, piece_from}
 use Rattle.e_spell.specs.Spelling.{spelled_lines, spelled}
-use Rattle.e_judgement.specs.declared.judgement.Judgement.TheVariants.{Verified}
+use Rattle.e_judgement.specs.declared.judgement.Judgement.TheVariants.{Verified, Garbled}
 use Rattle.e_judgement.specs.Judged.{JudgesText}
 use Rattle.e_roundtrip.specs.Formed.{Formed}
 use Rattle.e_roundtrip.specs.Spelled.{ShowsEnded, CanBeSpelled}
 use Rattle.e_roundtrip.specs.Written.{AllCanBeSpelled, AllCanBeVerified, SpellsProofs, judgement_of}
-use Rattle.e_roundtrip.specs.Written.{derivation_text}
+use Rattle.e_roundtrip.specs.Written.{derivation_text, entry_with}
 
 -- ---- what is read is spelled so
 
@@ -113,3 +113,17 @@ WrittenIsVerified =
 -- and a text that is judged verified is so written: it spells proofs, and nothing else
 abbrev pub VerifiedIsWritten : Type 0
 VerifiedIsWritten = (text : List ℕ) (n : ℕ) → JudgesText text (Verified n) → SpellsProofs n text
+
+-- ---- one text, one tree
+
+-- a text spells at most one list of theorems with their derivations, and is of one version
+abbrev pub OneTreeForOneText : Type 0
+OneTreeForOneText =
+    (v w : Version) (ps qs : List (TheoremView × Script)) → AllCanBeSpelled v [] ps
+    → AllCanBeSpelled w [] qs → derivation_text v ps ≡ derivation_text w qs
+    → (v ≡ w) × (map entry_with ps ≡ map entry_with qs)
+
+-- a text in which a line is malformed at its place spells no proofs
+abbrev pub GarbledSpellsNothing : Type 0
+GarbledSpellsNothing =
+    (text : List ℕ) (n line : ℕ) → JudgesText text (Garbled line) → SpellsProofs n text → ⊥

@@ -62,6 +62,10 @@ accepted_blocks_line n = codes "accepted " ++ (decimal n ++ codes "\n")
 abbrev pub derivation_text : Version → List (TheoremView × Script) → List ℕ
 derivation_text v ps = version_line v ++ (spelled_blocks [] ps ++ accepted_blocks_line (length ps))
 
+-- a theorem with a derivation for its script
+abbrev pub entry_with : TheoremView × Script → TheoremView
+entry_with p = record p.0 { script = p.1 }
+
 -- each derivation proves its theorem's statement from those of the theorems before it
 abbrev pub AllProved : List TitledStatement → List (TheoremView × Script) → Type 0
 AllProved known [] = Unit {0}
@@ -74,5 +78,8 @@ pub record SpellsProofs (n : ℕ) (text : List ℕ) : Type 0 where
   pub version : Version
   pub theorems : List (TheoremView × Script)
   pub count : length theorems ≡ n
+  -- lines can spell the theorems and their derivations, each where those before it are known: so no
+  -- other theorems and derivations have this text
+  pub spelled : AllCanBeSpelled version [] theorems
   pub proved : AllProved [] theorems
   pub bytes : text ≡ derivation_text version theorems

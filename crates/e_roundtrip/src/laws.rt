@@ -3,6 +3,7 @@ ghost use Rattle.e_roundtrip.specs.Laws.{ReadIsSpelled, ReadTextIsSpelled, ReadC
 ghost use Rattle.e_roundtrip.specs.Laws.{SpelledIsRead, CertifiedIsFormed, FilledHasSpelling};
 ghost use Rattle.e_roundtrip.specs.Laws.{TrimmedHasSpelling, WrittenIsJudged};
 ghost use Rattle.e_roundtrip.specs.Laws.{WrittenIsVerified, VerifiedIsWritten};
+ghost use Rattle.e_roundtrip.specs.Laws.{OneTreeForOneText, GarbledSpellsNothing};
 
 /// The lines that are read as a theorem with its derivation are exactly the lines of its one
 /// spelling.
@@ -56,7 +57,18 @@ pub fn written_is_verified()
 {}
 
 /// A text that is judged verified is the head line, the spellings of theorems, each with a
-/// derivation that proves it from those before it, and the line with their number.
+/// derivation that proves it from those before it, and the line with their number; and lines can
+/// spell them.
 pub fn verified_is_written()
     ensures { VerifiedIsWritten }
+{}
+
+/// A text spells at most one list of theorems with their derivations: one spelling has one tree.
+pub fn one_tree_for_one_text()
+    ensures { OneTreeForOneText }
+{}
+
+/// A text in which a line is malformed at its place spells no proofs.
+pub fn garbled_spells_nothing()
+    ensures { GarbledSpellsNothing }
 {}

@@ -62,7 +62,8 @@ use Rattle.e_cert.specs.declared.owed.Obligation.TheVariants as due
 use Rattle.e_cert.specs.declared.kept.StepCerts.{StepCerts}
 use Rattle.e_cert.specs.declared.kept.StepCerts.TheVariants as kept
 use Rattle.e_line.specs.Strict.{is_direct, are_direct}
-use Rattle.e_read.specs.Needs.{shown_inside, shown_around, goal_or, open_goal, one_each, needs_in, needs_of_raw_apply, needs_at_qed, due_of}
+use Rattle.e_read.specs.Owing.{needs_in}
+use Rattle.e_read.specs.inner.Needs.{shown_inside, shown_around, goal_or, open_goal, one_each, needs_of_raw_apply, needs_at_qed, due_of}
 use Rattle.e_spell.specs.Certificates.{certs_lines, contradiction_lines}
 use Rattle.e_roundtrip.specs.Formed.{certs_formed, against_formed}
 use Rattle.e_roundtrip.proofs.Certificates.FormsOfOwedCertificates.{KeptIsFormed}

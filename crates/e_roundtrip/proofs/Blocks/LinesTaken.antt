@@ -32,10 +32,10 @@ use Rattle.e_clause.specs.declared.cert.Version.{Version}
 use Rattle.e_cert.specs.CertLines.{cert_line_text, cert_line_is_of}
 use Rattle.e_cert.proofs.FormsOfCertificates.{are_certs_of_version, AreOfVersion}
 use Rattle.e_line.specs.Strict.{is_strict_line, exact_line_of, exact_line}
-use Rattle.e_read.specs.Strict.{is_apart}
+use Rattle.e_read.specs.inner.Strict.{is_apart}
 use Rattle.e_cert.specs.Owed.{after_cert_line, finish_certs}
-use Rattle.e_read.specs.Needs.{due_of}
-use Rattle.e_read.specs.Text.{certified, with_cert_line, owed_by, with_raw_line, parser_after_exact_line, worded}
+use Rattle.e_read.specs.inner.Needs.{due_of}
+use Rattle.e_read.specs.inner.Machine.{certified, with_cert_line, owed_by, with_raw_line, parser_after_exact_line, worded}
 use Rattle.e_roundtrip.proofs.Certificates.CertLinesAgain.{CertLineNamed, cert_line_tokens_again, strict_cert_line_again}
 use Rattle.e_roundtrip.proofs.Certificates.Feeding.{OneCertLine, Fed, owing}
 use Rattle.e_roundtrip.proofs.Certificates.CertsPut.{Keeps}

@@ -39,8 +39,8 @@ use Rattle.e_cert.specs.declared.owed.Obligation.TheVariants as due
 use Rattle.e_cert.specs.declared.kept.StepCerts.{StepCerts}
 use Rattle.e_cert.specs.declared.kept.StepCerts.TheVariants as kept
 use Rattle.e_line.specs.Strict.{are_direct, is_strict_line}
-use Rattle.e_read.specs.Strict.{is_apart}
-use Rattle.e_read.specs.Needs.{one_each, needs_of_raw_apply, needs_at_qed, due_of}
+use Rattle.e_read.specs.inner.Strict.{is_apart}
+use Rattle.e_read.specs.inner.Needs.{one_each, needs_of_raw_apply, needs_at_qed, due_of}
 use Rattle.e_roundtrip.specs.Formed.{certs_formed}
 use Rattle.e_roundtrip.proofs.Certificates.FormsOfOwedCertificates.{DueFormed, KeptIsFormed}
 use Rattle.e_roundtrip.proofs.OneLine.RawLinesRead.{Read}

@@ -51,7 +51,7 @@ use Rattle.e_book.proofs.canonical.ScriptParts.{steps_of, close_of, same_script,
 use Rattle.e_book.proofs.canonical.LinesRead.{Inside, proving, splitting, after_step, deep, copied, resume, second, applied_after, step_cite, step_hence, step_let, step_apply, step_claim, step_superpose, step_cases, step_else, step_qed, step_contradiction, claim_closed, superpose_closed, first_closed, second_closed}
 use Rattle.e_cert.specs.declared.owed.Obligation.TheVariants as due
 use Rattle.e_cert.specs.declared.kept.StepCerts.TheVariants as kept
-use Rattle.e_read.specs.Needs.{one_each, due_of}
+use Rattle.e_read.specs.inner.Needs.{one_each, due_of}
 use Rattle.e_spell.specs.Certificates.{cert_lines, against_lines}
 use Rattle.e_spell.specs.Spelling.{script_lines}
 use Rattle.e_roundtrip.specs.Formed.{certs_formed, is_formed}

@@ -36,7 +36,7 @@ use Rattle.e_names.specs.Canonical.{claim_raw_line, superpose_raw_line, cases_ra
 use Rattle.e_line.proofs.base.Bound.{bind_ok, ok_is, read_ok}
 use Rattle.e_cert.specs.declared.kept.StepCerts.{StepCerts}
 use Rattle.e_cert.specs.declared.kept.StepCerts.TheVariants.{Certs}
-use Rattle.e_read.specs.Needs.{shown_inside, shown_around, goal_or}
+use Rattle.e_read.specs.inner.Needs.{shown_inside, shown_around, goal_or}
 use Rattle.e_spell.specs.Certificates.{certs_lines}
 use Rattle.e_roundtrip.proofs.Formed.FormedLines.{CopyFormed}
 use Rattle.e_roundtrip.proofs.Blocks.SpelledSteps.{StepsSaid, ScriptSaid, no_steps, steps_as, script_as, steps_more, steps_closed, claimed_said, copied_said, cases_said}

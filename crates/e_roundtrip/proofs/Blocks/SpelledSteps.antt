@@ -23,7 +23,7 @@ use Rattle.e_line.specs.Canonical.{line_of}
 use Rattle.e_names.specs.Canonical.{by_raw_line, hence_raw_line, let_raw_line, apply_raw_line, claim_raw_line, superpose_raw_line, cases_raw_line, else_raw_line, qed_raw_line, contradiction_raw_line}
 use Rattle.e_cert.specs.declared.kept.StepCerts.{StepCerts}
 use Rattle.e_cert.specs.declared.kept.StepCerts.TheVariants.{Certs, Against}
-use Rattle.e_cert.specs.Owed.{first_cert}
+use Rattle.e_cert.specs.Certificates.{first_cert}
 use Rattle.e_read.specs.Filled.{script_with_certs}
 use Rattle.e_spell.specs.Certificates.{certs_lines, contradiction_lines}
 use Rattle.e_spell.specs.Spelling.{script_lines}

@@ -48,7 +48,8 @@ use Rattle.e_cert.specs.declared.kept.StepCerts.{StepCerts}
 use Rattle.e_cert.specs.declared.kept.StepCerts.TheVariants as kept
 use Rattle.e_cert.specs.CertLines.{sized, size_of, multiplier_of, raw_row_of, may_differ, bare_cert_line, differs_of, transfer_of, row_cert_line_of, cert_line_named, cert_line_of, cert_line_text, place_of_digits as place_in, fact_cert_line_of}
 use Rattle.e_cert.specs.Strict.{is_strict_cert_line, exact_cert_line}
-use Rattle.e_cert.specs.Owed.{has_more, certificate, row_in, row_put, sum_begun, differs_put, sums_ended, transfer_put, part_put, metric_put, takes_metric, clash_put, transfer_rule, count_others, transfer_at, open_transfer_in, transfer_begun, with_sums_ended, sums_after, due_after, after_cert_line, kept_of, finish_certs}
+use Rattle.e_cert.specs.Owed.{has_more, certificate, row_put, sum_begun, differs_put, sums_ended, transfer_put, part_put, metric_put, takes_metric, clash_put, count_others, transfer_at, open_transfer_in, transfer_begun, with_sums_ended, sums_after, due_after, after_cert_line, kept_of, finish_certs}
+use Rattle.e_cert.specs.Rows.{row_in, transfer_rule}
 use Rattle.e_cert.proofs.FormsOfCertLines.{CertLineSaid, strict_said}
 use Rattle.e_roundtrip.specs.Formed.{against_formed}
 use Rattle.e_roundtrip.proofs.Certificates.CertLinesRead.{CertLineSigned, cert_line_signed}

@@ -27,7 +27,7 @@ use Rattle.e_cert.specs.declared.owed.Pending.{Pending}
 use Rattle.e_cert.specs.declared.kept.StepCerts.{StepCerts}
 use Rattle.e_cert.specs.declared.kept.StepCerts.TheVariants as kept
 use Rattle.e_cert.specs.Owed.{certificate, transfer_put, part_put, after_cert_line, finish_certs}
-use Rattle.e_read.specs.Needs.{one_each}
+use Rattle.e_read.specs.inner.Needs.{one_each}
 use Rattle.e_spell.specs.Certificates.{part_lines, cert_lines, against_lines}
 use Rattle.e_roundtrip.proofs.Certificates.Feeding.{Fed, owing, Ends, Puts, puts_append, GoodSums, metric_fed, GoodPart, part_fed}
 use Rattle.e_clause.specs.declared.cert.Version.{Version}

@@ -42,7 +42,8 @@ use Rattle.e_cert.specs.declared.owed.Obligation.TheVariants as due
 use Rattle.e_cert.specs.declared.kept.StepCerts.{StepCerts}
 use Rattle.e_cert.specs.declared.kept.StepCerts.TheVariants as kept
 use Rattle.e_cert.specs.CertLines.{may_differ}
-use Rattle.e_cert.specs.Owed.{most_rows, fact_in, row_in, with_row, row_put, sum_begun, differs_put, sums_ended, has_more, certificate, transfer_put, part_put, metric_put, kept_of}
+use Rattle.e_cert.specs.Owed.{with_row, row_put, sum_begun, differs_put, sums_ended, has_more, certificate, transfer_put, part_put, metric_put, kept_of}
+use Rattle.e_cert.specs.Rows.{most_rows, fact_in, row_in}
 use Rattle.e_cert.proofs.FormsOfCertLines.{RowSaid, good_row}
 use Rattle.e_roundtrip.specs.Formed.{sum_formed, names_difference, difference_formed, sums_formed, part_formed, has_parts, cert_formed, certs_formed, against_formed}
 use Rattle.e_roundtrip.proofs.Formed.CertifiedFormed.{on_found}

@@ -48,7 +48,8 @@ use Rattle.e_cert.specs.declared.kept.StepCerts.{StepCerts}
 use Rattle.e_cert.specs.declared.kept.StepCerts.TheVariants as kept
 use Rattle.e_cert.specs.CertLines.{cert_line_words, cert_line_text}
 use Rattle.e_cert.specs.CertLines as reading
-use Rattle.e_cert.specs.Owed.{most_rows, fact_in, row_in, with_row, row_put, sum_begun, differs_put, sums_ended, has_more, certificate, transfer_put, part_put, metric_put, takes_metric, clash_put, transfer_rule, count_others, transfer_at, open_transfer_in, transfer_begun, with_sums_ended, sums_after, due_after, after_cert_line, kept_of, finish_certs}
+use Rattle.e_cert.specs.Owed.{with_row, row_put, sum_begun, differs_put, sums_ended, has_more, certificate, transfer_put, part_put, metric_put, takes_metric, clash_put, count_others, transfer_at, open_transfer_in, transfer_begun, with_sums_ended, sums_after, due_after, after_cert_line, kept_of, finish_certs}
+use Rattle.e_cert.specs.Rows.{most_rows, fact_in, row_in, transfer_rule}
 use Rattle.e_spell.specs.Certificates.{row_words, row_line, sum_lines, metric_lines, part_lines, transfer_lines, cert_lines, certs_lines, against_lines, contradiction_lines}
 use Rattle.e_roundtrip.proofs.OneLine.NamesSpelled.{keeps_all}
 use Rattle.e_roundtrip.proofs.OneLine.LitsSpelled.{term_named, lit_named}

@@ -22,7 +22,7 @@ use Rattle.e_cert.specs.declared.cert_line.RawRow.{RawRow}
 use Rattle.e_cert.specs.declared.cert_line.RawRow.TheVariants as rows
 use Rattle.e_cert.specs.CertLines.{raw_row_words}
 use Rattle.e_line.specs.Strict.{is_direct}
-use Rattle.e_cert.specs.Owed.{row_in}
+use Rattle.e_cert.specs.Rows.{row_in}
 use Rattle.e_spell.specs.Certificates.{row_words as spelled_row}
 use Rattle.e_roundtrip.proofs.Certificates.CertLinesAgain.{RowNamed}
 

@@ -26,7 +26,8 @@ use Rattle.e_names.specs.Canonical.{name_of_object, rule_name}
 use Rattle.e_names.proofs.resolution.Lookups.{InOrder, objects_again}
 use Rattle.e_names.proofs.resolution.RuleNames.{title_again, rule_name_is}
 use Rattle.e_cert.specs.declared.owed.OpenTransfer.{OpenTransfer}
-use Rattle.e_cert.specs.Owed.{transfer_rule, transfer_at, open_transfer_in}
+use Rattle.e_cert.specs.Owed.{transfer_at, open_transfer_in}
+use Rattle.e_cert.specs.Rows.{transfer_rule}
 use Rattle.e_roundtrip.proofs.Certificates.Feeding.{GoodPart}
 
 -- ---- the row of the rule

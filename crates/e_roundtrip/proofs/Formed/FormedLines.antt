@@ -33,8 +33,8 @@ use Rattle.e_names.specs.Scope.{scope_of_names}
 use Rattle.e_names.specs.TitledStatements.{TitledStatement, stated_by, theorem_of}
 use Rattle.e_line.proofs.base.Bound.{bind_ok, ok_is, read_ok}
 use Rattle.e_names.proofs.read_lines.Building.{named_scope}
-use Rattle.e_cert.specs.Owed.{first_cert}
-use Rattle.e_read.specs.Needs.{needs_in}
+use Rattle.e_cert.specs.Certificates.{first_cert}
+use Rattle.e_read.specs.Owing.{needs_in}
 use Rattle.e_roundtrip.specs.Formed.{cert_formed, certs_formed, against_formed, formed_beside, is_formed}
 use Rattle.e_roundtrip.proofs.Formed.CertifiedFormed.{then_lines}
 

@@ -27,8 +27,8 @@ use Rattle.e_book.proofs.canonical.ScriptRead.{Ready}
 use Rattle.e_cert.specs.declared.owed.Obligation.{Obligation}
 use Rattle.e_cert.specs.declared.kept.StepCerts.{StepCerts}
 use Rattle.e_line.specs.Strict.{is_strict_line}
-use Rattle.e_read.specs.Strict.{is_apart}
-use Rattle.e_read.specs.Needs.{open_goal, due_of}
+use Rattle.e_read.specs.inner.Strict.{is_apart}
+use Rattle.e_read.specs.inner.Needs.{open_goal, due_of}
 use Rattle.e_spell.specs.Spelling.{script_lines}
 use Rattle.e_roundtrip.specs.Formed.{certs_formed, formed_beside, is_formed}
 use Rattle.e_roundtrip.proofs.Blocks.FilledBack.{kepts}

@@ -31,8 +31,9 @@ use Rattle.e_line.proofs.base.Choices.{passed}
 use Rattle.e_cert.specs.declared.owed.Obligation.TheVariants as due
 use Rattle.e_cert.specs.declared.kept.StepCerts.{StepCerts}
 use Rattle.e_line.specs.Strict.{is_strict_line}
-use Rattle.e_read.specs.Strict.{ends_with, is_apart}
-use Rattle.e_read.specs.Needs.{due_of}
+use Rattle.e_read.specs.Owing.{ends_with}
+use Rattle.e_read.specs.inner.Strict.{is_apart}
+use Rattle.e_read.specs.inner.Needs.{due_of}
 use Rattle.e_roundtrip.proofs.Certificates.RowsAgain.{lit_direct}
 use Rattle.e_roundtrip.proofs.Certificates.CertsPut.{nothing_kept}
 use Rattle.e_roundtrip.proofs.Blocks.LinesTaken.{Stands, Along}

@@ -30,7 +30,7 @@ use Rattle.e_book.proofs.parsers.Answered.{untaken}
 use Rattle.e_line.proofs.base.Bound.{bind_ok, ok_is, read_ok}
 use Rattle.e_cert.specs.declared.kept.StepCerts.{StepCerts}
 use Rattle.e_line.specs.Strict.{is_direct, are_direct}
-use Rattle.e_read.specs.Strict.{ends_with}
+use Rattle.e_read.specs.Owing.{ends_with}
 use Rattle.e_roundtrip.proofs.OneLine.NamesSpelled.{Keeps, keeps_all}
 use Rattle.e_roundtrip.proofs.OneLine.LitsRead.{AllSigned}
 use Rattle.e_roundtrip.proofs.OneLine.LitsSpelled.{canonical, lit_named}

@@ -15,7 +15,7 @@ use Rattle.e_line.specs.declared.raw_line.RawLine.TheVariants as rawlines
 use Rattle.e_names.specs.Scope.{scope_of_names}
 use Rattle.e_names.specs.Canonical.{given_raw_line, show_raw_line}
 use Rattle.e_book.specs.Canonical.{group, grouped, declare_raw_line, made_raw_line}
-use Rattle.e_read.specs.Strict.{ends_with}
+use Rattle.e_read.specs.Owing.{ends_with}
 use Rattle.e_roundtrip.proofs.OneLine.NamesSpelled.{Keeps}
 use Rattle.e_roundtrip.proofs.OneLine.Groups.{more_groups, count_is, scope_more, keeps_before, keeps_new}
 

@@ -15,7 +15,7 @@ use Rattle.e_deriv.specs.Naming.{names_of_sort, with_names}
 use Rattle.e_names.specs.Scope.{scope_of_names}
 use Rattle.e_names.specs.Canonical.{nameless, name_at, name_of_object}
 use Rattle.e_book.specs.Canonical.{Group, group, grouped_before, grouped}
-use Rattle.e_read.specs.Strict.{ends_with}
+use Rattle.e_read.specs.Owing.{ends_with}
 use Rattle.e_roundtrip.proofs.OneLine.NamesSpelled.{Holds, Keeps}
 
 -- ---- objects

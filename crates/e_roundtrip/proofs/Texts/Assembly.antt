@@ -11,7 +11,7 @@ use Rattle.e_names.specs.TitledStatements.{TitledStatement, headed, stated_by}
 use Rattle.e_book.specs.TheoremViews.{TheoremView}
 use Rattle.e_book.specs.Grammar.{Rest}
 use Rattle.e_line.proofs.base.Bound.{same_bytes}
-use Rattle.e_read.specs.Text.{piece_from, last_line_of}
+use Rattle.e_read.specs.Text.{Last, at_start, piece_from, last_line_of}
 use Rattle.e_spell.specs.Spelling.{spelled_lines}
 use Rattle.e_roundtrip.specs.Spelled.{ShowsEnded}
 use Rattle.e_roundtrip.proofs.Texts.SpelledIsRead.{spelled_is_read}
@@ -19,26 +19,20 @@ use Rattle.e_judgement.specs.declared.judgement.Judgement.{Judgement}
 use Rattle.e_judgement.specs.declared.judgement.Judgement.TheVariants.{Verified}
 use Rattle.e_judgement.specs.Judged.{with_theorem, ReadsNext, Passes, EndsThere, Closes, IsJudged}
 use Rattle.e_judgement.proofs.OneJudgement.{certified_no_failure}
-use Rattle.e_roundtrip.specs.Written.{AllCanBeSpelled, AllCanBeVerified, judged_after, judgement_of}
+use Rattle.e_roundtrip.specs.Written.{AllCanBeSpelled, AllCanBeVerified, judged_after, judgement_of, entry_with}
 use Rattle.e_roundtrip.proofs.Lengths.BlockRooms.{lines_of_blocks}
 use Rattle.e_clause.specs.declared.cert.Version.{Version}
 
 -- ---- lines after one another
 
 -- the lines of a list show its front, and what is left has numbers of its own
-abbrev Shown : ℕ → List (List ℕ) → List (List ℕ) → Type 0
+abbrev pub Shown : ℕ → List (List ℕ) → List (List ℕ) → Type 0
 Shown k xs ys = (m : ℕ) × ShowsEnded (numbered k (xs ++ ys)) xs (numbered m ys)
 
 -- each list of lines is such a front
-shown_front : (k : ℕ) (xs ys : List (List ℕ)) → Shown k xs ys
+pub shown_front : (k : ℕ) (xs ys : List (List ℕ)) → Shown k xs ys
 shown_front k [] ys = (k, refl)
 shown_front k (x ∷ xs) ys = let more = shown_front (k + 1) xs ys in (more.0, (refl, refl, more.1))
-
--- ---- the theorems
-
--- a theorem with a derivation for its script
-abbrev pub entry_with : TheoremView × Script → TheoremView
-entry_with p = record p.0 { script = p.1 }
 
 -- ---- verdicts
 
@@ -58,9 +52,12 @@ module _ (v : Version) where
   -- ---- the last line
 
   -- the last line comes where as many theorems are known as it says
-  ends : (last : ℕ) (known : List TitledStatement) (k : ℕ) → EndsThere v last known (numbered k (last_line_of (length known) ∷ [])) (Verified (length known))
+  pub last_read : (last : ℕ) (known : List TitledStatement) (k : ℕ) → piece_from known last (at_start v) (numbered k (last_line_of (length known) ∷ [])) ≡ Ok (Last, [])
   unfolding piece_from
-  ends last known k = ([], rw (same_bytes (last_line_of (length known))) refl, refl)
+  last_read last known k = rw (same_bytes (last_line_of (length known))) refl
+
+  ends : (last : ℕ) (known : List TitledStatement) (k : ℕ) → EndsThere v last known (numbered k (last_line_of (length known) ∷ [])) (Verified (length known))
+  ends last known k = ([], last_read last known k, refl)
 
   -- ---- the theorems, one after another
 

@@ -20,8 +20,12 @@ use Rattle.e_cert.specs.declared.cert_line.CertLine.TheVariants as certlines
 use Rattle.e_cert.specs.declared.owed.Obligation.TheVariants as due
 use Rattle.e_cert.specs.declared.owed.Pending.{Pending}
 use Rattle.e_read.specs.declared.reading.BlockParser.{BlockParser}
-use Rattle.e_cert.specs.Owed.{row_in, row_put, differs_put, clash_put, sums_after, due_after, after_cert_line}
-use Rattle.e_read.specs.Text.{Last, owes_nothing, at_start, is_lf_end, parser_after_line, garbled_at, finished, or_on, is_last_line, last_line_of, is_end, piece_from}
+use Rattle.e_cert.specs.Owed.{row_put, differs_put, clash_put, sums_after, due_after, after_cert_line}
+use Rattle.e_cert.specs.Rows.{row_in}
+use Rattle.e_read.specs.Text.{Last, is_lf_end, garbled_at, last_line_of}
+use Rattle.e_read.specs.inner.Machine.{owes_nothing, at_start, parser_after_line, finished, or_on, is_last_line, is_end, piece_from}
+use Rattle.e_read.specs.Text as text
+use Rattle.e_read.proofs.TextTied.{text_read}
 use Rattle.e_read.proofs.Bridge.{Answer, no_last, garbled_ok}
 use Rattle.e_read.proofs.TakenLines.{line_taken, either}
 use Rattle.e_roundtrip.specs.Spelled.{ShowsEnded}
@@ -87,11 +91,11 @@ at_end a b e = ap (λ (x : Answer). x.1) (inside (Last, a) (Last, b) e) where
   inside x y e = cc
 
 -- where reading ends with the last line, the lines that come begin with it
-pub last_shown : (v : Version) (known : List TitledStatement) (last : ℕ) (lines rest : Rest) → piece_from known last (at_start v) lines ≡ ended rest → ShowsEnded lines (last_line_of (length known) ∷ []) rest
+shown_by_parser : (v : Version) (known : List TitledStatement) (last : ℕ) (lines rest : Rest) → piece_from known last (at_start v) lines ≡ ended rest → ShowsEnded lines (last_line_of (length known) ∷ []) rest
 unfolding piece_from
-last_shown v known last [] rest e = absurd cc
-last_shown v known last (Err f ∷ lines) rest e = absurd cc
-last_shown v known last (Ok l ∷ lines) rest e =
+shown_by_parser v known last [] rest e = absurd cc
+shown_by_parser v known last (Err f ∷ lines) rest e = absurd cc
+shown_by_parser v known last (Ok l ∷ lines) rest e =
     let next : Result BlockParser ℕ = garbled_at l.number (parser_after_line known (at_start v) l) in
     let then : BlockParser → Result Answer ℕ = λ x. or_on (finished x.parser x.kept) lines (piece_from known last x lines) in
     elim (either (is_last_line known l) (ended lines) (next >>= then) (ended rest) e) [
@@ -105,3 +109,6 @@ last_shown v known last (Ok l ∷ lines) rest e =
             | inr s ↦ absurd (never_last known last x.0 s.1.parser lines rest (ap (λ (y : BlockParser). y.parser) s.1.next_is) more)
           ]
     ]
+
+pub last_shown : (v : Version) (known : List TitledStatement) (last : ℕ) (lines rest : Rest) → text.piece_from known last (text.at_start v) lines ≡ ended rest → ShowsEnded lines (last_line_of (length known) ∷ []) rest
+last_shown v known last lines rest e = shown_by_parser v known last lines rest (text_read v known last lines ∙ e)

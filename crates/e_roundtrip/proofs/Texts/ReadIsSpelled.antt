@@ -41,11 +41,14 @@ use Rattle.e_cert.specs.declared.kept.StepCerts.{StepCerts}
 use Rattle.e_read.specs.declared.reading.BlockParser.{BlockParser}
 use Rattle.e_cert.specs.CertLines.{cert_line_text}
 use Rattle.e_line.specs.Strict.{is_strict_line}
-use Rattle.e_read.specs.Strict.{is_apart}
-use Rattle.e_read.specs.Needs.{due_of}
+use Rattle.e_read.specs.inner.Strict.{is_apart}
+use Rattle.e_read.specs.inner.Needs.{due_of}
 use Rattle.e_read.specs.Filled.{script_with_certs}
-use Rattle.e_read.specs.Text.{parser_after_bytes, Derived, Last, owes_nothing, at_start, owed_by, gone_on, worded, is_lf_end, parser_after_line, derived, garbled_at, is_finished, finished, or_on, is_end, piece_from}
+use Rattle.e_read.specs.Text.{Derived, Last, is_lf_end, garbled_at}
+use Rattle.e_read.specs.inner.Machine.{parser_after_bytes, owes_nothing, at_start, owed_by, gone_on, worded, parser_after_line, derived, is_finished, finished, or_on, is_end, piece_from}
 use Rattle.e_clause.specs.declared.cert.Version.{Version}
+use Rattle.e_read.specs.Text as text
+use Rattle.e_read.proofs.TextTied.{text_read}
 use Rattle.e_read.proofs.Consequences.{text_spelled}
 use Rattle.e_read.proofs.ReadCertificates.{version_read}
 use Rattle.e_read.proofs.TakenLines.{Certified, Stepped, line_taken, form_read, either}
@@ -298,14 +301,14 @@ whole known last r (Ok l ∷ lines) rest t done s unended e =
           ])
     ]
 
-pub read_is_spelled_so : (v : Version) (known : List TitledStatement) (last : ℕ) (t : TheoremView) (lines rest : List (Result LineView LineFault)) → piece_from known last (at_start v) lines ≡ derives t rest → ShowsEnded lines (spelled_lines known t t.script) rest
-read_is_spelled_so v known last t lines rest e =
+spelled_by_parser : (v : Version) (known : List TitledStatement) (last : ℕ) (t : TheoremView) (lines rest : List (Result LineView LineFault)) → piece_from known last (at_start v) lines ≡ derives t rest → ShowsEnded lines (spelled_lines known t t.script) rest
+spelled_by_parser v known last t lines rest e =
     let r = whole known last (at_start v) lines rest t [] (start_said known) refl e in
     subst (λ (texts : List (List ℕ)). ShowsEnded lines texts rest) r.all r.shows
 
 -- what is read can be spelled, by its form
-pub read_is_formed_so : (v : Version) (known : List TitledStatement) (last : ℕ) (t : TheoremView) (lines rest : List (Result LineView LineFault)) → piece_from known last (at_start v) lines ≡ derives t rest → CanBeSpelled v known t t.script
-read_is_formed_so v known last t lines rest e =
+formed_by_parser : (v : Version) (known : List TitledStatement) (last : ℕ) (t : TheoremView) (lines rest : List (Result LineView LineFault)) → piece_from known last (at_start v) lines ≡ derives t rest → CanBeSpelled v known t t.script
+formed_by_parser v known last t lines rest e =
     let r = whole known last (at_start v) lines rest t [] (start_said known) refl e in
     let plain = text_spelled v known last lines rest t e in
     let st = stated t.statement in
@@ -316,3 +319,9 @@ read_is_formed_so v known last t lines rest e =
       formed = subst (λ (s : Scope). list_all (is_formed before) (placed_steps before t.script t.script s facts (goal_of_statement st)) ≡ true) (declared_scope st t.names plain.fits.scope) (r.formed facts);
       version = version_read v known last lines rest t e;
     }
+
+pub read_is_spelled_so : (v : Version) (known : List TitledStatement) (last : ℕ) (t : TheoremView) (lines rest : List (Result LineView LineFault)) → text.piece_from known last (text.at_start v) lines ≡ derives t rest → ShowsEnded lines (spelled_lines known t t.script) rest
+read_is_spelled_so v known last t lines rest e = spelled_by_parser v known last t lines rest (text_read v known last lines ∙ e)
+
+pub read_is_formed_so : (v : Version) (known : List TitledStatement) (last : ℕ) (t : TheoremView) (lines rest : List (Result LineView LineFault)) → text.piece_from known last (text.at_start v) lines ≡ derives t rest → CanBeSpelled v known t t.script
+read_is_formed_so v known last t lines rest e = formed_by_parser v known last t lines rest (text_read v known last lines ∙ e)

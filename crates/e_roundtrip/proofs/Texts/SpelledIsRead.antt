@@ -44,8 +44,10 @@ use Rattle.e_cert.specs.declared.kept.StepCerts.{StepCerts}
 use Rattle.e_read.specs.declared.reading.BlockParser.{BlockParser}
 use Rattle.e_read.specs.Filled.{script_with_certs}
 use Rattle.e_cert.specs.Owed.{finish_certs}
-use Rattle.e_read.specs.Needs.{due_of}
-use Rattle.e_read.specs.Text.{parser_after_exact_line as line_stepped, parser_after_bytes, with_raw_line, Derived, owes_nothing, at_start, worded, parser_after_line, derived, finished, is_end, piece_from}
+use Rattle.e_read.specs.inner.Needs.{due_of}
+use Rattle.e_read.specs.Text.{Derived}
+use Rattle.e_read.proofs.TextTied.{text_read}
+use Rattle.e_read.specs.inner.Machine.{parser_after_exact_line as line_stepped, parser_after_bytes, with_raw_line, owes_nothing, at_start, worded, parser_after_line, derived, finished, is_end, piece_from}
 use Rattle.e_spell.specs.Spelling.{script_lines}
 use Rattle.e_roundtrip.specs.Formed.{is_formed}
 use Rattle.e_roundtrip.specs.Spelled.{ShowsEnded, CanBeSpelled}
@@ -267,4 +269,4 @@ spelled_is_read v known last t d lines rest c sh =
     let a = map line_of (stating_forms t) in
     let b = script_lines known (names_of_proof t) d in
     let end = line_of end_raw_line ∷ [] in
-    whole_read v known last t d lines rest c (subst (λ (x : List (List ℕ)). ShowsEnded lines (line_of (rawlines.Theorem t.title) ∷ x) rest) (sym (append_assoc a b end)) sh)
+    sym (text_read v known last lines) ∙ whole_read v known last t d lines rest c (subst (λ (x : List (List ℕ)). ShowsEnded lines (line_of (rawlines.Theorem t.title) ∷ x) rest) (sym (append_assoc a b end)) sh)

@@ -19,11 +19,11 @@ use Rattle.e_book.specs.Grammar.{Rest}
 use Rattle.e_read.specs.Text.{is_lf_end, last_line_of}
 use Rattle.e_spell.specs.Spelling.{spelled, spelled_lines}
 use Rattle.e_roundtrip.specs.Spelled.{ShowsEnded}
-use Rattle.e_roundtrip.proofs.Texts.ReadIsSpelled.{read_is_spelled_so}
+use Rattle.e_roundtrip.proofs.Texts.ReadIsSpelled.{read_is_spelled_so, read_is_formed_so}
 use Rattle.e_roundtrip.proofs.Texts.ShownText.{read_text_is_spelled}
 use Rattle.e_judgement.specs.declared.judgement.Judgement.TheVariants.{Verified, Bad, Garbled}
 use Rattle.e_judgement.specs.Judged.{with_theorem, Passes, number_of_line, JudgedAfter, Closes, IsJudged, head_of, is_head, version_of, JudgedAfterHead, JudgesLines, lines_of_text}
-use Rattle.e_roundtrip.specs.Written.{AllProved, SpellsProofs, spelled_blocks, version_line, accepted_blocks_line}
+use Rattle.e_roundtrip.specs.Written.{AllCanBeSpelled, AllProved, SpellsProofs, spelled_blocks, version_line, accepted_blocks_line}
 use Rattle.e_roundtrip.specs.Laws.{VerifiedIsWritten}
 use Rattle.e_roundtrip.proofs.Texts.WrittenIsVerified.{last_is_line}
 use Rattle.e_roundtrip.proofs.Texts.LastLine.{last_shown}
@@ -74,6 +74,11 @@ module _ (v : Version) where
   all_proved last known lines [] now rest p = tt
   all_proved last known lines (t ∷ ts) now rest p =
       (proof_of_certified (stated_by known) (stated t.statement) t.script p.2, all_proved last (with_theorem known t) p.0 ts now rest p.3)
+
+  -- and what is read can be spelled
+  all_spelled : (last : ℕ) (known : List TitledStatement) (lines : Rest) (ts : List TheoremView) (now : List TitledStatement) (rest : Rest) → Passes v last known lines ts now rest → AllCanBeSpelled v known (pairs ts)
+  all_spelled last known lines [] now rest p = tt
+  all_spelled last known lines (t ∷ ts) now rest p = (read_is_formed_so v known last t lines p.0 p.1, all_spelled last (with_theorem known t) p.0 ts now rest p.3)
 
   -- their lines have no fault
   good_shown : (lines rest : Rest) (texts : List (List ℕ)) → ShowsEnded lines texts rest → HaveNoFault rest → HaveNoFault lines
@@ -134,6 +139,7 @@ module _ (v : Version) where
         version = v;
         theorems = pairs ts;
         count = count ∙ c.0;
+        spelled = all_spelled last [] lines ts j.known j.rest j.passes;
         proved = all_proved last [] lines ts j.known j.rest j.passes;
         bytes = sym read ∙ ap text_of_lines e ∙ head_text l lines h ∙ ap (λ (x : List ℕ). version_line v ++ x) (blocks_text last [] lines ts j.known j.rest j.passes)
             ∙ ap (λ (x : List ℕ). version_line v ++ (spelled_blocks [] (pairs ts) ++ x)) end;

@@ -15,7 +15,7 @@ use Rattle.e_book.specs.Canonical.{text_of}
 use Rattle.e_read.specs.Text.{last_line_of}
 use Rattle.e_spell.specs.Spelling.{spelled_lines}
 use Rattle.e_judgement.specs.declared.judgement.Judgement.TheVariants.{Verified}
-use Rattle.e_judgement.specs.Judged.{with_theorem, head_of, version_of, JudgedAfterHead, JudgesLines, JudgesText}
+use Rattle.e_judgement.specs.Judged.{with_theorem, head_of, version_of, JudgedAfterHead, JudgesLines, JudgesText, lines_of_text}
 use Rattle.e_roundtrip.specs.Written.{AllCanBeSpelled, judgement_of, spelled_blocks, version_line, derivation_text, accepted_blocks_line}
 use Rattle.e_roundtrip.specs.Laws.{WrittenIsJudged, WrittenIsVerified}
 use Rattle.e_roundtrip.proofs.Lengths.Rooms.{IsShortLine, short_number, short_append, room_none, room_word, room_line}
@@ -51,13 +51,13 @@ short_head : (v : Version) → IsShortLine (head_of v)
 short_head One = (refl, omega arith)
 short_head Two = (refl, omega arith)
 
-says : (v : Version) → version_of (record { number = 1; bytes = head_of v; end = Lf }) ≡ Some v
+pub says : (v : Version) → version_of (record { number = 1; bytes = head_of v; end = Lf }) ≡ Some v
 says One = refl
 says Two = refl
 
 module _ (v : Version) where
   -- all lines of the text
-  abbrev all_lines : List (TheoremView × Script) → List (List ℕ)
+  abbrev pub all_lines : List (TheoremView × Script) → List (List ℕ)
   all_lines ps = head_of v ∷ (lines_of_blocks [] ps ++ last_line_of (length ps) ∷ [])
 
   -- the text is these lines
@@ -90,14 +90,16 @@ module _ (v : Version) where
   all_short ps h =
       (short_head v, short_append (lines_of_blocks [] ps) (last_line_of (length ps) ∷ []) (short_blocks v [] ps tt h) (short_last (length ps) (omega (arith, few_theorems [] ps h (omega arith))), tt))
 
--- what is written is read as its lines, and these are judged so
+  -- what is written is read as its lines
+  pub lines_written : (ps : List (TheoremView × Script)) → AllCanBeSpelled v [] ps → lines_of_text (derivation_text v ps) ≡ numbered 1 (all_lines ps)
+  lines_written ps h =
+      let w : Bounds = record { longest = 262144; most = length (lf_text (all_lines ps)) } in
+      let at : Spot = record { line = 1; before = 0 } in
+      ap lines_of_text (written_is ps) ∙ lines_of-lf_text w at (all_lines ps) (all_short ps h) (omega arith)
+
+-- and these are judged so
 pub written_is_judged : WrittenIsJudged
-written_is_judged v ps h =
-    let w : Bounds = record { longest = 262144; most = length (lf_text (all_lines v ps)) } in
-    let at : Spot = record { line = 1; before = 0 } in
-    let e = written_is v ps in
-    subst (λ (t : List ℕ). JudgesText t (judgement_of [] ps)) (sym e)
-    (subst (λ ls. JudgesLines ls (judgement_of [] ps)) (sym (lines_of-lf_text w at (all_lines v ps) (all_short v ps h) (omega arith))) (judged_lines v ps h))
+written_is_judged v ps h = subst (λ ls. JudgesLines ls (judgement_of [] ps)) (sym (lines_written v ps h)) (judged_lines v ps h)
 
 pub written_is_verified : WrittenIsVerified
 written_is_verified v ps h =

@@ -3,7 +3,7 @@ use Rattle.e_literal.specs.declared.literal.Lit.{Lit}
 use Rattle.e_theorem.specs.Statements.{stated}
 use Rattle.e_deriv.specs.Goal.{goal_of_statement, goal_with}
 use Rattle.e_book.specs.ParserViews.{statement_of_parser}
-use Rattle.e_read.specs.Needs.{shown_around, goal_or}
+use Rattle.e_read.specs.inner.Needs.{shown_around, goal_or}
 use Rattle.e_read.proofs.needs.goal_with.Goals as goal
 
 pub returns-in-Some : goal.returns-in-Some

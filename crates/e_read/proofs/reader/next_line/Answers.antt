@@ -2,7 +2,7 @@ use Rattle.std.proofs.Common.{◌∙◌, ℕ, [], List, Err, Result, sym, ap, ar
 use Rattle.e_text.specs.Lines.{LineView, Ahead}
 use Rattle.e_text.specs.declared.line.LineFault.{LineFault}
 use Rattle.e_book.specs.Grammar.{last_line}
-use Rattle.e_read.specs.Text.{piece_from}
+use Rattle.e_read.specs.inner.Machine.{piece_from}
 use Rattle.e_read.proofs.Bridge.{Answer}
 use Rattle.e_read.proofs.Pieces.{piece_none, piece_fault}
 use Rattle.e_read.proofs.reader.next_line.Goals as goal

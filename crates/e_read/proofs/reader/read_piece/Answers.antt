@@ -3,7 +3,7 @@ use Rattle.e_text.specs.Lines.{view_of_line}
 use Rattle.e_book.specs.TheoremViews.{entry_of}
 use Rattle.e_book.specs.Grammar.{last_line}
 use Rattle.e_read.specs.declared.reading.BlockParser.{BlockParser}
-use Rattle.e_read.specs.Text.{piece_from}
+use Rattle.e_read.specs.inner.Machine.{piece_from}
 use Rattle.e_read.proofs.Pieces.{read_ended}
 use Rattle.e_read.proofs.reader.read_piece.Goals as goal
 

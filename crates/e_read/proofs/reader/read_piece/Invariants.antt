@@ -2,7 +2,7 @@ use Rattle.std.proofs.Common.{◌≡◌, ◌≤◌, length}
 use Rattle.std.specs.Prelude.{OnSome}
 use Rattle.e_line.specs.Limits.{most_theorems}
 use Rattle.e_book.specs.Grammar.{last_line}
-use Rattle.e_read.specs.Text.{at_start, piece_from, FitsReading}
+use Rattle.e_read.specs.inner.Machine.{at_start, piece_from, FitsReading}
 use Rattle.e_read.proofs.reader.read_piece.Given as goal
 
 abbrev pub invariant-loop-line : goal.invariant-loop-line

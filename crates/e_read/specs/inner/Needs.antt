@@ -1,9 +1,6 @@
--- What certificates a line owes.
+-- What certificates a line owes, by what the parser holds.
 use Rattle.std.specs.Prelude.{ℕ, List, [], ◌∷◌, Option, Some, None, Result, Ok}
 use Rattle.e_literal.specs.declared.literal.Lit.{Lit}
-use Rattle.e_literal.specs.declared.object.Obj.{Obj}
-use Rattle.e_literal.specs.declared.object.Scope.{Scope}
-use Rattle.e_literal.specs.Use.{StatementView, use_of}
 use Rattle.e_construct.specs.Construct.{needs_of_construction}
 use Rattle.e_construct.specs.Superposing as superposing
 use Rattle.e_theorem.specs.Statements.{stated}
@@ -16,7 +13,7 @@ use Rattle.e_line.specs.declared.applies.RawApply.{RawApply}
 use Rattle.e_line.specs.declared.raw_line.RawLine.{RawLine}
 use Rattle.e_line.specs.declared.raw_line.RawLine.TheVariants as rawlines
 use Rattle.e_book.specs.declared.parser.TheoremParser.{TheoremParser}
-use Rattle.e_line.specs.Reading.{◌>>=◌, each, or_malformed}
+use Rattle.e_line.specs.Reading.{◌>>=◌}
 use Rattle.e_names.specs.TitledStatements.{TitledStatement, theorem_of}
 use Rattle.e_book.specs.ParserViews.{statement_of_parser}
 use Rattle.e_book.specs.Blocks.{made_in}
@@ -25,6 +22,7 @@ use Rattle.e_names.specs.Superposes.{superpose_in}
 use Rattle.e_names.specs.Applies.{apply_in}
 use Rattle.e_cert.specs.declared.owed.Obligation.{Obligation}
 use Rattle.e_cert.specs.declared.owed.Obligation.TheVariants as due
+use Rattle.e_read.specs.Owing.{needs_in}
 
 -- what a block shows that a claim or a superposition began; a block of a split has the goal of the
 -- block that it closes
@@ -51,11 +49,6 @@ open_goal d = goal_or (shown_around d.blocks) (goal_of_statement (stated (statem
 -- one certificate for each of these literals
 abbrev pub one_each : List Lit → Obligation
 one_each wanted = due.Literals wanted [] None
-
--- the given literals of an earlier theorem at its arguments, none of which is a blank
-abbrev pub needs_in : Scope → StatementView → List (Option Obj) → Result (List Lit) FaultKind
-needs_in s t pattern =
-    each or_malformed pattern >>= λ args. or_malformed (use_of t args s) >>= λ u. Ok u.needs
 
 unfoldable pub needs_of_raw_apply : List TitledStatement → TheoremParser → RawApply
     → Result (List Lit) FaultKind

@@ -1,16 +1,9 @@
--- Neighbouring lines that could be one.
-use Rattle.std.specs.Prelude.{Bool, true, false, not, List, [], ◌∷◌}
-use Rattle.e_literal.specs.declared.object.Sort.{Sort}
-use Rattle.e_literal.specs.Scopes.{same_sort}
+-- Neighbouring lines that could be one, by what the parser holds.
+use Rattle.std.specs.Prelude.{Bool, true, not}
 use Rattle.e_line.specs.declared.raw_line.RawLine.{RawLine}
 use Rattle.e_line.specs.declared.raw_line.RawLine.TheVariants as rawlines
 use Rattle.e_book.specs.declared.parser.TheoremParser.{TheoremParser}
-
--- the last of these objects has this sort
-abbrev pub ends_with : List Sort → Sort → Bool
-ends_with [] sort = false
-ends_with (s ∷ []) sort = same_sort s sort
-ends_with (s ∷ t ∷ ss) sort = ends_with (t ∷ ss) sort
+use Rattle.e_read.specs.Owing.{ends_with}
 
 -- neighbouring lines of objects of one sort are one line
 abbrev pub is_apart : TheoremParser → RawLine → Bool
