@@ -232,6 +232,8 @@ impl<'a> InstanceSearch<'a> {
 impl<'a> Task for InstanceSearch<'a> {
     type Proof = Option<TransferCert>;
 
+    type Memory = ();
+
     ghost wanted = { λ s c. Wanted s.query.strength s.query.scope s.query.facts.now s.query.goal.now
         s.rule s.place s.plan.now c };
 
@@ -243,9 +245,12 @@ impl<'a> Task for InstanceSearch<'a> {
     ghost wide = { λ s part w. (s.query.strength ≡ strength.Sums)
         × IsWideTransfer s.query.scope s.query.facts.now s.query.goal.now w };
 
+    ghost right = { λ s m. Unit {0} };
+
     fn check(
         &self,
         alloc: Global,
+        _memory: &mut (),
         part: &[u16],
     ) -> Result<Verdict<Option<TransferCert>>, AllocError> {
         let row = self.rule.table_row();

@@ -50,7 +50,7 @@ fn search_with_bindings(
         areas: place_of_areas(row),
     };
     let mut chosen = Vec::new(alloc);
-    let found = search(alloc, &task, &plan.spans, &mut chosen);
+    let found = search(alloc, &task, &mut (), &plan.spans, &mut chosen);
     mem::drop(plan);
     match found? {
         Verdict::Yes(Some(cert)) => Ok(Verdict::Yes(cert)),
