@@ -3,6 +3,7 @@ ghost use Rattle.std.specs.Prelude.{◌≡◌, ◌++◌, ◌∷◌, [], map, IfO
 ghost use Rattle.std.specs.List.{list_all};
 ghost use Rattle.e_literal.specs.Use.{is_statement};
 ghost use Rattle.e_theorem.specs.Statements.{stated};
+ghost use Rattle.e_licence.specs.Verdicts.{AreRight};
 ghost use Rattle.e_deriv.specs.Fitting.{is_small_statement};
 ghost use Rattle.e_names.specs.TitledStatements.{stated_by};
 ghost use Rattle.e_line.specs.Canonical.{argument_word};
@@ -12,6 +13,7 @@ ghost use Rattle.e_commands.specs.SuggesterAnswers.{apply_line, apply_lines};
 ghost use Rattle.e_commands.specs.inner.Suggesting.{IsListed, IsListedOne};
 
 use e_deriv::Names;
+use e_licence::Verdicts;
 use e_line::put_apply;
 use e_literal::{Items, Obj};
 use e_names::{Theorems, name_of_object};
@@ -96,18 +98,21 @@ fn list_theorem(
     title: Title,
     statement: &Statement,
     place: &Place,
+    memory: &mut Verdicts,
     left: usize,
     out: &mut Vec<u8>,
 ) -> Result<Listed, AllocError>
-    requires { IsTrue (is_statement (stated statement.now)) }
-    ensures { IfOk result (IsListedOne place.now.names place.now.context.scope
+    requires memory { AreRight place.now.context memory.old }
+    requires states { IsTrue (is_statement (stated statement.now)) }
+    ensures listed { IfOk result (IsListedOne place.now.names place.now.context.scope
         place.now.context.facts title (stated statement.now) left out.old.items out.new.items) }
+    ensures memory { OnOk result (AreRight place.now.context memory.new) }
 {
     let declared = statement.declared.len();
     if declared > MOST_DECLARED {
         return Ok(Listed::All(0));
     }
-    match all(alloc, &place.context, statement, left)? {
+    match all(alloc, &place.context, memory, statement, left)? {
         Suggested::Found { choices, more } => {
             put_applications(alloc, out, title, &place.names, choices.items())?;
             let count = choices.len();
@@ -133,11 +138,20 @@ pub fn list_theorems(
     ensures { IfOk result (IsListed place.now.names place.now.context.scope place.now.context.facts
         known.now out.new.items) }
 {
+    let mut memory = Verdicts::new(alloc);
     let mut count = 0;
     for at in 0..known.len() {
         let title = known.title(at);
         let statement = known.statement(at);
-        match list_theorem(alloc, title, statement, place, MOST_LINES - count, out)? {
+        match list_theorem(
+            alloc,
+            title,
+            statement,
+            place,
+            &mut memory,
+            MOST_LINES - count,
+            out,
+        )? {
             Listed::All(lines) => count += lines,
             Listed::Full(lines) => return Ok(Listed::Full(count + lines)),
             Listed::TooWide(width) => return Ok(Listed::TooWide(width)),

@@ -22,7 +22,7 @@ use Rattle.e_licence.specs.ChoicesInOrder.{is_ascending, is_above, AreFirst, Any
 use Rattle.e_licence.specs.inner.BlankChoices.{filled_arguments, spans_of, IsWanted}
 use Rattle.e_licence.specs.inner.Sweeps.{Each, IsAmongChoices, AreAscending, IsAbove, IsKeptWhole, AreAll, AreFirstOf, Sweeps}
 use Rattle.e_licence.proofs.BlankChoices.{has_empty, fits_starts, whole, chosen, in_order}
-use Rattle.e_licence.proofs.CompletedLiterals.{KeptAt, WideAt, at, stays, contains_at}
+use Rattle.e_licence.proofs.KnownLiterals.{KeptAt, WideAt, at, stays, contains_at}
 use Rattle.e_licence.proofs.FilledBlanks.{objects, spans, Wanted, Kept, Wide, IsAsked, good_fits, good_filled, good_wanted, none_where_empty, start_fits, start_choice, kept_allowed, IsSearch, none_empty}
 use Rattle.e_licence.proofs.SweptChoices.{each_map}
 
@@ -44,7 +44,7 @@ whole_good b t pattern c asked some fits kept =
     (record {
       is_choice = start_choice b t pattern c asked some starts;
       allowed = kept_allowed b t pattern c (filled_arguments nothing (objects t) pattern c) asked.states (whole b.scope b.scope nothing nothing t.declared pattern c fits)
-          (start_fits b t pattern c asked some starts) kept;
+          (start_fits b t pattern c asked some starts) fits kept;
     })
 
 fits_of : (b : Basis) (t : StatementView) (pattern : List (Option Obj)) (c : List ℕ) → IsKeptWhole (Kept b t pattern) [] (spans b t pattern) c → FitsSpans (spans b t pattern) c

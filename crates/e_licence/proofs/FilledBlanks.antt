@@ -23,7 +23,7 @@ use Rattle.e_transfer.specs.Verdicts.{SearchIs}
 use Rattle.e_licence.specs.Contexts.{Basis}
 use Rattle.e_licence.specs.inner.BlankChoices.{filled_arguments, spans_of, images_of_choice, IsKeptChoice, IsWanted, SomeIsWideAt}
 use Rattle.e_licence.proofs.BlankChoices.{has_empty, start_is_of_sorts, filled_fills, whole, fits_starts, none_fits, chosen, chosen_fit, chosen_filled, below}
-use Rattle.e_licence.proofs.CompletedLiterals.{KeptAt, ShownAt, WideAt, at, stays, all_bound, allowed_all, contains_at}
+use Rattle.e_licence.proofs.KnownLiterals.{KeptAt, ShownAt, WideAt, at, stays, all_bound, allowed_all, contains_at}
 
 -- the declared objects
 abbrev pub objects : StatementView → List Obj
@@ -96,11 +96,11 @@ start_choice b t pattern c asked some starts =
     and_from (fills pattern (filled_arguments nothing (objects t) pattern c)) _ (filled_fills b.scope nothing nothing t.declared pattern c asked.fits) (start_fits b t pattern c asked some starts)
 
 pub kept_allowed : (b : Basis) (t : StatementView) (pattern : List (Option Obj)) (c : List ℕ) (args : List Obj) → is_statement t ≡ true → filled_arguments b.scope (objects t) pattern c ≡ args
-    → are_arguments t b.scope args ≡ true → EachKept (Kept b t pattern) [] c → AllAllowed b.scope b.facts (needs_of_use t args b.scope)
-kept_allowed b t pattern c args states is fit kept =
+    → are_arguments t b.scope args ≡ true → FitsSpans (spans b t pattern) c → EachKept (Kept b t pattern) [] c → AllAllowed b.scope b.facts (needs_of_use t args b.scope)
+kept_allowed b t pattern c args states is fit fits kept =
     subst (λ (ls : List Lit). AllAllowed b.scope b.facts ls) (sym (needs_declared t args b.scope states fit))
     (subst (λ (os : List Obj). AllAllowed b.scope b.facts (map (at (paired (objects t) os)) t.given)) is
-    (allowed_all b (images_of_choice b.scope (objects t) pattern c) t.given (all_bound b t.declared pattern t.given c kept)
+    (allowed_all b (images_of_choice b.scope (objects t) pattern c) t.given (all_bound b (objects t) pattern t.given c fits kept)
     (ap (λ os. are_well_formed_in b.scope (map (at (paired (objects t) os)) t.given)) is ∙ declared_good t args b.scope states fit)))
 
 least_at : (b : Basis) (t : StatementView) (pattern : List (Option Obj)) (c : List ℕ) → IsAsked b t pattern → has_empty (spans b t pattern) ≡ false → FitsSpans (spans b t pattern) c
@@ -111,7 +111,7 @@ least_at b t pattern c asked some fits kept none =
       good = record {
         is_choice = start_choice b t pattern c asked some starts;
         allowed = kept_allowed b t pattern c (filled_arguments nothing (objects t) pattern c) asked.states (whole b.scope b.scope nothing nothing t.declared pattern c fits)
-            (start_fits b t pattern c asked some starts) kept;
+            (start_fits b t pattern c asked some starts) fits kept;
       };
       least = λ other good. none_below b t pattern c other asked.states none good;
     }

@@ -3,9 +3,11 @@ pub mod Fronts
 pub mod HeldStates
 pub mod WiderScopes
 pub mod Licences
+pub mod Judgements
 pub mod Clashes
 pub mod BlankChoices
-pub mod CompletedLiterals
+pub mod KeptVerdicts
+pub mod KnownLiterals
 pub mod FilledBlanks
 pub mod SweptChoices
 pub mod ChoicesInOrder

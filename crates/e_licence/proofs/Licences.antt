@@ -62,7 +62,7 @@ all_hold facts (l ∷ ls) h = (
   all_hold facts ls (and_right (has facts (negation l)) (has_all facts (map negation ls)) h),
 )
 
-from_facts : (s : Scope) (facts : List Lit) (l : Lit) → TransferFromFacts s facts l → TransferConsequence s facts l
+pub from_facts : (s : Scope) (facts : List Lit) (l : Lit) → TransferFromFacts s facts l → TransferConsequence s facts l
 from_facts s facts l t = record { lits = t.lits; of = t.of; rest = all_hold facts (others t.lits l) t.rest }
 
 -- ---- it cannot be decided
@@ -74,7 +74,7 @@ not_given s facts l (Yes cert) h (inr p) t = (let e = p.1 in absurd (cc))
 not_given s facts l No h e t = h (from_facts s facts l t)
 not_given s facts l (TooWide w) h e t = h.not_plain t
 
-no_plain : (s : Scope) (facts : List Lit) (l : Lit) → has facts l ≡ false → ¬ TransferFromFacts s facts l → ¬ IsPlain s facts l
+pub no_plain : (s : Scope) (facts : List Lit) (l : Lit) → has facts l ≡ false → ¬ TransferFromFacts s facts l → ¬ IsPlain s facts l
 no_plain s facts l n h (inl f) = true≢false (sym f ∙ n)
 no_plain s facts l n h (inr t) = h t
 

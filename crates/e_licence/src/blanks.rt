@@ -1,11 +1,9 @@
 //! The blanks of an application, filled by the least good choice.
 
-ghost use Rattle.std.specs.Prelude.{◌≡◌, ◌-◌, ◌<◌, ◌^◌, ◌==◌, ◌&&◌, ◌||◌, not, IsTrue, IfOk};
-ghost use Rattle.std.specs.Prelude.{List, length, take};
+ghost use Rattle.std.specs.Prelude.{◌≡◌, ◌<◌, ◌^◌, ◌==◌, IsTrue, IfOk, OnOk};
+ghost use Rattle.std.specs.Prelude.{length, true, false};
 ghost use Rattle.std.specs.List.{list_any};
-ghost use Rattle.e_literal.specs.declared.map.Entry.{Entry};
-ghost use Rattle.e_literal.specs.Rename;
-ghost use Rattle.e_literal.specs.Rename.{image_in};
+ghost use Rattle.e_literal.specs.Facts.{is_metric};
 ghost use Rattle.e_literal.specs.Scopes.{nothing, next_objects as declared_objects};
 ghost use Rattle.e_literal.specs.Use.{is_statement};
 ghost use Rattle.e_clause.specs.LimitedFacts;
@@ -15,12 +13,15 @@ ghost use Rattle.e_theorem.specs.Statements.{stated};
 ghost use Rattle.e_transfer.specs.Prepared.{IsPrepared};
 ghost use Rattle.e_licence.specs.inner.BlankChoices;
 ghost use Rattle.e_licence.specs.inner.BlankChoices.{IsKeptChoice, IsWanted};
-ghost use Rattle.e_licence.specs.inner.BlankChoices.{OneIs, AllIs, SomeIsWideAt};
+ghost use Rattle.e_licence.specs.inner.BlankChoices.{KnownIs, OneIs, AreIs, AllIs, SomeIsWideAt};
+ghost use Rattle.e_licence.specs.Verdicts.{AreRight};
 ghost use Rattle.e_licence.specs.FilledBlanks.{FilledIs};
 
 use crate::context::Context;
-use crate::licensing::{Licensed, licence_by};
-use e_literal::{Items, Lit, Map, NOTHING, Obj, Scope, count, next_objects, renamed};
+use crate::licensing::allowed_by;
+use crate::ready::ready_places;
+use crate::verdicts::Verdicts;
+use e_literal::{Items, Lit, Map, NOTHING, Obj, Scope, count, kind, next_objects, renamed};
 use e_metric::{MetricFacts, StepFacts};
 use e_theorem::Statement;
 use e_transfer::{Prepared, Span, Task, Verdict, is_well_formed_in, prepare, search};
@@ -48,10 +49,16 @@ pub struct Blanks<'a> {
     pub statement: &'a Statement,
     pub pattern: &'a [Option<Obj>],
     pub declared: Vec<Obj>,
+    /// With how many numbers each given literal is known. It is a matter of speed alone.
+    pub ready: Vec<usize>,
+    /// How many numbers a whole choice has.
+    pub whole: usize,
     ghost fronts: { step_facts.now ≡ context.now.facts },
     ghost prepares: { IsPrepared context.now.facts prepared.now },
     ghost declares: { declared.items ≡ declared_objects nothing statement.now.declared },
     ghost fits: { IsTrue (is_pattern (stated statement.now) context.now.scope pattern.now) },
+    ghost counted: { whole
+        ≡ length (BlankChoices.spans_of context.now.scope declared.items pattern.now) },
 }
 
 /// The least good choice for the blanks of an application of the statement: arguments that agree
@@ -129,6 +136,9 @@ fn matched_by(
     if has_empty(&spans) {
         return Ok(Filled::None);
     }
+    let scope = context.scope();
+    let whole = spans.len();
+    let ready = ready_places(alloc, scope, statement, &declared, pattern, whole)?;
     let step_facts = StepFacts::new(context.facts(), metric_facts);
     let blanks = Blanks {
         context,
@@ -137,11 +147,14 @@ fn matched_by(
         statement,
         pattern,
         declared,
+        ready,
+        whole,
     };
+    let mut memory = Verdicts::new(alloc);
     let mut chosen = Vec::new(alloc);
-    match search(alloc, &blanks, &spans, &mut chosen)? {
+    match search(alloc, &blanks, &mut memory, &spans, &mut chosen)? {
         Verdict::Yes(()) => {
-            let args = arguments(alloc, context.scope(), &blanks.declared, pattern, &chosen)?;
+            let args = arguments(alloc, scope, &blanks.declared, pattern, &chosen)?;
             Ok(Filled::Found(Items::new(args)))
         }
         Verdict::No => Ok(Filled::None),
@@ -193,7 +206,7 @@ pub fn arguments(
         ≡ BlankChoices.filled_arguments scope declared.now pattern.now part.now) }
 {
     let mut rest = part;
-    let mut args = Vec::new(alloc);
+    let mut args = Vec::with_capacity(alloc, declared.len())?;
     for (object, entry) in declared.iter().zip(pattern) {
         args.push(argument(scope, *object, *entry, rest))?;
         rest = left(*entry, rest);
@@ -228,124 +241,175 @@ fn left(entry: Option<Obj>, rest: &[u16]) -> &[u16]
     }
 }
 
+/// The images of the declared objects by the first numbers of a choice.
+pub fn images(
+    alloc: Global,
+    scope: Scope,
+    statement: &Statement,
+    declared: &[Obj],
+    pattern: &[Option<Obj>],
+    part: &[u16],
+) -> Result<Map, AllocError>
+    requires declares { declared.now ≡ declared_objects nothing statement.now.declared }
+    requires fits { IsTrue (is_pattern (stated statement.now) scope pattern.now) }
+    ensures { IfOk result
+        (λ map. map ≡ BlankChoices.images_of_choice scope declared.now pattern.now part.now) }
+{
+    let args = arguments(alloc, scope, declared, pattern, part)?;
+    let images = Map::paired(alloc, declared, &args)?;
+    Ok(images)
+}
+
 impl<'a> Blanks<'a> {
-    /// The images of the declared objects by the first numbers of a choice.
-    fn images(&self, alloc: Global, part: &[u16]) -> Result<Map, AllocError>
-        ensures { IfOk result (λ map. map ≡ BlankChoices.images_of_choice self.now.context.now.scope
-            self.now.declared.items self.now.pattern.now part.now) }
-    {
-        let scope = self.context.scope();
-        let args = arguments(alloc, scope, &self.declared, self.pattern, part)?;
-        let images = Map::paired(alloc, &self.declared, &args)?;
-        Ok(images)
-    }
-
-    /// Licenses a given literal whose objects are all known now, and were not before.
-    fn license_one(
-        &self,
-        alloc: Global,
-        lit: &Lit,
-        images: &Map,
-        earlier: &Map,
-        first: bool,
-    ) -> Result<Verdict<()>, AllocError>
-        ensures { IfOk result (OneIs self.now.context.now images.now earlier.now first lit.now) }
-    {
-        let image = renamed(alloc, lit, images)?;
-        let verdict = self.license_image(alloc, lit, &image, earlier, first);
-        mem::drop(image);
-        verdict
-    }
-
-    /// The same of a literal with this image, whichever images of its objects give it.
+    /// Whether the literal is allowed, where its objects are in scope. What is answered is kept.
     fn license_image(
         &self,
         alloc: Global,
-        lit: &Lit,
-        image: &Lit,
-        earlier: &Map,
-        first: bool,
+        memory: &mut Verdicts,
+        image: Lit,
     ) -> Result<Verdict<()>, AllocError>
-        ensures { IfOk result (λ v. (images : List Entry)
-            → image.now ≡ Rename.renamed (image_in images) lit.now
-            → OneIs self.now.context.now images earlier.now first lit.now v) }
+        requires { AreRight self.now.context.now memory.old }
+        ensures verdict { IfOk result (KnownIs self.now.context.now image) }
+        ensures memory { OnOk result (AreRight self.now.context.now memory.new) }
     {
-        if !self.is_newly_known(alloc, lit, image, earlier, first)? {
+        if !is_well_formed_in(self.context.scope(), &image) {
+            mem::drop(image);
             return Ok(Verdict::Yes(()));
         }
-        let metric_facts = self.step_facts.metric_facts();
-        match licence_by(alloc, self.context, metric_facts, self.prepared, image)? {
-            Licensed::Yes(cert) => {
-                mem::drop(cert);
-                Ok(Verdict::Yes(()))
-            }
-            Licensed::No(values) => {
-                mem::drop(values);
-                Ok(Verdict::No)
-            }
-            Licensed::TooWide(width) => Ok(Verdict::TooWide(width)),
+        if let Some(verdict) = memory.get(&image) {
+            mem::drop(image);
+            return Ok(verdict);
         }
+        self.ask(alloc, memory, image)
     }
 
-    /// Whether the literal's objects are all known by this image, and were not before.
-    fn is_newly_known(
+    /// The same of one that was not asked before.
+    fn ask(
         &self,
         alloc: Global,
-        lit: &Lit,
-        image: &Lit,
-        earlier: &Map,
-        first: bool,
-    ) -> Result<bool, AllocError>
-        ensures { IfOk result (λ b. b ≡ (LimitedFacts.is_well_formed_in
-            self.now.context.now.scope image.now && (first || not (LimitedFacts.is_well_formed_in
-            self.now.context.now.scope (Rename.renamed (image_in earlier.now) lit.now))))) }
-    {
-        let scope = self.context.scope();
-        if !is_well_formed_in(scope, image) {
-            return Ok(false);
-        }
-        if first {
-            return Ok(true);
-        }
-        let before = renamed(alloc, lit, earlier)?;
-        Ok(!is_well_formed_in(scope, &before))
-    }
-
-    /// Licenses the given literals whose objects are all known now, and were not before, up to the
-    /// first that is not allowed.
-    fn license_all(
-        &self,
-        alloc: Global,
-        images: &Map,
-        earlier: &Map,
-        first: bool,
+        memory: &mut Verdicts,
+        image: Lit,
     ) -> Result<Verdict<()>, AllocError>
-        ensures { IfOk result
-            (AllIs self.now.context.now images.now earlier.now first self.now.statement.now.given) }
+        requires memory { AreRight self.now.context.now memory.old }
+        requires image { IsTrue
+            (LimitedFacts.is_well_formed_in self.now.context.now.scope image) }
+        ensures verdict { IfOk result (KnownIs self.now.context.now image) }
+        ensures memory { OnOk result (AreRight self.now.context.now memory.new) }
     {
-        for lit in self.statement.given.items() {
-            match self.license_one(alloc, lit, images, earlier, first)? {
-                Verdict::Yes(()) => {}
-                Verdict::No => return Ok(Verdict::No),
-                Verdict::TooWide(width) => return Ok(Verdict::TooWide(width)),
+        let metric_facts = self.step_facts.metric_facts();
+        match allowed_by(alloc, self.context, metric_facts, self.prepared, &image) {
+            Ok(verdict) => {
+                memory.keep(image, &verdict)?;
+                Ok(verdict)
+            }
+            Err(error) => {
+                mem::drop(image);
+                Err(error)
+            }
+        }
+    }
+
+    /// The same of a given literal by the images of its objects.
+    fn license_one(
+        &self,
+        alloc: Global,
+        memory: &mut Verdicts,
+        lit: &Lit,
+        images: &Map,
+    ) -> Result<Verdict<()>, AllocError>
+        requires { AreRight self.now.context.now memory.old }
+        ensures verdict { IfOk result (OneIs self.now.context.now images.now lit.now) }
+        ensures memory { OnOk result (AreRight self.now.context.now memory.new) }
+    {
+        let image = renamed(alloc, lit, images)?;
+        self.license_image(alloc, memory, image)
+    }
+
+    /// Whether the given literal at a place is one of the metric ones, or of the others, and all of
+    /// these are asked, or it is known with this many numbers.
+    fn is_asked(&self, at: usize, lit: &Lit, length: usize, metric: bool, all: bool) -> bool
+        ensures { result ≡ false → all ≡ true → is_metric lit.now ≡ metric → ⊥ }
+    {
+        if kind(lit).is_some() != metric {
+            return false;
+        }
+        all || (at < self.ready.len() && self.ready[at] == length)
+    }
+
+    /// Licenses the metric given literals, or the others, up to the first that is not allowed: all,
+    /// or those that are known with this many numbers.
+    fn license_those(
+        &self,
+        alloc: Global,
+        memory: &mut Verdicts,
+        images: &Map,
+        length: usize,
+        metric: bool,
+        all: bool,
+    ) -> Result<Verdict<()>, AllocError>
+        requires { AreRight self.now.context.now memory.old }
+        ensures verdict { IfOk result
+            (AreIs self.now.context.now images.now metric all self.now.statement.now.given) }
+        ensures memory { OnOk result (AreRight self.now.context.now memory.new) }
+    {
+        for (at, lit) in self.statement.given.items().iter().enumerate() {
+            if self.is_asked(at, lit, length, metric, all) {
+                match self.license_one(alloc, memory, lit, images)? {
+                    Verdict::Yes(()) => {}
+                    Verdict::No => return Ok(Verdict::No),
+                    Verdict::TooWide(width) => return Ok(Verdict::TooWide(width)),
+                }
             }
         }
         Ok(Verdict::Yes(()))
     }
-}
 
-/// The part without its last number.
-fn front(part: &[u16]) -> &[u16]
-    ensures { result.now ≡ take (length part.now - 1) part.now }
-{
-    match part {
-        [] => part,
-        [front @ .., _] => front,
+    /// The same of both: what is asked of diagrams is kept, and so comes first.
+    fn license_all(
+        &self,
+        alloc: Global,
+        memory: &mut Verdicts,
+        images: &Map,
+        length: usize,
+        all: bool,
+    ) -> Result<Verdict<()>, AllocError>
+        requires { AreRight self.now.context.now memory.old }
+        ensures verdict { IfOk result
+            (AllIs self.now.context.now images.now all self.now.statement.now.given) }
+        ensures memory { OnOk result (AreRight self.now.context.now memory.new) }
+    {
+        match self.license_those(alloc, memory, images, length, false, all)? {
+            Verdict::Yes(()) => self.license_those(alloc, memory, images, length, true, all),
+            Verdict::No => Ok(Verdict::No),
+            Verdict::TooWide(width) => Ok(Verdict::TooWide(width)),
+        }
+    }
+
+    /// Licenses all given literals of a whole choice, whenever they were known.
+    fn license_whole(
+        &self,
+        alloc: Global,
+        memory: &mut Verdicts,
+        images: &Map,
+        length: usize,
+    ) -> Result<Verdict<()>, AllocError>
+        requires { AreRight self.now.context.now memory.old }
+        ensures verdict { IfOk result (AllIs self.now.context.now images.now
+            (length == self.now.whole) self.now.statement.now.given) }
+        ensures memory { OnOk result (AreRight self.now.context.now memory.new) }
+    {
+        if length == self.whole {
+            self.license_all(alloc, memory, images, length, true)
+        } else {
+            Ok(Verdict::Yes(()))
+        }
     }
 }
 
 impl<'a> Task for Blanks<'a> {
     type Proof = ();
+
+    type Memory = Verdicts;
 
     ghost wanted = { λ s c. IsWanted s.context.now s.declared.items s.pattern.now
         s.statement.now.given c };
@@ -358,10 +422,28 @@ impl<'a> Task for Blanks<'a> {
     ghost wide = { λ s part w. SomeIsWideAt s.context.now (BlankChoices.images_of_choice
         s.context.now.scope s.declared.items s.pattern.now part) s.statement.now.given w };
 
-    fn check(&self, alloc: Global, part: &[u16]) -> Result<Verdict<()>, AllocError> {
-        let images = self.images(alloc, part)?;
-        let earlier = self.images(alloc, front(part))?;
-        let verdict = self.license_all(alloc, &images, &earlier, part.is_empty())?;
-        Ok(verdict)
+    ghost right = { λ s m. AreRight s.context.now m };
+
+    fn check(
+        &self,
+        alloc: Global,
+        memory: &mut Verdicts,
+        part: &[u16],
+    ) -> Result<Verdict<()>, AllocError> {
+        let scope = self.context.scope();
+        let length = part.len();
+        let images = images(
+            alloc,
+            scope,
+            self.statement,
+            &self.declared,
+            self.pattern,
+            part,
+        )?;
+        match self.license_all(alloc, memory, &images, length, false)? {
+            Verdict::Yes(()) => self.license_whole(alloc, memory, &images, length),
+            Verdict::No => Ok(Verdict::No),
+            Verdict::TooWide(width) => Ok(Verdict::TooWide(width)),
+        }
     }
 }

@@ -1,6 +1,6 @@
 //! The good choices for the blanks of an application, in order.
 
-ghost use Rattle.std.specs.Prelude.{◌≡◌, ◌<◌, ◌^◌, IsTrue, IfOk, length, map};
+ghost use Rattle.std.specs.Prelude.{◌≡◌, ◌<◌, ◌^◌, IsTrue, IfOk, OnOk, length, map};
 ghost use Rattle.e_literal.specs.Use.{is_statement};
 ghost use Rattle.e_metric.specs.Fronts.{AreFronts};
 ghost use Rattle.e_theorem.specs.Pattern.{is_pattern};
@@ -8,11 +8,14 @@ ghost use Rattle.e_theorem.specs.Statements.{stated};
 ghost use Rattle.e_transfer.specs.Prepared.{IsPrepared};
 ghost use Rattle.e_licence.specs.ChoicesInOrder.{FirstAre};
 ghost use Rattle.e_licence.specs.declared.choices.FirstChoices.TheVariants.{Found};
+ghost use Rattle.e_licence.specs.Verdicts.{AreRight};
 ghost use Rattle.e_licence.specs.inner.BlankChoices.{filled_arguments};
 
 use crate::blanks::{Blanks, arguments, has_empty, spans};
 use crate::context::Context;
+use crate::ready::ready_places;
 use crate::sweep::{Swept, sweep};
+use crate::verdicts::Verdicts;
 use e_literal::{Items, NOTHING, Obj, Scope, next_objects};
 use e_metric::{MetricFacts, StepFacts};
 use e_theorem::Statement;
@@ -37,26 +40,45 @@ pub enum FirstChoices {
 /// them. It fails only out of memory.
 ///
 /// It begins from what the context has solved of its facts: a [`Context::solve`] before it is worth
-/// its time.
+/// its time. What it asks of diagrams is kept in `memory`, for other statements at the context.
 pub fn first_choices(
     alloc: Global,
     context: &Context,
+    memory: &mut Verdicts,
     statement: &Statement,
     pattern: &[Option<Obj>],
     most: usize,
 ) -> Result<FirstChoices, AllocError>
+    requires memory { AreRight context.now memory.old }
     requires states { IsTrue (is_statement (stated statement.now)) }
     requires fits { IsTrue (is_pattern (stated statement.now) context.now.scope pattern.now) }
     requires few { length statement.now.declared < 2 ^ 16 }
-    ensures { IfOk result (FirstAre (stated statement.now) context.now pattern.now most) }
+    ensures choices { IfOk result (FirstAre (stated statement.now) context.now pattern.now most) }
+    ensures memory { OnOk result (AreRight context.now memory.new) }
 {
     if let Some(metric_facts) = context.solved() {
-        return choices_with(alloc, context, metric_facts, statement, pattern, most);
+        return choices_with(
+            alloc,
+            context,
+            metric_facts,
+            memory,
+            statement,
+            pattern,
+            most,
+        );
     }
     context.has_limited_facts();
     let facts = context.facts();
     let metric_facts = MetricFacts::of(alloc, facts)?;
-    let answer = choices_with(alloc, context, &metric_facts, statement, pattern, most);
+    let answer = choices_with(
+        alloc,
+        context,
+        &metric_facts,
+        memory,
+        statement,
+        pattern,
+        most,
+    );
     mem::drop(metric_facts);
     answer
 }
@@ -66,15 +88,18 @@ fn choices_with(
     alloc: Global,
     context: &Context,
     metric_facts: &MetricFacts,
+    memory: &mut Verdicts,
     statement: &Statement,
     pattern: &[Option<Obj>],
     most: usize,
 ) -> Result<FirstChoices, AllocError>
     requires metric_facts { AreFronts context.now.facts metric_facts.now }
+    requires memory { AreRight context.now memory.old }
     requires states { IsTrue (is_statement (stated statement.now)) }
     requires fits { IsTrue (is_pattern (stated statement.now) context.now.scope pattern.now) }
     requires few { length statement.now.declared < 2 ^ 16 }
-    ensures { IfOk result (FirstAre (stated statement.now) context.now pattern.now most) }
+    ensures choices { IfOk result (FirstAre (stated statement.now) context.now pattern.now most) }
+    ensures memory { OnOk result (AreRight context.now memory.new) }
 {
     context.has_limited_facts();
     let facts = context.facts();
@@ -84,6 +109,7 @@ fn choices_with(
         context,
         metric_facts,
         &prepared,
+        memory,
         statement,
         pattern,
         most,
@@ -98,16 +124,19 @@ fn choices_by(
     context: &Context,
     metric_facts: &MetricFacts,
     prepared: &Prepared,
+    memory: &mut Verdicts,
     statement: &Statement,
     pattern: &[Option<Obj>],
     most: usize,
 ) -> Result<FirstChoices, AllocError>
     requires metric_facts { AreFronts context.now.facts metric_facts.now }
+    requires memory { AreRight context.now memory.old }
     requires prepared { IsPrepared context.now.facts prepared.now }
     requires states { IsTrue (is_statement (stated statement.now)) }
     requires fits { IsTrue (is_pattern (stated statement.now) context.now.scope pattern.now) }
     requires few { length statement.now.declared < 2 ^ 16 }
-    ensures { IfOk result (FirstAre (stated statement.now) context.now pattern.now most) }
+    ensures choices { IfOk result (FirstAre (stated statement.now) context.now pattern.now most) }
+    ensures memory { OnOk result (AreRight context.now memory.new) }
 {
     let declared = next_objects(alloc, NOTHING, statement.declared.items())?;
     let spans = spans(alloc, context.scope(), &declared, pattern)?;
@@ -117,6 +146,9 @@ fn choices_by(
             more: false,
         });
     }
+    let scope = context.scope();
+    let whole = spans.len();
+    let ready = ready_places(alloc, scope, statement, &declared, pattern, whole)?;
     let step_facts = StepFacts::new(context.facts(), metric_facts);
     let blanks = Blanks {
         context,
@@ -125,11 +157,20 @@ fn choices_by(
         statement,
         pattern,
         declared,
+        ready,
+        whole,
     };
     let mut chosen = Vec::new(alloc);
     let mut found = Items::empty(alloc);
-    let scope = context.scope();
-    match sweep(alloc, &blanks, &spans, &mut chosen, &mut found, most)? {
+    match sweep(
+        alloc,
+        &blanks,
+        memory,
+        &spans,
+        &mut chosen,
+        &mut found,
+        most,
+    )? {
         Swept::Done => as_found(
             alloc,
             scope,

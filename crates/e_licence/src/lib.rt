@@ -10,8 +10,10 @@ mod contradiction;
 mod held;
 mod licensing;
 mod limits;
+mod ready;
 mod solving;
 mod sweep;
+mod verdicts;
 
 pub use blanks::{Filled, match_blanks};
 pub use choices::{FirstChoices, first_choices};
@@ -20,3 +22,4 @@ pub use contradiction::{Refuted, against};
 pub use e_transfer::{are_limited_facts, is_well_formed_in};
 pub use licensing::{Licensed, licence};
 pub use limits::is_statement;
+pub use verdicts::Verdicts;

@@ -8,12 +8,13 @@ ghost use Rattle.e_metric.specs.Fronts.{AreFronts};
 ghost use Rattle.e_metric.specs.MetricAnswers.{IsMetricAnswer, IfNo};
 ghost use Rattle.e_transfer.specs.Prepared.{IsPrepared};
 ghost use Rattle.e_licence.specs.Licences.{IsLicence};
+ghost use Rattle.e_licence.specs.Verdicts.{GivenIs, JudgedIs};
 
 use crate::context::Context;
 use e_clause::{Cert, Part};
 use e_literal::{Lit, Values, kind};
 use e_metric::{Metric, MetricFacts};
-use e_transfer::{Found, Prepared, find_by_facts, find_prepared, prepare};
+use e_transfer::{Found, Prepared, Verdict, find_by_facts, find_prepared, prepare};
 use std::alloc::{AllocError, Global};
 use std::mem;
 
@@ -98,27 +99,6 @@ fn given_in_turn(
     let licensed = by_sums(alloc, context, metric_facts, &prepared, lit);
     mem::drop(prepared);
     licensed
-}
-
-/// The same, where what is asked of magnitudes is solved already, so that it need not be for each
-/// of many literals.
-pub(crate) fn licence_by(
-    alloc: Global,
-    context: &Context,
-    metric_facts: &MetricFacts,
-    prepared: &Prepared,
-    lit: &Lit,
-) -> Result<Licensed, AllocError>
-    requires metric_facts { AreFronts context.now.facts metric_facts.now }
-    requires prepared { IsPrepared context.now.facts prepared.now }
-    requires lit { IsTrue (is_well_formed_in context.now.scope lit.now) }
-    ensures { IfOk result (IsLicence context.now lit.now) }
-{
-    let facts = context.facts();
-    if facts.has(lit) {
-        return Ok(Licensed::Yes(Cert::Plain(Part::Fact)));
-    }
-    by_sums(alloc, context, metric_facts, prepared, lit)
 }
 
 // The same of a literal that is no fact.
@@ -216,5 +196,96 @@ fn metric(
             Found::Yes(cert) => Ok(Licensed::Yes(Cert::Transfer(cert))),
             Found::No | Found::TooWide(_) => Ok(Licensed::TooWide(width)),
         },
+    }
+}
+
+/// Whether the literal is allowed, no matter why, where what is asked of magnitudes is solved
+/// already, so that it need not be for each of many literals. A metric literal that is seen to be
+/// false with values with which the facts are true is asked of no sums.
+pub(crate) fn allowed_by(
+    alloc: Global,
+    context: &Context,
+    metric_facts: &MetricFacts,
+    prepared: &Prepared,
+    lit: &Lit,
+) -> Result<Verdict<()>, AllocError>
+    requires metric_facts { AreFronts context.now.facts metric_facts.now }
+    requires prepared { IsPrepared context.now.facts prepared.now }
+    requires lit { IsTrue (is_well_formed_in context.now.scope lit.now) }
+    ensures { IfOk result (JudgedIs context.now lit.now) }
+{
+    let facts = context.facts();
+    if kind(lit).is_some() && prepared.refutes(facts, lit) {
+        return by_transfer(alloc, context, metric_facts, prepared, lit);
+    }
+    if facts.has(lit) {
+        return Ok(Verdict::Yes(()));
+    }
+    if kind(lit).is_none() {
+        return by_transfer(alloc, context, metric_facts, prepared, lit);
+    }
+    follows_or_given(alloc, context, metric_facts, prepared, lit)
+}
+
+// The same of a metric literal that is no fact.
+fn follows_or_given(
+    alloc: Global,
+    context: &Context,
+    metric_facts: &MetricFacts,
+    prepared: &Prepared,
+    lit: &Lit,
+) -> Result<Verdict<()>, AllocError>
+    requires metric_facts { AreFronts context.now.facts metric_facts.now }
+    requires prepared { IsPrepared context.now.facts prepared.now }
+    requires lit { IsTrue (is_well_formed_in context.now.scope lit.now) }
+    requires not_fact { IsFalse (has context.now.facts lit.now) }
+    requires metric { IsTrue (is_metric lit.now) }
+    ensures { IfOk result (JudgedIs context.now lit.now) }
+{
+    context.has_limited_facts();
+    let facts = context.facts();
+    match metric_facts.follows(alloc, facts, lit)? {
+        Metric::Yes(cert) => {
+            mem::drop(cert);
+            Ok(Verdict::Yes(()))
+        }
+        Metric::No(values) => {
+            mem::drop(values);
+            by_transfer(alloc, context, metric_facts, prepared, lit)
+        }
+        // A transfer from facts alone allows it, whatever the sums are.
+        Metric::TooWide(width) => {
+            match by_transfer(alloc, context, metric_facts, prepared, lit)? {
+                Verdict::Yes(()) => Ok(Verdict::Yes(())),
+                Verdict::No | Verdict::TooWide(_) => Ok(Verdict::TooWide(width)),
+            }
+        }
+    }
+}
+
+// Whether a transfer gives a literal that is no fact.
+fn by_transfer(
+    alloc: Global,
+    context: &Context,
+    metric_facts: &MetricFacts,
+    prepared: &Prepared,
+    lit: &Lit,
+) -> Result<Verdict<()>, AllocError>
+    requires metric_facts { AreFronts context.now.facts metric_facts.now }
+    requires prepared { IsPrepared context.now.facts prepared.now }
+    requires lit { IsTrue (is_well_formed_in context.now.scope lit.now) }
+    requires not_fact { IsFalse (has context.now.facts lit.now) }
+    ensures { IfOk result (GivenIs context.now lit.now) }
+{
+    context.has_limited_facts();
+    let scope = context.scope();
+    let facts = context.facts();
+    match find_prepared(alloc, scope, facts, metric_facts, prepared, lit)? {
+        Found::Yes(cert) => {
+            mem::drop(cert);
+            Ok(Verdict::Yes(()))
+        }
+        Found::No => Ok(Verdict::No),
+        Found::TooWide(width) => Ok(Verdict::TooWide(width)),
     }
 }

@@ -1,6 +1,6 @@
 //! A second way to walk a search: all kept choices in order, up to a given number.
 
-ghost use Rattle.std.specs.Prelude.{◌≤◌, length, IfOk};
+ghost use Rattle.std.specs.Prelude.{◌≤◌, length, IfOk, OnOk};
 ghost use Rattle.e_licence.specs.inner.Sweeps.{FoundIs, Sweeps};
 
 use e_literal::Items;
@@ -43,16 +43,19 @@ fn found_one(
 pub fn sweep<T: Task>(
     alloc: Global,
     task: &T,
+    memory: &mut T::Memory,
     spans: &[Span],
     chosen: &mut Vec<u16>,
     found: &mut Items<Items<u16>>,
     most: usize,
 ) -> Result<Swept, AllocError>
-    requires { length found.old ≤ most }
-    ensures { IfOk result (Sweeps (T.kept task.now) (T.wide task.now) (T.wanted task.now) spans.now
-        most chosen.old.items chosen.new.items found.old found.new) }
+    requires few { length found.old ≤ most }
+    requires memory { T.right task.now memory.old }
+    ensures outcome { IfOk result (Sweeps (T.kept task.now) (T.wide task.now) (T.wanted task.now)
+        spans.now most chosen.old.items chosen.new.items found.old found.new) }
+    ensures memory { OnOk result (T.right task.now memory.new) }
 {
-    let proof = match task.check(alloc, chosen)? {
+    let proof = match task.check(alloc, memory, chosen)? {
         Verdict::Yes(proof) => proof,
         Verdict::No => return Ok(Swept::Done),
         Verdict::TooWide(width) => return Ok(Swept::TooWide(width)),
@@ -63,7 +66,7 @@ pub fn sweep<T: Task>(
         [span, rest @ ..] => {
             for value in span.from..span.to {
                 chosen.push(value)?;
-                match sweep(alloc, task, rest, chosen, found, most)? {
+                match sweep(alloc, task, memory, rest, chosen, found, most)? {
                     Swept::Done => {}
                     Swept::Full => return Ok(Swept::Full),
                     Swept::TooWide(width) => return Ok(Swept::TooWide(width)),

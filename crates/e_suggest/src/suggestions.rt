@@ -1,10 +1,11 @@
 //! The good choices of arguments for a statement.
-ghost use Rattle.std.specs.Prelude.{◌≡◌, ◌≤◌, IsTrue, IfOk, length, replicate, None};
+ghost use Rattle.std.specs.Prelude.{◌≡◌, ◌≤◌, IsTrue, IfOk, OnOk, length, replicate, None};
 ghost use Rattle.e_literal.specs.Use.{is_statement};
 ghost use Rattle.e_theorem.specs.Statements.{stated};
+ghost use Rattle.e_licence.specs.Verdicts.{AreRight};
 ghost use Rattle.e_suggest.specs.Suggestions.{SuggestedIs};
 
-use e_licence::{Context, FirstChoices, first_choices};
+use e_licence::{Context, FirstChoices, Verdicts, first_choices};
 use e_literal::{Items, Obj};
 use e_theorem::Statement;
 use std::alloc::{AllocError, Global};
@@ -25,19 +26,23 @@ pub enum Suggested {
 /// at most this many, and whether there are more. They are compared in declared order by the
 /// objects' numbers. The statement has at most 6 declared objects. It fails only out of memory.
 ///
-/// The search is faster where the context has solved its facts: [`Context::solve`].
+/// The search is faster where the context has solved its facts: [`Context::solve`]. What it asks of
+/// diagrams is kept in `memory`, for other statements at the context.
 pub fn all(
     alloc: Global,
     context: &Context,
+    memory: &mut Verdicts,
     statement: &Statement,
     most: usize,
 ) -> Result<Suggested, AllocError>
+    requires memory { AreRight context.now memory.old }
     requires states { IsTrue (is_statement (stated statement.now)) }
     requires few { length statement.now.declared ≤ 6 }
-    ensures { IfOk result (SuggestedIs (stated statement.now) context.now most) }
+    ensures suggested { IfOk result (SuggestedIs (stated statement.now) context.now most) }
+    ensures memory { OnOk result (AreRight context.now memory.new) }
 {
     let pattern = only_blanks(alloc, statement.declared.len())?;
-    match first_choices(alloc, context, statement, &pattern, most)? {
+    match first_choices(alloc, context, memory, statement, &pattern, most)? {
         FirstChoices::Found { choices, more } => Ok(Suggested::Found { choices, more }),
         FirstChoices::TooWide(width) => Ok(Suggested::TooWide(width)),
     }

@@ -76,6 +76,14 @@ pub verdict_yes : {P : Type 0} (kept : Kept) (shown : Shown P) (wide : Wide) (wa
 verdict_yes {P} kept shown wide wanted before part v p at is claim =
     subst (λ (b : List ℕ). kept b) at (subst (λ (x : Verdict P). VerdictIs kept shown wide wanted part x) is claim).0
 
+-- a whole choice is found, and none is below it
+pub found_whole : {P : Type 0} (kept : Kept) (shown : Shown P) (wide : Wide) (wanted : Kept) (before part : List ℕ) (spans : List Span) (v : Verdict P) (p : P) →
+    part ≡ before → length spans < 1 → v ≡ verdict.Yes p → VerdictIs kept shown wide wanted part v → SearchIs kept shown wide wanted spans before before (verdict.Yes p)
+found_whole {P} kept shown wide wanted before part (n ∷ ns) v p at none is claim = absurd (omega (arith, none))
+found_whole {P} kept shown wide wanted before part [] v p at none is claim =
+    let all = subst (λ (b : List ℕ). VerdictIs kept shown wide wanted b (verdict.Yes p)) at (subst (λ (x : Verdict P). VerdictIs kept shown wide wanted part x) is claim) in
+    ([], tt, all.0, sym (append-nil before), all.1, none_below_empty wanted before [])
+
 pub verdict_no : {P : Type 0} (kept : Kept) (shown : Shown P) (wide : Wide) (wanted : Kept) (before part : List ℕ) (spans : List Span) (v : Verdict P) →
     part ≡ before → v ≡ verdict.No → VerdictIs kept shown wide wanted part v → NoneWanted wanted before spans
 verdict_no {P} kept shown wide wanted before part spans v at is claim d fits good =

@@ -17,7 +17,9 @@ use Rattle.e_clause.specs.Rows.{Row}
 use Rattle.e_clause.specs.Table.{table}
 use Rattle.e_clause.specs.Instance.{Inst, instance_of_row, arguments_fit, number, lit_at, clause_of}
 use Rattle.e_transfer.specs.inner.Equations.{line_variable, circle_variable}
-use Rattle.e_transfer.specs.inner.PartsOfChoices.{arguments_from, chosen_arguments, term_last, sum_last, atom_last, ready_at_of}
+use Rattle.e_clause.specs.Views.{row_of}
+use Rattle.e_transfer.specs.declared.numbers.Numbers.{Numbers}
+use Rattle.e_transfer.specs.inner.PartsOfChoices.{arguments_by, arguments_from, chosen_arguments, term_last, sum_last, atom_last, ready_at_of}
 
 -- ---- the literals of an instance
 
@@ -44,15 +46,19 @@ at_map h (y ∷ ys) (suc j) x e = at_map h ys j x e
 
 -- ---- the numbers of the arguments
 
-chosen : (r : Row) (c : List ℕ) (k : ℕ) (positions : List ℕ) (v : ℕ) → v < length positions → number (arguments_from r c k positions) v ≡ get_or c (get_or positions v 0) 0
+pub chosen : (r : Row) (c : List ℕ) (k : ℕ) (positions : List ℕ) (v : ℕ) → v < length positions → number (arguments_from r c k positions) v ≡ get_or c (get_or positions v 0) 0
 chosen r c k [] v less = absurd (omega (arith, less))
 chosen r c k (p ∷ positions) zero less = refl
 chosen r c k (p ∷ positions) (suc v) less = chosen r c (k + 1) positions v (omega (arith, less))
 
-unchosen : (r : Row) (c : List ℕ) (k : ℕ) (positions : List ℕ) (v : ℕ) → length positions ≤ v → number (arguments_from r c k positions) v ≡ 0
+pub unchosen : (r : Row) (c : List ℕ) (k : ℕ) (positions : List ℕ) (v : ℕ) → length positions ≤ v → number (arguments_from r c k positions) v ≡ 0
 unchosen r c k [] v over = refl
 unchosen r c k (p ∷ positions) zero over = absurd (omega (arith, over))
 unchosen r c k (p ∷ positions) (suc v) over = unchosen r c (k + 1) positions v (omega (arith, over))
+
+-- the arguments where the places are those of a plan
+pub arguments_at : (n : Numbers) (positions : List ℕ) → n.positions.now ≡ positions → arguments_by n ≡ chosen_arguments (row_of n.row.now) positions n.part.now
+arguments_at n positions is = ap (λ ps. chosen_arguments (row_of n.row.now) ps n.part.now) is
 
 -- a number that is chosen stays
 pub number_kept : (r : Row) (positions part rest : List ℕ) (v : ℕ) → get_or positions v 0 < length part

@@ -19,6 +19,7 @@ use Rattle.e_literal.specs.Rows.{is_degenerate}
 use Rattle.e_literal.specs.Same.{same_neg, same_atom, same_lit}
 use Rattle.e_literal.specs.Truth.{value_of}
 use Rattle.e_literal.proofs.Booleans.{and_left, and_right, same_neg_is}
+use Rattle.std.specs.Option.{option_map_or}
 use Rattle.e_clause.specs.Instance.{number, line_arg, circle_arg, lit_at, clause_of}
 use Rattle.e_clause.specs.Metric.{MetricConsequence}
 use Rattle.e_clause.specs.Rows.{Row}
@@ -272,3 +273,13 @@ none_elsewhere m scope facts goal rule place at r of_table less apart none args 
     let is : slice_get gives.lits at ≡ Some (lit_at r args l) = ap (λ (ls : List Lit). slice_get ls at) of.1 ∙ at_map (lit_at r args) (clause_of r) at l here in
     none l here args
     (subst (λ (b : Bool). IsFittingLiteral m facts goal b (lit_at r args l)) (unequal at place apart) (fitting m facts gives.lits goal (lit_at r args l) place at gives.here gives.suffice is))
+
+-- nor at this one, where its literal has not the goal's mark
+pub none_here : (m : Strength) (scope : Scope) (facts : List Lit) (goal : Lit) (rule place : ℕ) (r : Row) (neg : Bool) (a : Atom) → slice_get table rule ≡ Some r
+    → slice_get (clause_of r) place ≡ Some (record { neg = neg; atom = a }) → mark_number (relation_number a) neg ≢ lit_mark goal → NoneAt m scope facts goal rule place
+none_here m scope facts goal rule place r neg a of_table here unlike args gives =
+    let l : Lit = record { neg = neg; atom = a } in
+    let of = of_instance rule args r gives.lits of_table gives.instance in
+    let is : slice_get gives.lits place ≡ Some (lit_at r args l) = ap (λ (ls : List Lit). slice_get ls place) of.1 ∙ at_map (lit_at r args) (clause_of r) place l here in
+    let same : same_lit (lit_at r args l) goal ≡ true = sym (ap (λ o. option_map_or (λ x. same_lit x goal) o false) is) ∙ gives.here in
+    unlike (ap (λ n. mark_number n neg) (sym (relation_at (number args) (line_arg r args) (circle_arg r args) a)) ∙ mark_alike (lit_at r args l) goal same)

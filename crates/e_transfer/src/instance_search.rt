@@ -8,22 +8,20 @@ ghost use Rattle.e_clause.specs.Views.{row_of};
 ghost use Rattle.e_clause.specs.Instance.{clause_of};
 ghost use Rattle.e_transfer.specs.GivenGoals.{IsFittingLiteral, IsWideTransfer, Suffices};
 ghost use Rattle.e_transfer.specs.declared.query.Strength.TheVariants as strength;
-ghost use Rattle.e_literal.specs.Rename.{term_at};
-ghost use Rattle.e_clause.specs.Instance;
 ghost use Rattle.e_transfer.specs.Areas;
 ghost use Rattle.e_transfer.specs.Marks.{is_area_term};
-ghost use Rattle.e_transfer.specs.inner.PartsOfChoices;
 ghost use Rattle.e_transfer.specs.inner.SearchedPlaces.{Wanted, NoneFrom, Shown};
 
 use crate::areas::{equal_areas, is_one_of};
-use crate::clause::{clause_len, literal_at, pattern_at};
+use crate::clause::{clause_len, pattern_at};
 use crate::instance_check::{check_instance, is_refuted};
 use crate::marks::is_equation;
-use crate::plan::{Plan, last_of_term, sort_of};
+use crate::numbers::Numbers;
+use crate::plan::{Plan, last_of_term};
 use crate::query::{Query, Strength};
 use crate::walk::{Task, Verdict};
-use e_clause::{Row, Rule, TransferCert};
-use e_literal::{Items, Lit, Obj, Term, is_degenerate, kind, negate, same};
+use e_clause::{Rule, TransferCert};
+use e_literal::{Lit, Term, is_degenerate, kind, negate, same};
 use std::alloc::{AllocError, Global};
 use std::mem;
 
@@ -39,36 +37,6 @@ pub struct InstanceSearch<'a> {
     /// of speed alone.
     pub areas: Option<usize>,
     ghost transfer: { IsTrue (is_transfer rule) },
-}
-
-/// The number at a place of a choice, by its first numbers; 0 where it is not chosen yet.
-fn number(part: &[u16], place: usize) -> u16
-    ensures { result ≡ slice_index part.now place }
-{
-    match part.get(place) {
-        Some(number) => *number,
-        None => 0,
-    }
-}
-
-/// The arguments by the first numbers of a choice.
-fn arguments(
-    alloc: Global,
-    row: &Row,
-    positions: &[usize],
-    part: &[u16],
-) -> Result<Items<Obj>, AllocError>
-    ensures { IfOk result
-        (λ a. a ≡ PartsOfChoices.chosen_arguments (row_of row.now) positions.now part.now) }
-{
-    let mut args = Vec::with_capacity(alloc, positions.len())?;
-    for (v, place) in positions.iter().enumerate() {
-        args.push(Obj {
-            sort: sort_of(row, v),
-            num: number(part, *place),
-        })?;
-    }
-    Ok(Items::new(args))
 }
 
 /// Whether the last number of a part of this length completes the literal at a place of the clause.
@@ -117,32 +85,6 @@ fn may_hold(query: &Query, here: bool, lit: Lit) -> bool
     holds
 }
 
-/// The number of a variable by the arguments; 0 where there is none.
-fn number_in(args: &[Obj], variable: u16) -> u16
-    ensures { result ≡ Instance.number args.now variable }
-{
-    match args.get(usize::from(variable)) {
-        Some(object) => object.num,
-        None => 0,
-    }
-}
-
-/// An area over variables, with the arguments for them.
-fn area_at(args: &[Obj], area: Term) -> Term
-    ensures { result ≡ term_at (Instance.number args.now) area }
-{
-    match area {
-        Term::Area(x, y, z) => Term::Area(
-            number_in(args, x),
-            number_in(args, y),
-            number_in(args, z),
-        ),
-        Term::Seg(x, y) => Term::Seg(number_in(args, x), number_in(args, y)),
-        Term::Ang(x, y, z) => Term::Ang(number_in(args, x), number_in(args, y), number_in(args, z)),
-        Term::Right => Term::Right,
-    }
-}
-
 /// Whether no need holds that says that the area differs from another: there are values with which
 /// all facts are true, and no fact names the area.
 fn is_free(query: &Query, area: Term) -> bool
@@ -159,69 +101,56 @@ impl<'a> InstanceSearch<'a> {
     /// Whether the last number of the part completes the first of two areas that the clause says to
     /// be equal at this place, and the area is free: then the two do not differ, whatever the other
     /// is.
-    fn has_free_area(&self, row: &Row, part: &[u16], args: &[Obj], at: usize) -> bool
-        requires of_table { slice_get table self.now.rule ≡ Some (row_of row.now) }
-        requires arguments { args.now ≡ PartsOfChoices.chosen_arguments (row_of row.now)
-            self.now.plan.now.positions.items part.now }
+    fn has_free_area(&self, numbers: &Numbers, at: usize) -> bool
+        requires of_table { slice_get table self.now.rule ≡ Some (row_of numbers.now.row.now) }
+        requires places { numbers.now.positions.now ≡ self.now.plan.now.positions.items }
         ensures { result ≡ true
             → NoneFrom self.now.query.strength self.now.query.scope self.now.query.facts.now
-            self.now.query.goal.now self.now.rule self.now.place self.now.plan.now part.now }
+            self.now.query.goal.now self.now.rule self.now.place self.now.plan.now
+            numbers.now.part.now }
     {
-        if at >= clause_len(row) || at == self.place || is_equation(self.query.goal) {
+        if at >= clause_len(numbers.row) || at == self.place || is_equation(self.query.goal) {
             return false;
         }
-        let (pattern, negated) = pattern_at(row, at);
+        let (pattern, negated) = pattern_at(numbers.row, at);
         let Some(area) = equal_areas(&pattern) else {
             return false;
         };
-        if negated || !is_last(last_of_term(&self.plan.positions, area), part.len()) {
+        if negated || !is_last(last_of_term(numbers.positions, area), numbers.part.len()) {
             return false;
         }
-        is_free(&self.query, area_at(args, area))
+        is_free(&self.query, numbers.term(area))
     }
 
     /// Whether the last number of the part completes the literal at a place of the clause, and the
     /// literal is excluded.
-    fn is_excluded(
-        &self,
-        alloc: Global,
-        row: &Row,
-        part: &[u16],
-        args: &[Obj],
-        j: usize,
-    ) -> Result<bool, AllocError>
-        requires of_table { slice_get table self.now.rule ≡ Some (row_of row.now) }
-        requires arguments { args.now ≡ PartsOfChoices.chosen_arguments (row_of row.now)
-            self.now.plan.now.positions.items part.now }
-        requires in_clause { j < length (clause_of (row_of row.now)) }
+    fn is_excluded(&self, alloc: Global, numbers: &Numbers, j: usize) -> Result<bool, AllocError>
+        requires of_table { slice_get table self.now.rule ≡ Some (row_of numbers.now.row.now) }
+        requires places { numbers.now.positions.now ≡ self.now.plan.now.positions.items }
+        requires in_clause { j < length (clause_of (row_of numbers.now.row.now)) }
         ensures { IfOk result (λ b. b ≡ true
             → NoneFrom self.now.query.strength self.now.query.scope self.now.query.facts.now
-            self.now.query.goal.now self.now.rule self.now.place self.now.plan.now part.now) }
+            self.now.query.goal.now self.now.rule self.now.place self.now.plan.now
+            numbers.now.part.now) }
     {
-        if !is_completed(&self.plan.ready_at, j, part.len()) {
+        if !is_completed(&self.plan.ready_at, j, numbers.part.len()) {
             return Ok(false);
         }
-        let lit = literal_at(alloc, row, args, j)?;
+        let lit = numbers.literal(alloc, j)?;
         Ok(!may_hold(&self.query, j == self.place, lit))
     }
 
     /// Whether no literal that the last number of the part completes is excluded.
-    fn may_go_on(
-        &self,
-        alloc: Global,
-        row: &Row,
-        part: &[u16],
-        args: &[Obj],
-    ) -> Result<bool, AllocError>
-        requires of_table { slice_get table self.now.rule ≡ Some (row_of row.now) }
-        requires arguments { args.now ≡ PartsOfChoices.chosen_arguments (row_of row.now)
-            self.now.plan.now.positions.items part.now }
+    fn may_go_on(&self, alloc: Global, numbers: &Numbers) -> Result<bool, AllocError>
+        requires of_table { slice_get table self.now.rule ≡ Some (row_of numbers.now.row.now) }
+        requires places { numbers.now.positions.now ≡ self.now.plan.now.positions.items }
         ensures { IfOk result (λ b. b ≡ false
             → NoneFrom self.now.query.strength self.now.query.scope self.now.query.facts.now
-            self.now.query.goal.now self.now.rule self.now.place self.now.plan.now part.now) }
+            self.now.query.goal.now self.now.rule self.now.place self.now.plan.now
+            numbers.now.part.now) }
     {
-        for j in 0..clause_len(row) {
-            if self.is_excluded(alloc, row, part, args, j)? {
+        for j in 0..clause_len(numbers.row) {
+            if self.is_excluded(alloc, numbers, j)? {
                 return Ok(false);
             }
         }
@@ -231,6 +160,8 @@ impl<'a> InstanceSearch<'a> {
 
 impl<'a> Task for InstanceSearch<'a> {
     type Proof = Option<TransferCert>;
+
+    type Memory = ();
 
     ghost wanted = { λ s c. Wanted s.query.strength s.query.scope s.query.facts.now s.query.goal.now
         s.rule s.place s.plan.now c };
@@ -243,24 +174,32 @@ impl<'a> Task for InstanceSearch<'a> {
     ghost wide = { λ s part w. (s.query.strength ≡ strength.Sums)
         × IsWideTransfer s.query.scope s.query.facts.now s.query.goal.now w };
 
+    ghost right = { λ s m. Unit {0} };
+
     fn check(
         &self,
         alloc: Global,
+        _memory: &mut (),
         part: &[u16],
     ) -> Result<Verdict<Option<TransferCert>>, AllocError> {
         let row = self.rule.table_row();
-        let args = arguments(alloc, row, &self.plan.positions, part)?;
+        let numbers = Numbers {
+            row,
+            positions: &self.plan.positions,
+            part,
+        };
         if let Some(at) = self.areas {
-            if self.has_free_area(row, part, args.items(), at) {
+            if self.has_free_area(&numbers, at) {
                 return Ok(Verdict::No);
             }
         }
-        if !self.may_go_on(alloc, row, part, args.items())? {
+        if !self.may_go_on(alloc, &numbers)? {
             return Ok(Verdict::No);
         }
         if part.len() < self.plan.spans.len() {
             return Ok(Verdict::Yes(None));
         }
+        let args = numbers.arguments(alloc)?;
         match check_instance(alloc, &self.query, self.rule, args)? {
             Verdict::Yes(cert) => Ok(Verdict::Yes(Some(cert))),
             Verdict::No => Ok(Verdict::No),

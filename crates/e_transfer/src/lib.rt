@@ -16,6 +16,7 @@ mod instance_search;
 mod marks;
 mod matches;
 mod models;
+mod numbers;
 mod order;
 mod plan;
 mod prepared;

@@ -128,7 +128,7 @@ fn is_strict_of_areas(neg: bool, shape: &Shape) -> bool
 }
 
 /// The atom of a pattern, or of its negation, and its sign.
-fn parts(pattern: &Pattern, negated: bool) -> (Shape, bool)
+pub fn parts(pattern: &Pattern, negated: bool) -> (Shape, bool)
     ensures { signed_literal negated pattern.now
         ≡ record { neg = result.1; atom = atom_of result.0 } }
 {
@@ -176,6 +176,18 @@ fn may_hold(query: &Query, row: &Row, at: usize) -> bool
     let (pattern, negated) = pattern_at(row, at);
     let (shape, neg) = parts(&pattern, negated);
     mark(relation_of(&shape), neg) == mark_of(query.goal) || may_suffice(query, !neg, &shape)
+}
+
+/// Whether an instance may have the goal at this place of the clause.
+pub fn may_be_goal(query: &Query, row: &Row, place: usize) -> bool
+    requires { place < length (clause_of (row_of row.now)) }
+    ensures { result ≡ false → (rule : ℕ) → slice_get table rule ≡ Some (row_of row.now)
+        → NoneAt query.now.strength query.now.scope query.now.facts.now query.now.goal.now
+        rule place }
+{
+    let (pattern, negated) = pattern_at(row, place);
+    let (shape, neg) = parts(&pattern, negated);
+    mark(relation_of(&shape), neg) == mark_of(query.goal)
 }
 
 /// Whether the place is the goal's, or may have the goal or a literal whose negation holds.

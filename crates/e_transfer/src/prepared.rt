@@ -1,19 +1,20 @@
 //! What is made of the facts of a step once, for all goals that are searched for by sums.
 
-ghost use Rattle.std.specs.Prelude.{◌≡◌, ◌≤◌, length, IsTrue, IfOk};
+ghost use Rattle.std.specs.Prelude.{◌≡◌, ◌≤◌, length, IsTrue, IfOk, true};
 ghost use Rattle.std.specs.List.{list_all};
 ghost use Rattle.e_literal.specs.WellFormed.{is_well_formed};
 ghost use Rattle.e_clause.specs.Assignment.{terms_of_lits};
 ghost use Rattle.e_clause.specs.LimitedFacts.{most_terms_of_step};
+ghost use Rattle.e_clause.specs.Metric.{MetricConsequence};
 ghost use Rattle.e_metric.specs.Fronts.{AreFronts};
 ghost use Rattle.e_transfer.specs.Areas.{name_areas_of};
 ghost use Rattle.e_transfer.specs.Prepared.{IsPrepared};
 
 use crate::areas::areas_of;
 use crate::marks::{MARKS, marks_of};
-use crate::models::{Filling, are_of_model};
+use crate::models::{Filling, are_of_model, refutes};
 use e_facts::Facts;
-use e_literal::{Term, Values};
+use e_literal::{Lit, Term, Values};
 use e_metric::{Metric, MetricFacts};
 use std::alloc::{AllocError, Global};
 
@@ -67,4 +68,18 @@ pub fn prepare(
     let areas = areas_of(alloc, facts)?;
     let answer = metric_facts.absurd(alloc, facts)?;
     Ok(with_values(facts, values_of(alloc, answer), areas))
+}
+
+impl Prepared {
+    /// Whether the metric literal is seen not to follow, by the values of a model of the facts.
+    pub fn refutes(&self, facts: &Facts, lit: &Lit) -> bool
+        requires { IsPrepared facts.now self.now }
+        ensures { result ≡ true → ¬ MetricConsequence facts.now lit.now }
+    {
+        let values = self.values.items();
+        if self.plain_model && refutes(facts, Filling::Ones, values, lit) {
+            return true;
+        }
+        self.spread_model && refutes(facts, Filling::Spread, values, lit)
+    }
 }

@@ -13,7 +13,7 @@ use crate::areas::place_of_areas;
 use crate::clause::{clause_len, pattern_at};
 use crate::equations::Equation;
 use crate::instance_search::InstanceSearch;
-use crate::marks::may_all_hold;
+use crate::marks::{may_all_hold, may_be_goal};
 use crate::matches::matches;
 use crate::order::order;
 use crate::plan::make_plan;
@@ -50,7 +50,7 @@ fn search_with_bindings(
         areas: place_of_areas(row),
     };
     let mut chosen = Vec::new(alloc);
-    let found = search(alloc, &task, &plan.spans, &mut chosen);
+    let found = search(alloc, &task, &mut (), &plan.spans, &mut chosen);
     mem::drop(plan);
     match found? {
         Verdict::Yes(Some(cert)) => Ok(Verdict::Yes(cert)),
@@ -108,6 +108,9 @@ fn search_place(
         query.now.goal.now (NoneAt query.now.strength query.now.scope query.now.facts.now
         query.now.goal.now rule place)) }
 {
+    if !may_be_goal(query, row, place) {
+        return Ok(Verdict::No);
+    }
     if !may_all_hold(query, row, place) {
         return Ok(Verdict::No);
     }

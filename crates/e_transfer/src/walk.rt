@@ -1,6 +1,6 @@
 //! A complete search for the least good choice, one number at each of a list of places.
 
-ghost use Rattle.std.specs.Prelude.{◌≡◌, ◌++◌, ℕ, List, IfOk, OnErr, ◌<◌, length};
+ghost use Rattle.std.specs.Prelude.{◌≡◌, ◌++◌, ℕ, List, IfOk, OnOk, OnErr, ◌<◌, length};
 ghost use Rattle.e_transfer.specs.Verdicts.{VerdictIs, SearchIs};
 
 use std::alloc::{AllocError, Global};
@@ -29,6 +29,9 @@ pub trait Task {
     /// What a check hands out for a whole choice.
     type Proof: Drop;
 
+    /// What is remembered from check to check, so that nothing is asked twice.
+    type Memory;
+
     // which choices are wanted, as a whole
     ghost wanted: { Self → List ℕ → Type 0 };
 
@@ -41,9 +44,19 @@ pub trait Task {
     // what it means that something is too wide at a part
     ghost wide: { Self → List ℕ → ℕ → Type 0 };
 
-    fn check(&self, alloc: Global, part: &[u16]) -> Result<Verdict<Self::Proof>, AllocError>
-        ensures { IfOk result (VerdictIs (kept self.now) (shown self.now) (wide self.now)
-            (wanted self.now) part.now) };
+    // what it means that what is remembered is right
+    ghost right: { Self → Self.Memory → Type 0 };
+
+    fn check(
+        &self,
+        alloc: Global,
+        memory: &mut Self::Memory,
+        part: &[u16],
+    ) -> Result<Verdict<Self::Proof>, AllocError>
+        requires { right self.now memory.old }
+        ensures verdict { IfOk result (VerdictIs (kept self.now) (shown self.now) (wide self.now)
+            (wanted self.now) part.now) }
+        ensures memory { OnOk result (right self.now memory.new) };
 }
 
 /// The least choice that begins with `chosen`, goes on with one number of each span, and whose
@@ -54,14 +67,17 @@ pub trait Task {
 pub fn search<T: Task>(
     alloc: Global,
     task: &T,
+    memory: &mut T::Memory,
     spans: &[Span],
     chosen: &mut Vec<u16>,
 ) -> Result<Verdict<T::Proof>, AllocError>
+    requires { T.right task.now memory.old }
     ensures outcome { IfOk result (SearchIs (T.kept task.now) (T.shown task.now) (T.wide task.now)
         (T.wanted task.now) spans.now chosen.old.items chosen.new.items) }
+    ensures memory { OnOk result (T.right task.now memory.new) }
     ensures err { OnErr result ((more : List ℕ) × (chosen.new.items ≡ chosen.old.items ++ more)) }
 {
-    let proof = match task.check(alloc, chosen)? {
+    let proof = match task.check(alloc, memory, chosen)? {
         Verdict::Yes(proof) => proof,
         Verdict::No => return Ok(Verdict::No),
         Verdict::TooWide(width) => return Ok(Verdict::TooWide(width)),
@@ -72,7 +88,7 @@ pub fn search<T: Task>(
             mem::drop(proof);
             for value in span.from..span.to {
                 chosen.push(value)?;
-                match search(alloc, task, rest, chosen)? {
+                match search(alloc, task, memory, rest, chosen)? {
                     Verdict::No => {}
                     Verdict::Yes(proof) => return Ok(Verdict::Yes(proof)),
                     Verdict::TooWide(width) => return Ok(Verdict::TooWide(width)),

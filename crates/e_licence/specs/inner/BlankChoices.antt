@@ -1,11 +1,12 @@
 -- Choices for the blanks of an application, number by number, and what is licensed at each.
-use Rattle.std.specs.Prelude.{◌-◌, ℕ, List, [], ◌∷◌, Bool, Option, Some, None, ◌&&◌, ◌||◌, ◌==◌}
-use Rattle.std.specs.Prelude.{not, map, length, take, IsTrue, Contains}
+use Rattle.std.specs.Prelude.{◌≡◌, ℕ, List, [], ◌∷◌, Bool, true, Option, Some, None}
+use Rattle.std.specs.Prelude.{map, length, IsTrue, Contains}
 use Rattle.e_literal.specs.declared.object.Obj.{Obj}
 use Rattle.e_literal.specs.declared.object.Scope.{Scope}
 use Rattle.e_literal.specs.declared.literal.Lit.{Lit}
 use Rattle.e_literal.specs.declared.map.Entry.{Entry}
 use Rattle.e_literal.specs.Literal.{obj, count_of}
+use Rattle.e_literal.specs.Facts.{is_metric}
 use Rattle.e_literal.specs.Rename.{image_in, renamed, paired}
 use Rattle.e_clause.specs.Allowed.{Allowed, AllAllowed}
 use Rattle.e_clause.specs.LimitedFacts.{is_well_formed_in}
@@ -49,24 +50,25 @@ images_of_choice s os entries c = paired os (filled_arguments s os entries c)
 
 -- ---- what is licensed at the first numbers of a choice
 
--- all objects of the literal are in scope now, and not all were at the part before, if there is one
-abbrev pub is_completed : Scope → List Entry → List Entry → Bool → Lit → Bool
-is_completed s now before first l =
-    is_well_formed_in s (renamed (image_in now) l)
-    && (first || not (is_well_formed_in s (renamed (image_in before) l)))
+-- each literal all of whose objects are in scope is allowed
+abbrev pub AllBound : Basis → List Entry → List Lit → Type 0
+AllBound b now [] = Unit {0}
+AllBound b now (l ∷ ls) =
+    (IsTrue (is_well_formed_in b.scope (renamed (image_in now) l))
+    → Allowed b.scope b.facts (renamed (image_in now) l)) × AllBound b now ls
 
--- each literal that is completed is allowed
-abbrev pub AllCompleted : Basis → List Entry → List Entry → Bool → List Lit → Type 0
-AllCompleted b now before first [] = Unit {0}
-AllCompleted b now before first (l ∷ ls) =
-    (IsTrue (is_completed b.scope now before first l)
-    → Allowed b.scope b.facts (renamed (image_in now) l)) × AllCompleted b now before first ls
+-- the same of the metric literals alone, or of the others
+abbrev pub AllBoundOf : Basis → List Entry → Bool → List Lit → Type 0
+AllBoundOf b now metric [] = Unit {0}
+AllBoundOf b now metric (l ∷ ls) =
+    (is_metric l ≡ metric → IsTrue (is_well_formed_in b.scope (renamed (image_in now) l))
+    → Allowed b.scope b.facts (renamed (image_in now) l)) × AllBoundOf b now metric ls
 
--- each literal that the last number completes is allowed
+-- of a whole choice each literal is allowed; of the first numbers of one nothing is known
 abbrev pub IsKeptChoice : Basis → List Obj → List (Option Obj) → List Lit → List ℕ → Type 0
 IsKeptChoice b os entries given part =
-    AllCompleted b (images_of_choice b.scope os entries part)
-    (images_of_choice b.scope os entries (take (length part - 1) part)) (length part == 0) given
+    length part ≡ length (spans_of b.scope os entries)
+    → AllBound b (images_of_choice b.scope os entries part) given
 
 -- each literal is allowed
 abbrev pub IsWanted : Basis → List Obj → List (Option Obj) → List Lit → List ℕ → Type 0
@@ -75,14 +77,21 @@ IsWanted b os entries given c =
     (map (renamed (image_in (images_of_choice b.scope os entries c))) given)
 
 -- all objects of the literal are in scope, and it is not allowed
-pub record IsRefusedAt (b : Basis) (now : List Entry) (l : Lit) : Type 0 where
-  pub good : IsTrue (is_well_formed_in b.scope (renamed (image_in now) l))
-  pub not_allowed : ¬ Allowed b.scope b.facts (renamed (image_in now) l)
+pub record IsRefused (b : Basis) (image : Lit) : Type 0 where
+  pub good : IsTrue (is_well_formed_in b.scope image)
+  pub not_allowed : ¬ Allowed b.scope b.facts image
 
 -- all objects of the literal are in scope, and it is too wide
-pub record IsWideUnder (b : Basis) (now : List Entry) (l : Lit) (w : ℕ) : Type 0 where
-  pub good : IsTrue (is_well_formed_in b.scope (renamed (image_in now) l))
-  pub is_wide : IsTooWideLit b.scope b.facts (renamed (image_in now) l) w
+pub record IsWideImage (b : Basis) (image : Lit) (w : ℕ) : Type 0 where
+  pub good : IsTrue (is_well_formed_in b.scope image)
+  pub is_wide : IsTooWideLit b.scope b.facts image w
+
+-- the same of the literal by the images of its objects
+abbrev pub IsRefusedAt : Basis → List Entry → Lit → Type 0
+IsRefusedAt b now l = IsRefused b (renamed (image_in now) l)
+
+abbrev pub IsWideUnder : Basis → List Entry → Lit → ℕ → Type 0
+IsWideUnder b now l w = IsWideImage b (renamed (image_in now) l) w
 
 -- one of the literals is so
 pub record SomeIsRefusedAt (b : Basis) (now : List Entry) (ls : List Lit) : Type 0 where
@@ -96,15 +105,23 @@ pub record SomeIsWideAt (b : Basis) (now : List Entry) (ls : List Lit) (w : ℕ)
   pub is_wide : IsWideUnder b now lit w
 
 -- what is answered on one literal
-abbrev pub OneIs : Basis → List Entry → List Entry → Bool → Lit → Verdict (Unit {0}) → Type 0
-OneIs b now before first l (verdict.Yes p) =
-    IsTrue (is_completed b.scope now before first l)
-    → Allowed b.scope b.facts (renamed (image_in now) l)
-OneIs b now before first l verdict.No = IsRefusedAt b now l
-OneIs b now before first l (verdict.TooWide w) = IsWideUnder b now l w
+abbrev pub KnownIs : Basis → Lit → Verdict (Unit {0}) → Type 0
+KnownIs b image (verdict.Yes p) =
+    IsTrue (is_well_formed_in b.scope image) → Allowed b.scope b.facts image
+KnownIs b image verdict.No = IsRefused b image
+KnownIs b image (verdict.TooWide w) = IsWideImage b image w
 
--- what is answered on all
-abbrev pub AllIs : Basis → List Entry → List Entry → Bool → List Lit → Verdict (Unit {0}) → Type 0
-AllIs b now before first ls (verdict.Yes p) = AllCompleted b now before first ls
-AllIs b now before first ls verdict.No = SomeIsRefusedAt b now ls
-AllIs b now before first ls (verdict.TooWide w) = SomeIsWideAt b now ls w
+abbrev pub OneIs : Basis → List Entry → Lit → Verdict (Unit {0}) → Type 0
+OneIs b now l v = KnownIs b (renamed (image_in now) l) v
+
+-- what is answered on the metric ones, or on the others, where all these are asked or some
+abbrev pub AreIs : Basis → List Entry → Bool → Bool → List Lit → Verdict (Unit {0}) → Type 0
+AreIs b now metric all ls (verdict.Yes p) = all ≡ true → AllBoundOf b now metric ls
+AreIs b now metric all ls verdict.No = SomeIsRefusedAt b now ls
+AreIs b now metric all ls (verdict.TooWide w) = SomeIsWideAt b now ls w
+
+-- what is answered on all, or on some
+abbrev pub AllIs : Basis → List Entry → Bool → List Lit → Verdict (Unit {0}) → Type 0
+AllIs b now all ls (verdict.Yes p) = all ≡ true → AllBound b now ls
+AllIs b now all ls verdict.No = SomeIsRefusedAt b now ls
+AllIs b now all ls (verdict.TooWide w) = SomeIsWideAt b now ls w

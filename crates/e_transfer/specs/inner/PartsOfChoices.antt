@@ -12,7 +12,10 @@ use Rattle.e_literal.specs.declared.object.Sort.TheVariants.{Point, Line, Circle
 use Rattle.e_literal.specs.declared.object.Term.{Term}
 use Rattle.e_literal.specs.declared.object.Term.TheVariants.{Seg, Ang, Area, Right}
 use Rattle.e_literal.specs.Literal.{obj}
+use Rattle.e_clause.specs.Instance.{number, atom_at, line_arg, circle_arg}
 use Rattle.e_clause.specs.Rows.{Row}
+use Rattle.e_clause.specs.Views.{row_of}
+use Rattle.e_transfer.specs.declared.numbers.Numbers.{Numbers}
 use Rattle.e_transfer.specs.inner.Equations.{line_variable, circle_variable}
 
 -- the sort of a variable: points come first, then lines, then circles
@@ -28,6 +31,15 @@ arguments_from r c v (p ∷ ps) =
 
 abbrev pub chosen_arguments : Row → List ℕ → List ℕ → List Obj
 chosen_arguments r positions c = arguments_from r c 0 positions
+
+-- those by the first numbers of a choice, and the atom with them
+abbrev pub arguments_by : Numbers → List Obj
+arguments_by n = chosen_arguments (row_of n.row.now) n.positions.now n.part.now
+
+abbrev pub atom_by : Numbers → Atom → Atom
+atom_by n a =
+    atom_at (number (arguments_by n)) (line_arg (row_of n.row.now) (arguments_by n))
+    (circle_arg (row_of n.row.now) (arguments_by n)) a
 
 -- ---- the last place in the order of a literal's variables
 

@@ -5,34 +5,39 @@ use Rattle.e_commands.proofs.answers.SuggestedLines.{headed_at, statement_at, li
 use Rattle.e_commands.proofs.suggestions.list_theorems.Goals as goal
 
 pub loop-at-init : goal.loop-at-init
-loop-at-init c = listed_start c.args.place.now.names c.args.place.now.context.scope c.args.place.now.context.facts c.args.known.now c.args.out.now.items c.requires.empty
+loop-at-init c = (
+  listed_start c.args.place.now.names c.args.place.now.context.scope c.args.place.now.context.facts c.args.known.now c.args.out.now.items c.requires.empty,
+  c.new-memory.ensures c.args.place.now.context,
+)
 
-pub list_theorem-requires : goal.list_theorem-requires
-list_theorem-requires c =
+pub list_theorem-requires-clause-states : goal.list_theorem-requires-clause-states
+list_theorem-requires-clause-states c =
     statement_at c.args.known.now c.loop-at.at c.title-title.result (stated c.statement-statement.result.now) c.requires.small c.title-title.ensures c.statement-statement.ensures
 
 pub overflow_sub-count : goal.overflow_sub-count
-overflow_sub-count c = omega (arith, c.loop-at.invariant.few)
+overflow_sub-count c = omega (arith, c.loop-at.invariant.0.few)
 
 pub loop-at-preserved : goal.loop-at-preserved
-loop-at-preserved c =
-    listed_more c.args.place.now.names c.args.place.now.context.scope c.args.place.now.context.facts c.args.known.now c.loop-at.at c.title-title.result (stated c.statement-statement.result.now)
-    c.loop-at.out.items c.list_theorem.new.out.items c.loop-at.count c.in-All.lines c.in_ok-lines.field-0
-    (headed_at c.args.known.now c.loop-at.at c.title-title.result (stated c.statement-statement.result.now) c.title-title.ensures c.statement-statement.ensures) c.loop-at.invariant c.in-All.is c.in_ok-lines.ensures
+loop-at-preserved c = (
+  listed_more c.args.place.now.names c.args.place.now.context.scope c.args.place.now.context.facts c.args.known.now c.loop-at.at c.title-title.result (stated c.statement-statement.result.now)
+      c.loop-at.out.items c.list_theorem.new.out.items c.loop-at.count c.in-All.lines c.in_ok-lines.field-0
+      (headed_at c.args.known.now c.loop-at.at c.title-title.result (stated c.statement-statement.result.now) c.title-title.ensures c.statement-statement.ensures) c.loop-at.invariant.0 c.in-All.is c.in_ok-lines.ensures.listed,
+  c.in_ok-lines.ensures.memory,
+)
 
 pub returns-in-Full : goal.returns-in-Full
 returns-in-Full c =
     listed_full c.args.place.now.names c.args.place.now.context.scope c.args.place.now.context.facts c.args.known.now c.loop-at.at c.title-title.result (stated c.statement-statement.result.now)
     c.loop-at.out.items c.list_theorem.new.out.items c.loop-at.count c.in-Full.lines c.in_ok-lines.field-0
-    (headed_at c.args.known.now c.loop-at.at c.title-title.result (stated c.statement-statement.result.now) c.title-title.ensures c.statement-statement.ensures) c.loop-at.invariant c.in-Full.is c.in_ok-lines.ensures
+    (headed_at c.args.known.now c.loop-at.at c.title-title.result (stated c.statement-statement.result.now) c.title-title.ensures c.statement-statement.ensures) c.loop-at.invariant.0 c.in-Full.is c.in_ok-lines.ensures.listed
 
 pub returns-in-TooWide : goal.returns-in-TooWide
 returns-in-TooWide c =
     listed_wide c.args.place.now.names c.args.place.now.context.scope c.args.place.now.context.facts c.args.known.now c.loop-at.at c.title-title.result (stated c.statement-statement.result.now) _ c.in-TooWide.width
     c.loop-at.out.items c.list_theorem.new.out.items c.in_ok-lines.field-0
-    (headed_at c.args.known.now c.loop-at.at c.title-title.result (stated c.statement-statement.result.now) c.title-title.ensures c.statement-statement.ensures) c.in-TooWide.is c.in_ok-lines.ensures
+    (headed_at c.args.known.now c.loop-at.at c.title-title.result (stated c.statement-statement.result.now) c.title-title.ensures c.statement-statement.ensures) c.in-TooWide.is c.in_ok-lines.ensures.listed
 
 pub returns : goal.returns
 returns c =
     listed_all c.args.place.now.names c.args.place.now.context.scope c.args.place.now.context.facts c.args.known.now _ c.loop-at.out.items c.loop-at.count
-    (drop_all c.loop-at.at c.args.known.now (omega (arith, c.loop-at-test.false, c.len-at-end.ensures))) c.loop-at.invariant
+    (drop_all c.loop-at.at c.args.known.now (omega (arith, c.loop-at-test.false, c.len-at-end.ensures))) c.loop-at.invariant.0

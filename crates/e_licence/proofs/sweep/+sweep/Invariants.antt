@@ -11,3 +11,4 @@ invariant-loop-value g l =
     (l.chosen.items ≡ l.initial.chosen.items)
     × FoundUnder (g.T.Task.kept l.task) (g.T.Task.wanted l.task) l.initial.chosen.items (get_or l.spans 0 none_span) l.rest l.value l.initial.found l.found
     × (length l.found ≤ l.most)
+    × g.T.Task.right l.task l.memory

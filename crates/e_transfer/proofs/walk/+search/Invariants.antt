@@ -10,3 +10,4 @@ abbrev pub invariant-loop-value : goal.invariant-loop-value
 invariant-loop-value g l =
     (l.chosen.items ≡ l.initial.chosen.items)
     × ((u : ℕ) → (get_or l.spans 0 none_span).from ≤ u → u < l.value → (d : List ℕ) → FitsSpans l.rest d → g.T.Task.wanted l.task ((l.initial.chosen.items ++ u ∷ []) ++ d) → ⊥)
+    × g.T.Task.right l.task l.memory

@@ -1,9 +1,15 @@
 use Rattle.std.proofs.Common.{rules}
-use Rattle.e_licence.proofs.CompletedLiterals.{verdict_is}
+use Rattle.e_licence.proofs.KnownLiterals.{if_verdict, none_wanted}
 use Rattle.e_licence.proofs.blanks.BlanksTask.check.Goals as goal
 
-pub returns : goal.returns
-returns c =
+pub returns-in-Yes-clause-verdict : goal.returns-in-Yes-clause-verdict
+returns-in-Yes-clause-verdict c =
     let s = c.args.self.now in
-    verdict_is s.context.now s.declared.items s.statement.now.declared s.pattern.now s.statement.now.given c.args.part.now c.front.result.now c.in_ok-images.images c.in_ok-earlier.earlier
-    c.is_empty.result c.in_ok-verdict.verdict s.declares c.in_ok-images.ensures c.front.ensures c.in_ok-earlier.ensures (search rules) c.in_ok-verdict.ensures
+    if_verdict c.license_whole.result s.context.now s.declared.items s.statement.now.declared s.pattern.now s.statement.now.given c.args.part.now c.in_ok-images.images _ s.whole
+    s.declares (search rules) (search rules) s.counted c.license_whole.ensures.verdict
+
+pub returns-in-No-clause-verdict : goal.returns-in-No-clause-verdict
+returns-in-No-clause-verdict c =
+    let s = c.args.self.now in
+    none_wanted s.context.now s.declared.items s.statement.now.declared s.pattern.now s.statement.now.given c.args.part.now c.in_ok-images.images c.in_ok-license_all.field-0
+    s.declares (search rules) c.in-No.is c.in_ok-license_all.ensures.verdict

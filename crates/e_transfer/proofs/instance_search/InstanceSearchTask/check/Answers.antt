@@ -4,8 +4,8 @@ use Rattle.e_transfer.specs.inner.PartsOfChoices.{chosen_arguments}
 use Rattle.e_transfer.proofs.SearchedPlaces.{refused_whole, instance_refused}
 use Rattle.e_transfer.proofs.instance_search.InstanceSearchTask.check.Goals as goal
 
-pub returns-in-No : goal.returns-in-No
-returns-in-No c =
+pub returns-in-No-clause-verdict : goal.returns-in-No-clause-verdict
+returns-in-No-clause-verdict c =
     let s = c.args.self.now in
     let are : c.in_ok-args.args ≡ chosen_arguments (row_of c.table_row-row.result.now) s.plan.now.positions.items c.args.part.now =
     c.in_ok-args.ensures ∙ ap (λ (l : List ℕ). chosen_arguments (row_of c.table_row-row.result.now) l c.args.part.now) c.deref.ensures.value in

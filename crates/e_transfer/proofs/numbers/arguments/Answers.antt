@@ -1,6 +1,6 @@
 use Rattle.e_clause.specs.Views.{row_of}
 use Rattle.e_transfer.proofs.SearchedPlaces.{argument_added}
-use Rattle.e_transfer.proofs.instance_search.arguments.Goals as goal
+use Rattle.e_transfer.proofs.numbers.arguments.Goals as goal
 
 pub loop-v-preserved : goal.loop-v-preserved
 loop-v-preserved c =

@@ -1,5 +1,0 @@
-use Rattle.e_licence.proofs.CompletedLiterals.{Left}
-use Rattle.e_licence.proofs.blanks.Blanks.license_all.Given as goal
-
-abbrev pub invariant-loop-lit : goal.invariant-loop-lit
-invariant-loop-lit l = Left l.self.context.now l.images l.earlier l.first l.self.statement.now.given l.lit-index

@@ -1,0 +1,29 @@
+-- What was answered on literals, with no word of why.
+use Rattle.std.specs.Prelude.{IsTrue}
+use Rattle.e_literal.specs.declared.literal.Lit.{Lit}
+use Rattle.e_literal.specs.Facts.{has}
+use Rattle.e_clause.specs.Allowed.{Allowed}
+use Rattle.e_clause.specs.Wide.{IsTooWideLit}
+use Rattle.e_clause.specs.Transfer.{TransferConsequence}
+use Rattle.e_transfer.specs.FoundTransfers.{IsTooWideTransfer}
+use Rattle.e_transfer.specs.declared.walk.Verdict.{Verdict}
+use Rattle.e_transfer.specs.declared.walk.Verdict.TheVariants as verdict
+use Rattle.e_licence.specs.Contexts.{Basis}
+use Rattle.e_licence.specs.declared.verdicts.Verdicts.{Verdicts}
+
+-- the literal is allowed, or it is not, or it is wide and this is the width of one of its systems
+abbrev pub JudgedIs : Basis → Lit → Verdict (Unit {0}) → Type 0
+JudgedIs b l (verdict.Yes p) = Allowed b.scope b.facts l
+JudgedIs b l verdict.No = ¬ Allowed b.scope b.facts l
+JudgedIs b l (verdict.TooWide w) = IsTooWideLit b.scope b.facts l w
+
+-- of a literal that is no fact: a transfer gives it, or none does, or a system is too wide
+abbrev pub GivenIs : Basis → Lit → Verdict (Unit {0}) → Type 0
+GivenIs b l (verdict.Yes p) = TransferConsequence b.scope b.facts l
+GivenIs b l verdict.No = ¬ TransferConsequence b.scope b.facts l
+GivenIs b l (verdict.TooWide w) = IsTooWideTransfer b.scope b.facts l w
+
+-- what is kept is so by this scope and these facts
+pub record AreRight (b : Basis) (v : Verdicts) : Type 0 where
+  pub allowed : (l : Lit) → IsTrue (has v.allowed l) → Allowed b.scope b.facts l
+  pub refused : (l : Lit) → IsTrue (has v.refused l) → ¬ Allowed b.scope b.facts l
