@@ -253,7 +253,7 @@ class Trim(Folder):
         text = check(load([BOOKS / "book-1"]).text()).derivation
         steps = re.compile(r"^(?:by|hence|let|apply|claim|superpose|qed|contradiction|cases)\b", re.M)
         whole, less = (len(steps.findall(each)) for each in (text, program.run(["trim"], text).output))
-        self.assertEqual(done.stdout.split("\n")[-2], f"{whole - less} of {whole:,} steps, in 44 of 93 theorems")
+        self.assertEqual(done.stdout.split("\n")[-2], f"{whole - less} of {whole:,} steps, in 1 of 93 theorems")
         lines = done.stdout.count(": note: nothing needs step")
         self.assertLessEqual(lines, whole - less)
 
