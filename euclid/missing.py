@@ -5,22 +5,23 @@ What the search finds is a proposal: each is run in a scratch book, many of them
 
 from __future__ import annotations
 
+import time
 from collections.abc import Callable
 from itertools import islice
 
 from .clock import Clock, OutOfTime
 from .choices import Chooser
 from .closure import Line
-from .codes import Coded, Comparison, Unknown, clauses, negated, turned_round
+from .codes import Coded, Comparison, Unknown, clauses, decode, negated, turned_round
 from .contexts import BLANK, Situation
-from .diagnosis import Diagnosis, Premise, Way
+from .diagnosis import Diagnosis, Premise, Way, missing_words
 from .filling.page import Page
 from .filling.supply import Supplier
 from .filling.theorems import Catalogue
 from .filling.ways import Finder
 from .literals import Diagram, Literal, Metric, is_same, negation, parse_literal, spell
 from .near import Near, near
-from .reach import Reach
+from .reach import POINTS_EQUAL, Reach
 from .rules import tables
 from .scratch import Scratch, Trial, Untried
 from .script import Apply, By, Contradiction, Step
@@ -35,7 +36,7 @@ CONTRADICTION = ["claim right = right", "contradiction"]  # lines that are accep
 def add_ways(diagnosis: Diagnosis, situation: Situation, scratch: Scratch) -> None:
     """Puts the ways into a diagnosis, and what they tell into its message, as far as the time goes."""
     try:
-        put_ways(diagnosis, situation, scratch, Seeker(situation, Clock(SECONDS)))
+        put_ways(diagnosis, situation, scratch, Seeker(situation, Busy(SECONDS)))
     except (OutOfTime, Unknown):  # the latter where there are more objects than have numbers
         return
 
@@ -167,6 +168,8 @@ class Seeker:
         item = self.reach.code(literal)
         found = self.one_line(item)
         lines = self.supplied(item, as_fact)
+        if isinstance(item, int) and not as_fact and is_inequality(item):  # either direction will do
+            lines = shorter(lines, self.supplied(turned_round(item)[0], True))
         if lines is not None and len(lines) <= MOST_LINES:
             found.append(Way(lines))
         if not found:
@@ -220,6 +223,31 @@ class Seeker:
         return " ".join(self.reach.scope.names[sort][number] for sort, number in zip(rule.sorts, each.objects))
 
 
+def is_inequality(code: int) -> bool:
+    """Whether two points are said to differ."""
+    kind, positive, objects = decode(code)
+    return kind == POINTS_EQUAL and not positive and len(set(objects)) == 2
+
+
+def shorter(one: list[str] | None, other: list[str] | None) -> list[str] | None:
+    """The shorter one of two, if there are two."""
+    found = [lines for lines in (one, other) if lines is not None]
+    return min(found, key=len) if found else None
+
+
+class Busy(Clock):
+    """A clock that counts the processor time of this thread, so that a busy machine leaves the same time to search."""
+
+    def __init__(self, seconds: float) -> None:
+        super().__init__(None)
+        self.until = time.thread_time() + seconds
+
+    def check(self) -> None:
+        """Raises `OutOfTime` where the time is used up."""
+        if time.thread_time() > self.until:
+            raise OutOfTime("out of time")
+
+
 class Denial:
     """Asks whether the negation of a literal follows, where the literal does not."""
 
@@ -252,6 +280,13 @@ def explain(diagnosis: Diagnosis, situation: Situation, wanted: Literal | None, 
         for premise in diagnosis.premises:
             if not premise.is_there and not premise.ways[:1]:
                 premise.denied = premise.denied or ("follows" if denial.lines(premise.literal) is not None else "")
+        return
+    lacking = [premise for premise in diagnosis.premises if not premise.is_there and not premise.follows]
+    if len(lacking) > 1:
+        count = sum(len(premise.ways[0].lines) for premise in lacking if premise.ways)
+        all_ready = all(premise.ways and premise.ways[0].is_ready for premise in lacking)
+        diagnosis.message = f"{diagnosis.title} step {diagnosis.step}: {missing_words(lacking)}" + (
+            f"; {count} lines give them, below" if all_ready else "")
         return
     if is_ready:
         diagnosis.message += f"; {first_words(diagnosis.ways, step)}"
