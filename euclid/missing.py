@@ -19,7 +19,7 @@ from .filling.page import Page
 from .filling.supply import Supplier
 from .filling.theorems import Catalogue
 from .filling.ways import Finder
-from .literals import Diagram, Literal, Metric, is_same, negation, parse_literal, spell
+from .literals import Diagram, Literal, Metric, is_same, negation, parse_literal, spell, spell_all
 from .near import Near, near
 from .reach import POINTS_EQUAL, Reach
 from .rules import tables
@@ -58,8 +58,12 @@ def put_ways(diagnosis: Diagnosis, situation: Situation, scratch: Scratch, seeke
     try_all(diagnosis, missing, wanted, scratch)
     if isinstance(situation.step, Apply):
         choose(diagnosis, situation.step, seeker, scratch)
-    if wanted is not None and not is_by and not diagnosis.ready():
-        by_theorems(diagnosis, wanted, seeker, scratch)
+    if wanted is not None and not is_by:
+        for premise in missing:
+            if not premise.follows and not any(way.is_ready for way in premise.ways):
+                premise.ways = by_theorems(premise.literal, seeker, scratch) or premise.ways
+        if not missing and not diagnosis.ready():
+            diagnosis.ways = by_theorems(wanted, seeker, scratch) + diagnosis.ways
     if any(way.is_ready for way in diagnosis.ways):
         diagnosis.ways = [way for way in diagnosis.ways if way.is_ready]
     elif wanted is not None and any(is_same(premise.literal, wanted) for premise in missing):
@@ -67,17 +71,17 @@ def put_ways(diagnosis: Diagnosis, situation: Situation, scratch: Scratch, seeke
     explain(diagnosis, situation, wanted, Denial(seeker, scratch))
 
 
-def by_theorems(diagnosis: Diagnosis, wanted: Literal, seeker: Seeker, scratch: Scratch) -> None:
-    """Uses of earlier theorems that give what is wanted, where nothing less does."""
+def by_theorems(wanted: Literal, seeker: Seeker, scratch: Scratch) -> list[Way]:
+    """Uses of earlier theorems that give a literal, where nothing less does."""
     known = scratch.book.known_before(scratch.theorem)
     finder = Finder(Reach.of(seeker.situation.context, seeker.clock), known, Catalogue())
     try:
         found = finder.ways(seeker.reach.code(wanted), False, MOST_WAYS).ways
     except (OutOfTime, Unknown):
-        return
+        return []
     ways = [Way(way.lines) for way in found if way.applied and len(way.lines) <= MOST_LINES]
     keep_ready(ways, scratch, [f"hence {spell(wanted)}"])
-    diagnosis.ways = ways + diagnosis.ways
+    return ways
 
 
 def keep_ready(ways: list[Way], scratch: Scratch, last: Trial) -> None:
@@ -285,6 +289,9 @@ def explain(diagnosis: Diagnosis, situation: Situation, wanted: Literal | None, 
     if len(lacking) > 1:
         count = sum(len(premise.ways[0].lines) for premise in lacking if premise.ways)
         all_ready = all(premise.ways and premise.ways[0].is_ready for premise in lacking)
+        if isinstance(step, Apply) and not all_ready:
+            diagnosis.reason = statement_of(step, denial.scratch)
+            diagnosis.sentences.append(f"`euclid apply {diagnosis.title} {diagnosis.step} --of {step.title}` shows arguments that fit")
         diagnosis.message = f"{diagnosis.title} step {diagnosis.step}: {missing_words(lacking)}" + (
             f"; {count} lines give them, below" if all_ready else "")
         return
@@ -306,6 +313,13 @@ def explain(diagnosis: Diagnosis, situation: Situation, wanted: Literal | None, 
         begin = diagnosis.message.split(": ")[0]
         diagnosis.message = f"{begin}: `{diagnosis.wanted}` is false: `{spell(negation(wanted))}` follows" + \
             (after if lines else " from the facts")
+
+
+def statement_of(step: Apply, scratch: Scratch) -> str:
+    """What a theorem says, over its own names."""
+    used = scratch.book.known_before(scratch.theorem).theorems[step.title]
+    names = " ".join(name for name, _ in used.declared)
+    return f"{used.title} {names}: given {spell_all(used.given) or 'nothing'}; show {spell_all(used.shown)}"
 
 
 def lacks_words(lacks: list[Literal]) -> str:
