@@ -7,7 +7,7 @@ from collections.abc import Callable, Mapping
 from ..derivation import Arithmetic, Certificate, Clash, Fact, Reason, Row, Transfer
 from ..literals import Literal, Metric, Sort, negation
 from ..rules import tables
-from .markup import esc, link, tag
+from .markup import esc, link, tag, words_in
 from .notation import Notation
 
 Named = Callable[[Literal], str]  # a literal with a link to where it comes from
@@ -52,7 +52,7 @@ class Certificates:
         names = ", ".join(f"{self.notation.name(variable, sorts[variable])} = {self.notation.name(name, sorts[variable])}"
                           for variable, name in zip(rule.variables, certificate.names))
         parts = "".join(f"<li>{self.part(part)}</li>" for part in certificate.parts)
-        return (f"<p>by {link(f'{self.rules}{rule.name}.html', rule.name)}, {esc(rule.words)} "
+        return (f"<p>by {link(f'{self.rules}{rule.name}.html', rule.name)}: {words_in(rule.words)} "
                 f"Here {esc(names)}.</p><ul>{parts}</ul>")
 
     def part(self, reason: Reason) -> str:
