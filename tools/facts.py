@@ -11,7 +11,8 @@
 - The usage line, the exit statuses and the libraries that are trusted are those of the code: `check_program`.
 - The limits and the reserved words of docs/book.md are those of the code: `check_language`.
 - What the theorems of the library apply, and how many steps they have, is what their proofs say: `check_library`, and
-  for what is listed of Book I alone `check_book_one`.
+  for what is listed of Book I alone `check_book_one`. What docs/books-1-to-4.md cites of proofs is there: `check_history`,
+  and what docs/stating.md names: `check_stating`.
 - README has at most 150 lines, shows the book and the answers that are there, and says how many lines the second verifier
   has: `check_readme`.
 - The newest version of CHANGELOG.md is that of CITATION.cff, and of release/, or the program there is unreleased:
@@ -360,6 +361,34 @@ def check_library(top):
         yield page, 1, f"the books have {count_of(every)}"
 
 
+def check_history(top):
+    """What docs/books-1-to-4.md cites of a proof stands in it: the line, and the rules and theorems that give it."""
+    page = top / "docs/books-1-to-4.md"
+    carried = {row[0].strip("`") for _, row in cells_of(read(top / "docs/rules.md")) if row[0][:2] in ("`d", "`m")}
+    for number, cells in cells_of(read(page)):
+        files = re.findall(r"\]\(([^)]+\.book)\)", cells[0])
+        for book in [read(page.parent / file) for file in files]:
+            if spans(cells[-1]) and spans(cells[-1])[0] not in map(str.strip, book.split("\n")):
+                yield page, number, f"no such line there: {spans(cells[-1])[0]}"
+            for name in spans(cells[2]) if len(cells) == 4 else []:
+                if name not in book.split() and name not in carried:
+                    yield page, number, f"not there: {name}"
+
+
+def check_stating(top):
+    """What docs/stating.md names of the library is there."""
+    page = top / "docs/stating.md"
+    books = "".join(map(read, sorted(top.glob("library/*/*.book"))))
+    known = set(re.findall(r"(?m)^(?:theorem|define) (\S+)", books))
+    for number, cells in cells_of(read(page)):
+        for name in spans(cells[2]) if len(cells) == 3 else []:
+            if " " not in name and name not in known:
+                yield page, number, f"not in the library: {name}"
+        for name in re.findall(r"\bas ([a-z0-9-]+) [a-z]", " ".join(spans(cells[1]))) if len(cells) == 3 else []:
+            if name not in known:
+                yield page, number, f"no such definition: {name}"
+
+
 def count_of(theorems):
     return f"{len(theorems)} theorems, {sum(steps for _, steps in theorems.values()):,} steps"
 
@@ -458,4 +487,4 @@ def check_files(top):
                     yield page, number, f"no file of proofs: {word}"
 
 
-CHECKS = [check_rules, check_counts, check_crates, check_program, check_language, check_library, check_book_one, check_readme, check_versions, check_files]
+CHECKS = [check_rules, check_counts, check_crates, check_program, check_language, check_library, check_history, check_stating, check_book_one, check_readme, check_versions, check_files]
