@@ -14,6 +14,7 @@ import sys
 import tempfile
 import time
 import unittest
+import unittest.mock
 from pathlib import Path
 
 from euclid.answers import check
@@ -116,6 +117,28 @@ class Options(unittest.TestCase):
     def test_wrong_use(self) -> None:
         self.assertEqual(inside("check", "--only", "I.55", str(BOOK_ONE)).status, 3)
         self.assertEqual(inside("check", "--sideways").status, 3)
+
+    def test_a_sketch_that_has_parted(self) -> None:
+        text = (TOP / "examples" / "I.1.book").read_text(encoding="ascii")
+        with tempfile.TemporaryDirectory() as name:
+            book, sketch = Path(name) / "a.book", Path(name) / "a.sketch"
+            book.write_text(text, encoding="ascii")
+            sketch.write_text("\n".join(line for line in text.split("\n") if not line.startswith("by ")), encoding="ascii")
+            self.assertEqual(inside("check", str(book)), Done(0, "1 accepted\n", ""))
+            sketch.write_text(text.replace("let B circle b a", "let B circle a b"), encoding="ascii")
+            done = inside("check", str(book))
+            self.assertEqual((done.status, done.stdout), (0, "1 accepted\n"))
+            self.assertIn("a.sketch", done.stderr)
+            self.assertIn("warning: the sketch has `let B circle a b`", done.stderr)
+
+    def test_verifiers_that_differ(self) -> None:
+        with tempfile.TemporaryDirectory() as name:
+            other = Path(name) / "verify.py"
+            other.write_text("print('bad I.1 1')\nraise SystemExit(1)\n", encoding="ascii")
+            with unittest.mock.patch("euclid.twice.VERIFIER", other):
+                done = inside("check", "--twice", str(TOP / "examples" / "I.1.book"))
+        self.assertEqual(done.status, 4)
+        self.assertTrue(done.stderr.startswith("euclid: the verifiers differ"), done.stderr)
 
     def test_watch(self) -> None:
         with tempfile.TemporaryDirectory() as folder:
