@@ -343,6 +343,6 @@ def first_words(ways: list[Way], step: Step) -> str:
 def instead(step: By, line: str) -> str:
     """What a licensed line has otherwise than the refused one."""
     words = line.split()
-    if words[0] == "by" and words[1] == step.rule:
+    if words[0] == "by" and words[1] == step.rule and words[2 : words.index(":")] != step.names:
         return f"with the names `{' '.join(words[2 : words.index(':')])}` it is licensed"
     return f"`{line}` is licensed"

@@ -27,7 +27,7 @@ PAUSE = 0.3  # seconds between two looks at the files
 def arguments(parser: argparse.ArgumentParser) -> None:
     """The words of the command."""
     parser.add_argument("--only", metavar="TITLE", help="check this theorem alone, and what it rests on")
-    parser.add_argument("--quiet", action="store_true", help="one line for each refusal, without its reasons")
+    parser.add_argument("--quiet", action="store_true", help="one line for each refusal, and no ways are looked for")
     parser.add_argument("--watch", action="store_true", help="check again when a file changes, until you end it")
     parser.add_argument("--twice", action="store_true", help="verify what is accepted twice more, by two programs")
     add_json(parser)
