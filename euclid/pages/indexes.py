@@ -129,7 +129,7 @@ def needs_page(site: Site) -> str:
     parts.append(f"<ul>{explained}</ul>")
     for group in site.groups:
         rows = [[theorem_link(site, entry.title),
-                 *('<span aria-label="yes">●</span>' if has_need(site, entry.title, need) else '<span aria-label="no"></span>'
+                 *('<span role="img" aria-label="yes">●</span>' if has_need(site, entry.title, need) else ""
                    for need in NEEDS)] for entry in group.entries if entry.title in site.graph.applies]
         if rows:
             head = ("Theorem", *(esc(need.name) for need in NEEDS))
