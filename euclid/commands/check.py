@@ -51,11 +51,15 @@ def is_accepted(args: argparse.Namespace, library: Library) -> bool:
     if args.only or args.twice:
         return False
     text = library.text()
-    if " _" in text or any(path.with_suffix(".sketch").is_file() for path in library.own):
-        return False  # what filled a blank may be worth a note, and a sketch may have parted from its book
+    if " _" in text:  # what filled a blank may be worth a note
+        return False
     answer = check(text)
     if not answer.is_accepted():
         return False
+    from ..filling.sketches import sketch_messages
+
+    for message in sketch_messages(library):
+        put_json(message.data()) if args.json else tell(message)
     if args.json:
         put_json({"kind": "count", "accepted": answer.count, "refused": 0, "faulty": 0, "rest": 0, "failed": ""})
     else:
