@@ -7,7 +7,10 @@ import unittest
 from pathlib import Path
 
 from euclid.answers import check
+from euclid.filling.engine import fill_theorem
 from euclid.filling.sketches import partings
+from euclid.library import load
+from euclid.reading import read_book
 
 TOP = Path(__file__).resolve().parents[2]
 SKETCH = """theorem T
@@ -64,6 +67,30 @@ class PartingTest(unittest.TestCase):
         self.assertEqual([each.text for each in partings(SKETCH, BOOK + other)], ["`U` is not in the sketch"])
         both = [each.text for each in partings(SKETCH + other, other + SKETCH)]
         self.assertEqual(both, ["the theorems come in another order"])
+
+
+class PageTest(unittest.TestCase):
+    """docs/sketches.md: each sketch there is filled, and agrees with the book below it."""
+
+    def test_the_page(self) -> None:
+        page = (TOP / "docs" / "sketches.md").read_text()
+        blocks = [block for block in re.findall(r"^```\n(.*?)^```$", page, re.M | re.S) if block.startswith("theorem ")]
+        library = load([TOP / "library" / "book-1"]).book()
+        self.assertEqual([block.split()[1] for block in blocks], ["I.1", "I.1", "I.5", "I.5", "I.47", "I.47"])
+        for sketch, book in zip(blocks[::2], blocks[1::2]):
+            title = sketch.split()[1]
+            own = library.theorem(title)
+            assert own is not None
+            known = library.known_before(own)
+            theorem = read_book(sketch, known).theorems()[0]
+            before = "".join(line.text + "\n" for item in library.items[: library.items.index(own)] for line in item.lines)
+            self.assertTrue(check(before + fill_theorem(theorem, known).text()).is_accepted(), title)
+            self.assertTrue(check(before + book).is_accepted(), title)
+            self.assertFalse(check(before + sketch).is_accepted(), title)
+            self.assertEqual(partings(sketch, book), [])
+            counts = [len(read_book(text, known).theorems()[0].steps()) for text in (sketch, book)]
+            self.assertIn(f"sketch has {counts[0]} steps", page)
+            self.assertIn(f"book has {counts[1]} steps", " ".join(page.split()))
 
 
 if __name__ == "__main__":
