@@ -19,6 +19,8 @@ from collections import namedtuple
 HERE = os.path.dirname(os.path.abspath(__file__))
 JOINED = [sys.executable, f"{HERE}/../tools/join.py"]
 BOOK = [*JOINED, f"{HERE}/../library/book-1"]
+BOOKS = [*JOINED, f"{HERE}/../library"]
+THEOREMS = 263  # of all books
 RUNS = 5
 LIMIT = 60  # processor seconds of a run
 # Counting takes some fifty times as long as the run: it has a limit of its own, and is not tried where the run took longer than this.
@@ -26,8 +28,9 @@ COUNT_LIMIT, COUNTED = 180, 3
 CHAINS = (50, 100, 200, 400, 500)
 REFUSED = 7
 
-# What is run: the words after the program, what makes its text, the answer, and whether z3 is asked the same questions.
-Row = namedtuple("Row", "shape size words maker answer is_asked", defaults=[False])
+# What is run: the words after the program, what makes its text, the answer, whether z3 is asked the same questions, and the version of a
+# derivation text that is verified.
+Row = namedtuple("Row", "shape size words maker answer is_asked version", defaults=[False, 1])
 Ran = namedtuple("Ran", "seconds out")
 
 
@@ -43,12 +46,15 @@ def rows():
     yield Row("Book I", 93, ["check"], BOOK, "accepted 93", True)
     for form in ("lean", "blanks"):
         yield Row(f"Book I, {form}", 93, ["check"], script("book_one.py", form), "accepted 93")
+    yield Row("Books I to IV", THEOREMS, ["check"], BOOKS, f"accepted {THEOREMS}")
     for kind in range(REFUSED):
         made = script("growing.py", "refused", "2000", str(kind))
         yield Row(f"refused, step {kind}", 2000, ["check"], made, "unlicensed T 1")
     for size in (50, 500):
         yield Row("trial", size, ["trial", str(size)], ["true"], f"trial {size} theorems {size}")
     yield Row("verify, Book I", 93, ["verify"], BOOK, "verified 93")
+    for version in (1, 2):
+        yield Row(f"verify, I to IV, v{version}", THEOREMS, ["verify"], BOOKS, f"verified {THEOREMS}", version=version)
     yield Row("verify, sums", 40, ["verify"], script("sums.py", "40"), "verified 40")
 
 
@@ -136,6 +142,9 @@ class Table:
             if run([self.writer, "check"], book, text, LIMIT) is None:
                 self.print(row.shape, row.size, None, None, "its text was not written in time")
                 return
+            if row.version == 2:
+                run([self.writer, "upgrade"], text, book, LIMIT)
+                text = book
         ran, count = self.measured([self.program, *row.words], text, to)
         self.costs[row.shape, row.size] = count, ran and ran.seconds
         if ran is None:

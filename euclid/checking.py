@@ -8,12 +8,13 @@ from __future__ import annotations
 
 from dataclasses import dataclass, field
 from enum import StrEnum
+from functools import cached_property, lru_cache
 
 from .answers import Answer, check
 from .derivation import Part, read_derivation
-from .rereading import titles_in
+from .rereading import text_of, titles_in
 from .script import Book, Item, Theorem
-from .syntax import SourceLine
+from .syntax import SourceLine, lines_in
 
 MOST_KEPT = 400  # items of a book for which verdicts are kept; with more its limits come into play
 WHOLE = ("limit theorems", "limit bytes", "limit notions")  # faults of the book as a whole
@@ -29,13 +30,31 @@ class Verdict(StrEnum):
 
 
 @dataclass
+class Written:
+    """The block of an accepted theorem in a derivation text, which is taken apart when it is asked for."""
+
+    title: str
+    text: str
+
+    @cached_property
+    def part(self) -> Part:
+        """Its lines and certificates."""
+        return read_derivation(self.text).parts[self.title]
+
+
+@dataclass
 class Outcome:
     """What became of an item, and why."""
 
     verdict: Verdict
     answer: Answer | None = None  # where it is refused, too wide or faulty
     on: str = ""  # the title of the refused or faulty one that it rests on
-    part: Part | None = None  # of the derivation text, where it is an accepted theorem
+    written: Written | None = None  # where it is an accepted theorem
+
+    @property
+    def part(self) -> Part | None:
+        """Its block of the derivation text, where it is an accepted theorem."""
+        return self.written.part if self.written else None
 
 
 @dataclass
@@ -63,7 +82,7 @@ class Checker:
     """Checks one book after the other; what was accepted before, and is the same, is not run again."""
 
     def __init__(self) -> None:
-        self.accepted: dict[str, Part | None] = {}
+        self.accepted: dict[str, Written | None] = {}
 
     def check(self, book: Book) -> Outcomes:
         """What becomes of each item."""
@@ -77,13 +96,13 @@ class Checker:
 class Run:
     """One check of a book, in as many runs of `elements` as it takes."""
 
-    def __init__(self, book: Book, before: dict[str, Part | None]) -> None:
+    def __init__(self, book: Book, before: dict[str, Written | None]) -> None:
         self.book, self.items = book, book.items
         self.texts = [line.text for line in book.lines]
         self.start = book.lines[0].number if book.lines else 1
         self.outcomes: list[Outcome | None] = [None] * len(self.items)
         self.strays: list[Stray] = []
-        self.accepted: dict[str, Part | None] = {}
+        self.accepted: dict[str, Written | None] = {}
         self.runs = 0
         self.uses = uses_of(self.items)
         self.keys = keys_of(self.items, self.uses)
@@ -97,14 +116,15 @@ class Run:
         found = (self.outcomes[used] for used in self.uses[at])
         return all(each is not None and each.verdict == Verdict.ACCEPTED for each in found)
 
-    def accept(self, at: int, part: Part | None) -> None:
+    def accept(self, at: int, written: Written | None) -> None:
         """Notes that an item is accepted."""
-        self.outcomes[at] = Outcome(Verdict.ACCEPTED, part=part)
-        self.accepted[self.keys[at]] = part
+        self.outcomes[at] = Outcome(Verdict.ACCEPTED, written=written)
+        self.accepted[self.keys[at]] = written
 
     def all_outcomes(self) -> Outcomes:
         """Runs until all is known."""
-        while any(each is None for each in self.outcomes) or self.first_stray() is not None or self.runs == 0:
+        is_empty = not self.items and not self.book.stray
+        while any(each is None for each in self.outcomes) or self.first_stray() is not None or is_empty and not self.runs:
             before = self.known()
             answer = check(self.text())
             self.runs += 1
@@ -139,11 +159,11 @@ class Run:
 
     def take(self, answer: Answer) -> None:
         """Takes what a run says."""
-        parts = read_derivation(answer.derivation).parts
+        blocks = blocks_of(answer.derivation)
         stop = self.stop_of(answer)
         for at, item in enumerate(self.items):
             if self.outcomes[at] is None and (stop is None or at < stop):
-                self.accept(at, parts.get(item.title) if isinstance(item, Theorem) else None)
+                self.accept(at, blocks.get(item.title) if isinstance(item, Theorem) else None)
         if answer.is_accepted():
             return
         number = self.start + answer.line - 1
@@ -194,6 +214,19 @@ class Run:
                 self.outcomes[later] = Outcome(Verdict.RESTS, on=self.items[at].title)
 
 
+def blocks_of(text: str) -> dict[str, Written]:
+    """The blocks of a derivation text, by their titles."""
+    head, *blocks = text.replace("\nend\n", "\nend\n\0").split("\0")
+    blocks = [head.partition("\n")[2], *blocks]
+    found = {}
+    for block in blocks:
+        first, _, rest = block.partition("\n")
+        if first.startswith("theorem ") and rest.endswith("end\n"):
+            title = first.removeprefix("theorem ")
+            found[title] = Written(title, f"derivation 1\n{block}")
+    return found
+
+
 def is_ended(item: Item) -> bool:
     """Whether an item has its line `end`."""
     said = [line for line in item.lines if not line.is_skipped()]
@@ -205,8 +238,7 @@ def uses_of(items: list[Item]) -> list[list[int]]:
     places: dict[str, int] = {}
     found = []
     for at, item in enumerate(items):
-        lines = [line for line in item.lines if line.number >= item.head.number]
-        found.append(sorted({places[title] for title in titles_in(lines) if title in places}))
+        found.append(sorted({places[title] for title in titles_in(item.lines) if title in places}))
         places.setdefault(item.title, at)
     return found
 
@@ -215,11 +247,16 @@ def keys_of(items: list[Item], uses: list[list[int]]) -> list[str]:
     """For each item a text that is another where its verdict may be: its lines and the statements that it uses."""
     found, statements = [], list[str]()
     for at, item in enumerate(items):
-        lines = [" ".join(line.words) for line in item.lines
-                 if line.number >= item.head.number and not line.is_skipped()]
-        used = "\n".join(statements[each] for each in uses[at])
-        found.append("\n".join([*lines, "", used]))
-        front = lines[: lines.index("proof")] if "proof" in lines else lines
+        said, front = said_in(text_of(item.lines))
+        found.append("\n".join([said, "", *(statements[each] for each in uses[at])]))
         definitions = [statements[each] for each in uses[at] if items[each].head.words[0] == "define"]
-        statements.append("\n".join([*front, *definitions]))
+        statements.append("\n".join([front, *definitions]))
     return found
+
+
+@lru_cache(maxsize=4096)
+def said_in(text: str) -> tuple[str, str]:
+    """What a text says, without comments and more blanks than one; and the part of it before the proof."""
+    lines = [" ".join(line.words) for line in lines_in(text) if not line.is_skipped()]
+    front = lines[: lines.index("proof")] if "proof" in lines else lines
+    return "\n".join(lines), "\n".join(front)

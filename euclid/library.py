@@ -7,11 +7,11 @@ import sys
 import tomllib
 from collections.abc import Mapping
 from dataclasses import dataclass, field
-from functools import cached_property
+from functools import cached_property, lru_cache
 from pathlib import Path
 from typing import TYPE_CHECKING
 
-from .syntax import SourceLine, lines_of
+from .syntax import SourceLine, lines_in, lines_of
 
 if TYPE_CHECKING:
     from .script import Book, Item, Theorem
@@ -78,8 +78,7 @@ class Library:
 
     def lines(self) -> list[SourceLine]:
         """The lines of the joined text, with their numbers in it."""
-        return [SourceLine(file.start + at, line.text, line.words, line.columns)
-                for file in self.files for at, line in enumerate(file.lines)]
+        return [line for file in self.files for line in numbered(file.text, file.start)]
 
     def book(self) -> Book:
         """The tree of the joined text."""
@@ -115,6 +114,13 @@ class Library:
     def own_items(self, book: Book) -> list[Item]:
         """The theorems and definitions of the files that were asked for."""
         return [each for each in book.items if self.is_own(each.first)]
+
+
+@lru_cache(maxsize=1024)
+def numbered(text: str, start: int) -> tuple[SourceLine, ...]:
+    """The lines of a text, with their numbers in a text where they begin with a line."""
+    return tuple(SourceLine(start + at, line.text, line.words, line.columns)
+                 for at, line in enumerate(lines_in(text)))
 
 
 def shown(path: Path) -> Path:

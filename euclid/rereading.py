@@ -4,11 +4,12 @@ from __future__ import annotations
 
 import copy
 from dataclasses import dataclass
+from functools import lru_cache
 
 from .reading import BookReader
 from .script import Block, Book, Cases, Claim, Item, Step, Superpose, Theorem
 from .statements import Known, Statement
-from .syntax import SourceLine
+from .syntax import SourceLine, lines_in
 
 Meaning = tuple[tuple[str, Statement | None, Statement | None], ...]
 
@@ -44,7 +45,7 @@ class KeepingReader(BookReader):
 
     def item(self, lines: list[SourceLine], head: SourceLine) -> None:
         """Reads one item, or takes it over."""
-        text = "\n".join(line.text for line in lines)
+        text = text_of(lines)
         known = self.kept.get(text)
         meaning = meaning_of(lines, self.book.known)
         if text in self.now or known is None or not is_same_meaning(known.meaning, meaning):
@@ -54,12 +55,23 @@ class KeepingReader(BookReader):
         self.now[text] = Kept(meaning, self.book.items[-1])
 
 
-def titles_in(lines: list[SourceLine]) -> list[str]:
+def text_of(lines: list[SourceLine]) -> str:
+    """The text of some lines."""
+    return "\n".join(line.text for line in lines)
+
+
+def titles_in(lines: list[SourceLine]) -> tuple[str, ...]:
     """The titles that an item may speak of: its own, those applied, and the words after `as`."""
+    return titles_of(text_of(lines))
+
+
+@lru_cache(maxsize=4096)
+def titles_of(text: str) -> tuple[str, ...]:
+    """The same, of its text."""
     found: dict[str, None] = {}
-    for line in lines:
+    for line in lines_in(text):
         words = line.words
-        if line.is_comment() or not words:
+        if not words:
             continue
         if words[0] in ("theorem", "define", "apply"):
             found.update(dict.fromkeys(words[1:2]))
@@ -67,7 +79,7 @@ def titles_in(lines: list[SourceLine]) -> list[str]:
             words = words[words.index("show") :] if "show" in words else ()
         if words[:1] and words[0] in ("given", "show", "claim"):
             found.update(dict.fromkeys(after for word, after in zip(words, words[1:]) if word == "as"))
-    return list(found)
+    return tuple(found)
 
 
 def meaning_of(lines: list[SourceLine], known: Known) -> Meaning:

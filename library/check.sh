@@ -1,8 +1,9 @@
 #!/usr/bin/env bash
-# Checks the libraries: Euclid's Books I to IV, and the one that needs all of them. Of each: book.toml lists each file of the
-# folder once; the joined text is accepted, with all its theorems; what `check` wrote is verified by the program and by
-# tools/verify.py. Of all of them: what is trimmed and what is upgraded is verified again. Of Book I: docs/trimming.md has its
-# numbers, and book-1/uses.out its lines of `uses`.
+# Checks the libraries: Euclid's Books I to IV, and the one that needs all of them. First `euclid check`, which tells by file
+# and line what is wrong, and where a sketch has parted from its book; and the layout. Of each library: book.toml lists each
+# file of the folder once; the joined text is accepted, with all its theorems; what `check` wrote is verified by the program
+# and by tools/verify.py. Of all of them: what is trimmed and what is upgraded is verified again, and docs/trimming.md has the
+# numbers. Of Book I: so it has, and book-1/uses.out the lines of `uses`.
 #
 #     bash library/check.sh
 #
@@ -32,6 +33,10 @@ same() {
     fi
 }
 
+cd "$here/.." || exit 1
+export ELEMENTS=$program
+same "library: euclid check" "$(python3 tools/join.py library | grep -c '^theorem ') accepted" "$(bin/euclid check --quiet library 2>&1 | head -n 1)"
+same "library: euclid fmt --check" "" "$(bin/euclid fmt --check library library/*/ 2>&1 | head -n 1)"
 
 # try_library FOLDER: its text stays in $work/book, its derivation in $work/text
 try_library() {
@@ -41,7 +46,8 @@ try_library() {
     same "$2: the files of book.toml" "$files" "$listed"
     number=$(grep -c '^theorem ' "$work/book")
     "$program" check <"$work/book" >"$work/text" 2>"$work/errors"
-    same "$2" "accepted $number, status 0" "$(tail -n 1 "$work/text"), status $?"
+    status=$?
+    same "$2" "accepted $number, status 0" "$(tail -n 1 "$work/text"), status $status"
     same "$2: verify" "verified $number" "$("$program" verify <"$work/text" 2>"$work/errors")"
     same "$2: tools/verify.py" "verified $number" "$(python3 "$tools/verify.py" <"$work/text" 2>"$work/errors" | tail -n 1)"
 }
@@ -57,15 +63,22 @@ for word in trim upgrade; do
     same "library, $word: tools/verify.py" "verified $number" "$(python3 "$tools/verify.py" <"$work/$word" | tail -n 1)"
 done
 
-# What trim and uses write of Book I: docs/trimming.md has the numbers of steps and of bytes before and after
+# told TEXT WHAT: docs/trimming.md has the numbers of steps and of bytes of a derivation
+step='^ *(by|hence|let|apply|claim|superpose|qed|contradiction|cases)( |$)'
+told() {
+    row="| $(grep -cE "$step" "$work/$1") | $(wc -c <"$work/$1") |"
+    same "docs/trimming.md, $2" "$row" "$(tr -d , <docs/trimming.md | grep -oF "$row")"
+}
+
+told text library
+told trim "library, trimmed"
 python3 "$tools/join.py" "$here/book-1" >"$work/book"
 "$program" check <"$work/book" >"$work/text" 2>"$work/errors"
-"$program" trim <"$work/text" >"$work/short" 2>"$work/errors"
-step='^ *(by|hence|let|apply|claim|superpose|qed|contradiction|cases)( |$)'
-for text in text short; do
+"$program" trim <"$work/text" >"$work/trim" 2>"$work/errors"
+told text "Book I"
+told trim "Book I, trimmed"
+for text in text trim; do
     same "book-1/uses.out, of the $text" "" "$("$program" uses <"$work/$text" | diff - "$here/book-1/uses.out" | head -n 1)"
-    told="| $(grep -cE "$step" "$work/$text") | $(wc -c <"$work/$text") |"
-    same "docs/trimming.md, of the $text" "$told" "$(tr -d , <"$here/../docs/trimming.md" | grep -oF "$told")"
 done
 
 echo "$passed passed, $failed failed"

@@ -27,7 +27,7 @@ PAUSE = 0.3  # seconds between two looks at the files
 def arguments(parser: argparse.ArgumentParser) -> None:
     """The words of the command."""
     parser.add_argument("--only", metavar="TITLE", help="check this theorem alone, and what it rests on")
-    parser.add_argument("--quiet", action="store_true", help="one line for each refusal, without its reasons")
+    parser.add_argument("--quiet", action="store_true", help="one line for each refusal, and no ways are looked for")
     parser.add_argument("--watch", action="store_true", help="check again when a file changes, until you end it")
     parser.add_argument("--twice", action="store_true", help="verify what is accepted twice more, by two programs")
     add_json(parser)
@@ -51,11 +51,15 @@ def is_accepted(args: argparse.Namespace, library: Library) -> bool:
     if args.only or args.twice:
         return False
     text = library.text()
-    if " _" in text or any(path.with_suffix(".sketch").is_file() for path in library.own):
-        return False  # what filled a blank may be worth a note, and a sketch may have parted from its book
+    if " _" in text:  # what filled a blank may be worth a note
+        return False
     answer = check(text)
     if not answer.is_accepted():
         return False
+    from ..filling.sketches import sketch_messages
+
+    for message in sketch_messages(library):
+        put_json(message.data()) if args.json else tell(message)
     if args.json:
         put_json({"kind": "count", "accepted": answer.count, "refused": 0, "faulty": 0, "rest": 0, "failed": ""})
     else:

@@ -21,7 +21,7 @@ of any other machine.
 example: euclid serve --port 8080
 """
 WARM = "theorem warm\npoints a b\ngiven a != b\nshow b != a\nproof\napply I.10 a b as c\nqed\nend\n"  # what a worker begins with
-LIBRARIES = {"Book I": "library/book-1", "Books I to IV": "library"}
+LIBRARIES = {"Book I": "library/book-1", "School": "library/school", "Books I to IV": "library"}
 
 
 def arguments(parser: argparse.ArgumentParser) -> None:

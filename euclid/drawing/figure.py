@@ -60,7 +60,8 @@ class Letters:
 class Figure:
     """The picture of a scene."""
 
-    def __init__(self, scene: Scene, hidden: Container[str] = ()) -> None:
+    def __init__(self, scene: Scene, hidden: Container[str] = (), with_states: bool = True) -> None:
+        """Without states there are the places of points and names alone."""
         self.scene, self.events = scene, scene.events
         self.sheet = Sheet(scene)
         self.layout, self.values, self.spots = self.sheet.layout, self.sheet.values, self.sheet.spots
@@ -71,8 +72,8 @@ class Figure:
         self.name_spots = self.places_of_names()
         self.taken: list[Spot] = []
         self.curve_names: dict[str, Element] = {}
-        self.states = [self.state_of(at) for at in range(len(self.events))]
-        self.whole = self.whole_state()
+        self.states = [self.state_of(at) for at in range(len(self.events))] if with_states else []
+        self.whole = self.whole_state() if with_states else State()
 
     @property
     def elements(self) -> list[Element]:

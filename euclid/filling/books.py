@@ -43,13 +43,12 @@ class FilledBooks:
 
     def messages(self) -> list[Message]:
         """What does not read, what was not found, and what is refused all the same."""
-        found = [self.message(line.number, f"{fault.kind}: {fault.message}") for line, fault in self.book.stray
-                 if self.library.is_own(line.number)]
+        found = self.faults()
         for title, each in self.filled.items():
             for missing in each.missing:
                 text = f"{title}, step {missing.step} lacks {wanted(missing.wanted)}"
                 found.append(self.message(missing.line, text, self.details(missing) if missing is each.missing[0] else []))
-            if each.stopped:
+            if each.stopped and each.theorem.fault is None:
                 found.append(self.message(each.stopped_at, f"{title} is not filled: {each.stopped}"))
             if title in self.refused:
                 text = f"{title} was filled, and `elements` refuses it: {self.refused[title]}"
@@ -59,14 +58,25 @@ class FilledBooks:
                           for text in each.applied]
         return found
 
+    def faults(self) -> list[Message]:
+        """What does not read, in the files that were asked for."""
+        found = [(line.number, line.column(fault.at), fault) for line, fault in self.book.stray]
+        for item in self.book.items:
+            if item.fault is not None:
+                line = item.fault_line or item.lines[-1]
+                found.append((line.number, line.column(item.fault.at), item.fault))
+        return [self.message(number, f"{fault.kind}: {fault.message}", column=column)
+                for number, column, fault in sorted(found, key=lambda each: each[:2]) if self.library.is_own(number)]
+
     def details(self, missing: Missing) -> list[str]:
         """What was tried for what is missing, and what comes nearest."""
         theorem = ", one use of an earlier theorem" if self.most_applied else ""
         return [TRIED + theorem, *missing.why]
 
-    def message(self, number: int, text: str, details: Collection[str] = (), kind: str = "error") -> Message:
+    def message(self, number: int, text: str, details: Collection[str] = (), kind: str = "error",
+                column: int = 1) -> Message:
         """A message about a line of the joined text."""
-        place = self.library.place(number)
+        place = self.library.place(number, column)
         full = (Path.cwd() / place.path).resolve()
         if sketch_of(full) is not None:
             place = type(place)(shown(full.with_suffix(SUFFIX)), place.line, place.column)
@@ -138,7 +148,7 @@ def accepted_at_once(library: Library, book: Book) -> set[str]:
     if answer.is_accepted():
         return {item.title for item in book.items}
     if answer.kind == "fault":
-        return {item.title for item in book.items if item.last < answer.line}
+        return {item.title for item in book.items if item.last < answer.line and item.fault is None}
     titles = [item.title for item in book.items]
     return set(titles[: titles.index(answer.title)]) if answer.title in titles else set()
 

@@ -74,7 +74,7 @@ class RuleNear:
                 others = [pattern for pattern in sums if pattern is not each]
                 for full in self.solutions(patterns, bound):
                     item = sum_at(each, full).negation()
-                    if item.form and not self.reach.will_follow(item) and self.hold(others, full):
+                    if item.form and self.is_open(item) and self.hold(others, full):
                         yield self.near(patterns, full, item)
 
     def starts(self) -> Iterator[tuple[Bound, Pattern | SumPattern]]:
@@ -88,6 +88,10 @@ class RuleNear:
             found = placed_at(pattern, self.item)
             if found is not None:
                 yield found, pattern
+
+    def is_open(self, item: Comparison) -> bool:
+        """Whether neither a literal of magnitudes nor its negation follows."""
+        return not self.reach.will_follow(item) and not self.reach.will_follow(item.negation())
 
     def hold(self, sums: list[SumPattern], full: Bound) -> bool:
         """Whether the other premises of magnitudes follow."""

@@ -39,6 +39,8 @@ def sketch_of(book: Path) -> Path | None:
 
 def partings(sketch: str, book: str) -> list[Parting]:
     """Where a sketch and its book part, theorem by theorem."""
+    if is_plainly_filled(sketch, book):
+        return []
     own, filled = items_of(sketch), items_of(book)
     found = []
     for title, lines in own.items():
@@ -54,6 +56,24 @@ def partings(sketch: str, book: str) -> list[Parting]:
     if not found and common != [title for title in filled if title in own]:
         found.append(Parting(own[common[0]][0].number, filled[common[0]][0].number, "the theorems come in another order"))
     return found
+
+
+def is_plainly_filled(sketch: str, book: str) -> bool:
+    """Whether the book is the sketch with `by` and `hence` lines put in, which is quick to see."""
+    own = iter([*said_lines(sketch), ""])
+    wanted = next(own)
+    for line in said_lines(book):
+        if line == wanted:
+            wanted = next(own)
+        elif not line.startswith(("by ", "hence ")):
+            return False
+    return wanted == ""
+
+
+def said_lines(text: str) -> list[str]:
+    """The lines that say something, without the blanks around them."""
+    stripped = (line.strip() for line in text.split("\n"))
+    return [line for line in stripped if line and not line.startswith("#")]
 
 
 def items_of(text: str) -> dict[str, list[SourceLine]]:
@@ -75,8 +95,8 @@ def parting_of(sketch: list[SourceLine], book: list[SourceLine]) -> Parting | No
     while at < len(sketch) or place < len(book):
         own = sketch[at] if at < len(sketch) else None
         line = book[place] if place < len(book) else None
-        if own and line and own.words == line.words:
-            at, place = at + 1, place + 1
+        if line and (after := behind(sketch, at, line.words)):
+            at, place = after, place + 1
         elif line and line.words[0] in ("by", "hence"):
             place += 1
         elif line and line.words[0] == "claim" and (end := end_of_claim(book, place)):
@@ -85,6 +105,17 @@ def parting_of(sketch: list[SourceLine], book: list[SourceLine]) -> Parting | No
             at += 1
         else:
             return Parting(own.number if own else 0, line.number if line else 0, how(own, line))
+    return None
+
+
+def behind(sketch: list[SourceLine], at: int, words: Words) -> int | None:
+    """Behind the line with these words that comes next, but for wishes; none where another does."""
+    while at < len(sketch):
+        if sketch[at].words == words:
+            return at + 1
+        if not is_wish(sketch[at].words):
+            return None
+        at += 1
     return None
 
 

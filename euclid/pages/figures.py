@@ -65,7 +65,7 @@ def drawn(source: Source) -> Drawn:
     steps: dict[int, tuple[int, int]] = {}
     for number, each in enumerate(chapters(scene)):
         figure = Figure(each)
-        others = [Figure(other) for other in each.others[:3]]
+        others = [Figure(other, with_states=False) for other in each.others[:3]]
         found.append(chapter(figure, others))
         for step, at in steps_shown(each.events).items():
             steps.setdefault(step, (number, at))

@@ -14,6 +14,7 @@ from ..script import Theorem
 from .figures import Keeper, sum_of_code
 from .model import Entry, Site
 
+SECONDS = 120.0  # for one try: so many that two runs on a busy machine find the same
 MAKERS = ("euclid", "euclid/filling", "docs/rules.md")
 
 
@@ -37,7 +38,7 @@ def folded_lines(site: Site, entry: Entry, keeper: Keeper) -> frozenset[int]:
 def found_by_fill(site: Site, entry: Entry) -> frozenset[int]:
     """The lines that can be left out; none, where `elements` does not accept what is filled in for them."""
     theorem, catalogue = entry.theorem, Catalogue()
-    kept = strip_theorem(theorem, entry.known, catalogue)
+    kept = strip_theorem(theorem, entry.known, catalogue, SECONDS)
     gone = frozenset(line.number for line in theorem.lines) - {line.number for line in kept}
     if not gone:
         return gone

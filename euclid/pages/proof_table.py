@@ -9,7 +9,7 @@ from ..derivation import Arithmetic, Certificate, Fact, Transfer
 from ..literals import Literal, Sort, key, negation
 from ..script import Apply, By, Cases, Claim, Contradiction, Hence, Let, Qed, Superpose
 from .certificates import Certificates
-from .markup import esc, link
+from .markup import esc, link, plain_words
 from .model import Entry, Site
 from .notation import Notation, grouped, sentences
 from .rows import Premise, Proof, Row, start_sorts
@@ -65,7 +65,7 @@ class ProofTable:
         classes += ["bad"] if refused and step.number == refused else []
         words = f' class="{" ".join(classes)}"' if classes else ""
         return (f'<tr id="s{step.number}"{words}><th scope="row"><a href="#s{step.number}">{step.number}</a></th>'
-                f"<td><div>{self.says(row)}</div><code>{esc(' '.join(step.line.words))}</code></td>"
+                f"<td><div>{self.says(row)}</div><code>{esc(' '.join(step.line.words))}</code>{self.details(row)}</td>"
                 f"<td>{self.by_what(row)}</td><td>{self.premises(row)}</td></tr>\n")
 
     def literal_of(self, step: object) -> Literal:
@@ -133,15 +133,15 @@ class ProofTable:
         if isinstance(step, Let):
             shape = step.construction
             return link(f"{ROOT}rule/{construction_file(shape.number)}", esc(f"construction {shape.number}, {shape_words(shape)}"),
-                        title=shape.words) + self.details(row)
+                        title=plain_words(shape.words))
         if isinstance(step, Apply):
             arguments = self.proof.filled.get(step.number, step.arguments)
-            return f"{theorem_link(self.site, step.title, ROOT)} <small>{esc(' '.join(arguments))}</small>{self.details(row)}"
+            return f"{theorem_link(self.site, step.title, ROOT)} <small>{esc(' '.join(arguments))}</small>"
         if isinstance(step, Superpose):
-            return rule_link(self.site, "superpose", ROOT) + self.details(row)
+            return rule_link(self.site, "superpose", ROOT)
         if isinstance(step, (Claim, Cases)):
             return "the block below" if isinstance(step, Claim) else "both cases below"
-        return self.ways(row) + self.details(row)
+        return self.ways(row)
 
     def ways(self, row: Row) -> str:
         """By what what is needed is allowed, each once."""

@@ -9,6 +9,7 @@ from dataclasses import dataclass
 from pathlib import Path
 
 from ..drawing.sources import source_of
+from ..writing import exchange_bytes
 from .figures import Keeper, kept_or_drawn
 from .folds import folded_lines
 from .graph_page import graph_page
@@ -141,7 +142,7 @@ class Writer:
         path = self.folder / name
         path.parent.mkdir(parents=True, exist_ok=True)
         if not path.is_file() or path.read_bytes() != data:
-            path.write_bytes(data)
+            exchange_bytes(path, data, is_synced=False)
         self.names.append(name)
         self.made.files += 1
         self.made.bytes += len(data)
@@ -154,4 +155,4 @@ class Writer:
             path = (self.folder / name).resolve()
             if path.is_relative_to(self.folder.resolve()) and path.is_file():
                 path.unlink()
-        (self.folder / LIST).write_text("\n".join([*sorted(self.names), ""]), encoding="utf-8")
+        exchange_bytes(self.folder / LIST, "\n".join([*sorted(self.names), ""]).encode("utf-8"))

@@ -8,7 +8,7 @@ from ..drawing.figure import Letters
 from ..literals import POINT, Sort
 from ..script import Theorem
 from .figures import Drawn
-from .markup import esc, items, link
+from .markup import count_of, esc, items, link
 from .model import Entry, Site, where
 from .notation import Notation, grouped, sentences
 from .proof_table import ProofTable
@@ -57,13 +57,23 @@ class TheoremPage:
         source = f"{esc(where(self.site, self.theorem))}"
         if entry.is_accepted:
             steps = f"{count} step" + "s" * (count != 1)
-            return f'<p class="verdict ok">Accepted: {steps}, each licensed. <span>{source}</span></p>'
+            return f'<p class="verdict ok">Accepted: {steps}, each licensed. <span>{source}</span></p>{self.summary()}'
         if entry.diagnosis is not None:
             to = f"#s{entry.refused_at}" if entry.refused_at else "#refused"
             what = f"Refused at step {entry.refused_at}" if entry.refused_at else "Faulty"
             return f'<p class="verdict no">{link(to, what)}. <span>{source}</span></p>'
         on = theorem_link(self.site, entry.outcome.on, ROOT)
         return f'<p class="verdict no">Not checked: it rests on {on}. <span>{source}</span></p>'
+
+    def summary(self) -> str:
+        """What it rests on, in numbers."""
+        title, graph = self.entry.title, self.site.graph
+        if title not in graph.applies:
+            return ""
+        theorems, rules = count_of(len(graph.below[title]), "theorem"), count_of(len(graph.rules[title]), "rule")
+        above = len(graph.above[title])
+        words = f"rests on {theorems} and {rules}; {above} {'rests' if above == 1 else 'rest'} on it"
+        return f'<p class="verdict"><a href="#rests">It {words}</a></p>'
 
     def neighbours(self, place: str) -> str:
         """The theorems before and after it."""

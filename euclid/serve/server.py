@@ -17,6 +17,7 @@ from typing import Any
 
 from ..rules import tables
 from . import lessons
+from .printing import rules_page
 from .pool import Data, Full, Gone, Pool
 
 PAGE = Path(__file__).resolve().parent / "page"
@@ -44,6 +45,7 @@ class Site:
         self.files = {"/" + path.name: (path.read_bytes(), TYPES[path.suffix])
                       for path in sorted(PAGE.iterdir()) if path.suffix in TYPES}
         self.files["/"] = self.files["/index.html"]
+        self.files["/rules.html"] = (rules_page().encode(), TYPES[".html"])
         self.folder, self.libraries = folder, libraries
         found = [task.data() for task in lessons.tasks(folder).values()]
         data = json.dumps({"lessons": found, "libraries": list(libraries), "rules": rules()}).encode()

@@ -156,7 +156,7 @@ const Search = {
       if (name.startsWith(low)) return 2
       if (name.includes(low)) return 3
       const text = `${name} ${said} ${shown}`.toLowerCase()
-      return words.every(word => text.includes(word)) ? 4 : 9
+      return (shapes.size ? [low] : words).every(word => text.includes(word)) ? 4 : 9
     }
     return SEARCH.map((row, at) => [rank(row), at, row]).filter(([n]) => n < 9)
       .sort((a, b) => a[0] - b[0] || a[1] - b[1]).map(([, , row]) => row)
