@@ -18,7 +18,7 @@ HERE = os.path.dirname(os.path.abspath(__file__))
 BOOK = f"{HERE}/../library/book-1"
 IDLE = f"{HERE}/idle.txt"
 STEPS = {"by", "hence", "let", "apply", "claim", "superpose", "qed", "contradiction", "cases"}
-KEPT = {("I.30.pts", 16), ("I.30.pts", 25), ("I.47", 17), ("I.47", 24), ("meets.parallel", 6)}
+KEPT = {("I.30.pts", 16), ("I.47", 8), ("meets.parallel", 6)}
 MOST_BLANKS = 6
 
 

@@ -7,8 +7,8 @@ from dataclasses import dataclass
 from itertools import permutations, product
 
 from .clock import Clock, OutOfTime
-from .codes import Coded, Pattern, SumPattern, coded, decode, encode, sum_at
-from .contexts import BLANK, turned
+from .codes import Coded, Pattern, SumPattern, coded, decode, encode, sum_at, turned_round
+from .contexts import BLANK
 from .filling.theorems import places_of, split
 from .literals import Literal
 from .reach import POINTS_EQUAL, Reach
@@ -100,10 +100,8 @@ class Chooser:
         if not isinstance(pattern, Pattern):
             return
         for code in self.facts_like(pattern.predicate):
-            literal = self.reach.literal(code)
-            for each in turned(literal):
-                other = self.reach.code(each)
-                more = joined(bound, pattern.places, decode(other)[2]) if isinstance(other, int) else None
+            for other in turned_round(code):
+                more = joined(bound, pattern.places, decode(other)[2])
                 if more is not None:
                     yield more
 

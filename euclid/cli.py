@@ -12,7 +12,24 @@ from . import program
 from .library import Faulty, Place
 from .messages import FAILED, FAULTY, WRONG_USE, Message, WrongUse, tell
 
-COMMANDS = "apply check draw facts fill find fmt give graph lsp pages rename strip trim why".split()
+COMMANDS = (
+    "apply",
+    "check",
+    "draw",
+    "facts",
+    "fill",
+    "find",
+    "fmt",
+    "give",
+    "graph",
+    "lsp",
+    "pages",
+    "rename",
+    "serve",
+    "strip",
+    "trim",
+    "why",
+)
 
 
 class Command(Protocol):

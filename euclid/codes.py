@@ -94,6 +94,19 @@ def decode(code: int) -> tuple[int, bool, tuple[int, ...]]:
     return kind, not negative, objects[: len(KINDS[kind][1])]
 
 
+def turned_round(code: int) -> list[int]:
+    """The code of a literal that says the same of the diagram the other way round, if there is one."""
+    kind, positive, objects = decode(code)
+    word, sorts = KINDS[kind]
+    if word in ("=", "between") or word == "meets" and sorts[0] == sorts[1]:
+        other = objects[::-1]
+    elif word == "same-side":
+        other = (objects[1], objects[0], objects[2])
+    else:
+        return []
+    return [encode(kind, positive, other)] if other != objects else []
+
+
 class Scope:
     """The objects by their names, and the names by their numbers."""
 

@@ -52,7 +52,7 @@ class Row:
             return compared(denied)
         if self.word in ("above", "below") and isinstance(differs, Metric):
             sign = 1 if self.word == "above" else -1
-            return {term: sign * n for term, n in form_of(differs).items()}, ">"
+            return {term: sign * n for term, n in counting(differs).items()}, ">"
         right = Term("right")
         if self.term is None:
             return {right: 1}, ">"
@@ -61,9 +61,14 @@ class Row:
         return {self.term.normal(): 1}, ">" if self.word == "pos" else ">="
 
 
+def counting(literal: Metric) -> dict[Term, int]:
+    """The left side less the right one, without terms that are 0."""
+    return {term: n for term, n in form_of(literal).items() if not term.is_nothing()}
+
+
 def compared(literal: Metric) -> tuple[dict[Term, int], str]:
     """What a fact of magnitudes says: a form, and how it is compared with 0."""
-    form = form_of(literal)
+    form = counting(literal)
     if literal.relation in ("=", "!="):
         return form, literal.relation
     return {term: -n for term, n in form.items()}, ">" if literal.relation == "<" else ">="

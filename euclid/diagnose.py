@@ -14,7 +14,7 @@ from .contexts import Situation, premises_of, situation_at, turned
 from .diagnosis import Diagnosis, Premise, Value, missing_words
 from .faults import words_of_fault
 from .library import Library
-from .literals import Literal, Metric, Term, is_same, negation, parse_literal, spell
+from .literals import Literal, Metric, Term, is_same, key, negation, parse_literal, spell
 from .rereading import Rereader
 from .rules import Rule, tables
 from .scratch import Scratch, Untried
@@ -235,7 +235,7 @@ def instance_words(rule: Rule, names: list[str]) -> str:
 def premises_at(situation: Situation, needs: list[Literal]) -> list[Premise]:
     """Each needed literal with where it comes from, or what there is in its place."""
     found = []
-    for literal in needs:
+    for literal in {key(literal): literal for literal in needs}.values():
         fact = situation.context.fact(literal)
         premise = Premise(literal, fact.origin if fact else None)
         if fact is None:

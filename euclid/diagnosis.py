@@ -93,7 +93,9 @@ class Diagnosis:
         line = line_of(library, self.number)
         if line.strip():
             found += marked(line, self.start, self.end)[: 1 if self.step else 2]
-        found += [text for way in self.ways if way.is_ready and way.lines[-1:] != [line.strip()] for text in way.text()]
+        elsewhere = [way.lines for premise in self.premises for way in premise.ways]
+        found += [text for way in self.ways if way.is_ready and way.lines[-1:] != [line.strip()]
+                  and way.lines not in elsewhere for text in way.text()]
         found += [self.reason] if self.reason else []
         for premise in self.premises:
             found += premise_lines(premise, library)

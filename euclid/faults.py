@@ -10,7 +10,7 @@ import re
 from collections.abc import Callable, Iterable, Iterator
 from dataclasses import dataclass, field
 
-from .literals import PLURALS, POINT, PREDICATES, TERMS, Sort
+from .literals import PLURALS, POINT, PREDICATES, TERMS, Sort, spell_all
 from .reading import BEFORE_PROOF, STEPS
 from .rules import LETTERS, tables
 from .script import Book, Definition, Item
@@ -20,6 +20,7 @@ GLUED = re.compile(r"(!=|<=|>=|[=<>;:+,])")
 BYTE_ORDER_MARK = "\xef\xbb\xbf"
 WRITTEN = {"≠": "!=", "≤": "<=", "=": "=", "∠": "ang", "≥": "<=, with the lesser side first"}
 CAUSE = "cause: "  # begins a hint that says by itself what is wrong
+AFTER = "after: "  # begins one that does not belong into the first line
 KIND_WORDS = {
     "malformed": "this line may not stand here as it is", "unknown-name": "a name that nothing before it has",
     "name-taken": "a name that is taken", "wrong-sort": "an object or a term of another sort than belongs here",
@@ -60,6 +61,8 @@ def said_of(line: SourceLine, at: int, message: str, hints: list[str]) -> FaultW
     end = start + (len(line.words[at]) if at < len(line.words) else 0)
     if hints and hints[0].startswith(CAUSE):
         return FaultWords(line, start, end, hints[0].removeprefix(CAUSE), [message, *hints[1:]])
+    if hints and hints[0].startswith(AFTER):
+        return FaultWords(line, start, end, message, [hints[0].removeprefix(AFTER), *hints[1:]])
     text = f"{message}; {hints[0]}" if hints else message
     return FaultWords(line, start, end, text, hints[1:])
 
@@ -77,7 +80,8 @@ class FaultLooker:
     def hints(self, kind: str) -> list[str]:
         """What may be meant, the likeliest first."""
         if kind == FaultKind.MALFORMED:
-            found = list(self.bytes()) or [*self.signs(), *self.first_word(), *self.misspelled(), *self.title(), *self.shapes()]
+            found = list(self.bytes()) or [*self.signs(), *self.first_word(), *self.misspelled(), *self.title(),
+                                           *self.shapes(), *self.statement()]
         elif kind == FaultKind.UNKNOWN_NAME:
             found = [*self.later_title(), *self.close_rule(), *self.segment(), *self.later_object(), *self.close_object()]
         elif kind == FaultKind.WRONG_SORT:
@@ -173,6 +177,16 @@ class FaultLooker:
         if near:
             yield f"{CAUSE}with {' and '.join(f'`{word}`' for word in sorted(said))} the line is " + " or ".join(
                 dict.fromkeys(f"`{each.line}`" for each in near))
+
+    def statement(self) -> Iterator[str]:
+        """What a theorem says, where its arguments or its new objects are too few or too many."""
+        if self.words[0] != "apply" or not re.search(r"` (takes|makes) ", self.said):
+            return
+        used = next((item for item in self.book.items if item.title == self.words[1]), None)
+        if used is not None:
+            objects = " ".join(name for name, _ in used.statement.declared)
+            yield f"{AFTER}{used.title} {objects}: given {spell_all(used.statement.given) or 'nothing'}"
+            yield f"    show {spell_all(used.statement.shown)}"
 
     # Names
 

@@ -56,6 +56,10 @@ class Term:
             return Term("ang", min(self.points, self.points[::-1]))
         return Term(self.word, tuple(sorted(self.points)))
 
+    def is_nothing(self) -> bool:
+        """A segment from a point to itself, or an area with a repeated point: it is 0."""
+        return self.word in ("seg", "area") and len(set(self.points)) < len(self.points)
+
     def spell(self) -> str:
         """The words of the term."""
         return " ".join((self.word, *self.points))

@@ -5,22 +5,23 @@ What the search finds is a proposal: each is run in a scratch book, many of them
 
 from __future__ import annotations
 
+import time
 from collections.abc import Callable
 from itertools import islice
 
 from .clock import Clock, OutOfTime
 from .choices import Chooser
 from .closure import Line
-from .codes import Coded, Comparison, Unknown, clauses, negated
-from .contexts import BLANK, Situation, turned
-from .diagnosis import Diagnosis, Premise, Way
+from .codes import Coded, Comparison, Unknown, clauses, decode, negated, turned_round
+from .contexts import BLANK, Situation
+from .diagnosis import Diagnosis, Premise, Way, missing_words
 from .filling.page import Page
 from .filling.supply import Supplier
 from .filling.theorems import Catalogue
 from .filling.ways import Finder
-from .literals import Diagram, Literal, Metric, is_same, negation, parse_literal, spell
+from .literals import Diagram, Literal, Metric, is_same, negation, parse_literal, spell, spell_all
 from .near import Near, near
-from .reach import Reach
+from .reach import POINTS_EQUAL, Reach
 from .rules import tables
 from .scratch import Scratch, Trial, Untried
 from .script import Apply, By, Contradiction, Step
@@ -33,11 +34,15 @@ CONTRADICTION = ["claim right = right", "contradiction"]  # lines that are accep
 
 
 def add_ways(diagnosis: Diagnosis, situation: Situation, scratch: Scratch) -> None:
-    """Puts the ways into a diagnosis, and what they tell into its message."""
+    """Puts the ways into a diagnosis, and what they tell into its message, as far as the time goes."""
     try:
-        seeker = Seeker(situation, Clock(SECONDS))
-    except Unknown:
+        put_ways(diagnosis, situation, scratch, Seeker(situation, Busy(SECONDS)))
+    except (OutOfTime, Unknown):  # the latter where there are more objects than have numbers
         return
+
+
+def put_ways(diagnosis: Diagnosis, situation: Situation, scratch: Scratch, seeker: Seeker) -> None:
+    """The same, with what looks for them."""
     wanted = parsed(diagnosis.wanted, situation)
     is_by = isinstance(situation.step, By)
     if wanted is not None:
@@ -53,8 +58,12 @@ def add_ways(diagnosis: Diagnosis, situation: Situation, scratch: Scratch) -> No
     try_all(diagnosis, missing, wanted, scratch)
     if isinstance(situation.step, Apply):
         choose(diagnosis, situation.step, seeker, scratch)
-    if wanted is not None and not is_by and not diagnosis.ready():
-        by_theorems(diagnosis, wanted, seeker, scratch)
+    if wanted is not None and not is_by:
+        for premise in missing:
+            if not premise.follows and not any(way.is_ready for way in premise.ways):
+                premise.ways = by_theorems(premise.literal, seeker, scratch) or premise.ways
+        if not missing and not diagnosis.ready():
+            diagnosis.ways = by_theorems(wanted, seeker, scratch) + diagnosis.ways
     if any(way.is_ready for way in diagnosis.ways):
         diagnosis.ways = [way for way in diagnosis.ways if way.is_ready]
     elif wanted is not None and any(is_same(premise.literal, wanted) for premise in missing):
@@ -62,17 +71,17 @@ def add_ways(diagnosis: Diagnosis, situation: Situation, scratch: Scratch) -> No
     explain(diagnosis, situation, wanted, Denial(seeker, scratch))
 
 
-def by_theorems(diagnosis: Diagnosis, wanted: Literal, seeker: Seeker, scratch: Scratch) -> None:
-    """Uses of earlier theorems that give what is wanted, where nothing less does."""
+def by_theorems(wanted: Literal, seeker: Seeker, scratch: Scratch) -> list[Way]:
+    """Uses of earlier theorems that give a literal, where nothing less does."""
     known = scratch.book.known_before(scratch.theorem)
     finder = Finder(Reach.of(seeker.situation.context, seeker.clock), known, Catalogue())
     try:
         found = finder.ways(seeker.reach.code(wanted), False, MOST_WAYS).ways
     except (OutOfTime, Unknown):
-        return
+        return []
     ways = [Way(way.lines) for way in found if way.applied and len(way.lines) <= MOST_LINES]
     keep_ready(ways, scratch, [f"hence {spell(wanted)}"])
-    diagnosis.ways = ways + diagnosis.ways
+    return ways
 
 
 def keep_ready(ways: list[Way], scratch: Scratch, last: Trial) -> None:
@@ -163,10 +172,12 @@ class Seeker:
         item = self.reach.code(literal)
         found = self.one_line(item)
         lines = self.supplied(item, as_fact)
+        if isinstance(item, int) and not as_fact and is_inequality(item):  # either direction will do
+            lines = shorter(lines, self.supplied(turned_round(item)[0], True))
         if lines is not None and len(lines) <= MOST_LINES:
             found.append(Way(lines))
         if not found:
-            others = {self.reach.code(each) for each in turned(literal)}
+            others = set(turned_round(item)) if isinstance(item, int) else set()
             found = [self.near_way(item, each) for each in near(item, self.reach.closure, MOST_WAYS)
                      if not others & set(each.lacks)]
         return list({(*way.lines, way.by): way for way in reversed(found)}.values())[::-1]
@@ -216,6 +227,31 @@ class Seeker:
         return " ".join(self.reach.scope.names[sort][number] for sort, number in zip(rule.sorts, each.objects))
 
 
+def is_inequality(code: int) -> bool:
+    """Whether two points are said to differ."""
+    kind, positive, objects = decode(code)
+    return kind == POINTS_EQUAL and not positive and len(set(objects)) == 2
+
+
+def shorter(one: list[str] | None, other: list[str] | None) -> list[str] | None:
+    """The shorter one of two, if there are two."""
+    found = [lines for lines in (one, other) if lines is not None]
+    return min(found, key=len) if found else None
+
+
+class Busy(Clock):
+    """A clock that counts the processor time of this thread, so that a busy machine leaves the same time to search."""
+
+    def __init__(self, seconds: float) -> None:
+        super().__init__(None)
+        self.until = time.thread_time() + seconds
+
+    def check(self) -> None:
+        """Raises `OutOfTime` where the time is used up."""
+        if time.thread_time() > self.until:
+            raise OutOfTime("out of time")
+
+
 class Denial:
     """Asks whether the negation of a literal follows, where the literal does not."""
 
@@ -249,6 +285,16 @@ def explain(diagnosis: Diagnosis, situation: Situation, wanted: Literal | None, 
             if not premise.is_there and not premise.ways[:1]:
                 premise.denied = premise.denied or ("follows" if denial.lines(premise.literal) is not None else "")
         return
+    lacking = [premise for premise in diagnosis.premises if not premise.is_there and not premise.follows]
+    if len(lacking) > 1:
+        count = sum(len(premise.ways[0].lines) for premise in lacking if premise.ways)
+        all_ready = all(premise.ways and premise.ways[0].is_ready for premise in lacking)
+        if isinstance(step, Apply) and not all_ready:
+            diagnosis.reason = statement_of(step, denial.scratch)
+            diagnosis.sentences.append(f"`euclid apply {diagnosis.title} {diagnosis.step} --of {step.title}` shows arguments that fit")
+        diagnosis.message = f"{diagnosis.title} step {diagnosis.step}: {missing_words(lacking)}" + (
+            f"; {count} lines give them, below" if all_ready else "")
+        return
     if is_ready:
         diagnosis.message += f"; {first_words(diagnosis.ways, step)}"
     if wanted is None:
@@ -267,6 +313,13 @@ def explain(diagnosis: Diagnosis, situation: Situation, wanted: Literal | None, 
         begin = diagnosis.message.split(": ")[0]
         diagnosis.message = f"{begin}: `{diagnosis.wanted}` is false: `{spell(negation(wanted))}` follows" + \
             (after if lines else " from the facts")
+
+
+def statement_of(step: Apply, scratch: Scratch) -> str:
+    """What a theorem says, over its own names."""
+    used = scratch.book.known_before(scratch.theorem).theorems[step.title]
+    names = " ".join(name for name, _ in used.declared)
+    return f"{used.title} {names}: given {spell_all(used.given) or 'nothing'}; show {spell_all(used.shown)}"
 
 
 def lacks_words(lacks: list[Literal]) -> str:

@@ -34,6 +34,9 @@ class Run:
         return self.output.split("\n")[:-1] if self.output.endswith("\n") else self.output.split("\n")
 
 
+most_seconds = float("inf")  # of any run of this process; a server of strangers narrows it
+
+
 @lru_cache(maxsize=1)
 def program() -> Path:
     """Where `elements` is: the variable ELEMENTS, the release, what the gate built, or the path."""
@@ -53,15 +56,19 @@ def program() -> Path:
 
 
 def limited(seconds: float, megabytes: int) -> None:
-    """Sets the limits of the process that is about to begin."""
+    """Sets the limits of the process that is about to begin; narrower ones of this process stay."""
     whole = max(1, int(seconds + 0.999))
-    resource.setrlimit(resource.RLIMIT_CPU, (whole, whole + 1))
-    resource.setrlimit(resource.RLIMIT_AS, (megabytes << 20, megabytes << 20))
+    for kind, soft, hard in ((resource.RLIMIT_CPU, whole, whole + 1), (resource.RLIMIT_AS, megabytes << 20, megabytes << 20)):
+        most = resource.getrlimit(kind)[1]
+        if most != resource.RLIM_INFINITY:
+            soft, hard = min(soft, most), min(hard, most)
+        resource.setrlimit(kind, (soft, hard))
 
 
 def run(words: Sequence[str], text: str | bytes, seconds: float = SECONDS, megabytes: int = MEGABYTES) -> Run:
     """Runs `elements` with these words on a text, which is Latin-1 where it is a string."""
     data = text.encode("latin-1") if isinstance(text, str) else text
+    seconds = min(seconds, most_seconds)
     command = ["elements " + " ".join(words)]
     try:
         done = subprocess.run([str(program()), *words], input=data, stdout=subprocess.PIPE, stderr=subprocess.PIPE,

@@ -33,15 +33,21 @@ class Renaming:
 
     def places(self, line: SourceLine) -> list[int]:
         """The words of a line that are exchanged, by their numbers."""
-        if not self.touches(line):
-            return []
+        return self.places_in(line) if self.touches(line) else []
+
+    def places_in(self, line: SourceLine) -> list[int]:
+        """The same for a line of the item, wherever that stands."""
         roles = roles_of(line.words)
         return [at for at, word in enumerate(line.words) if word == self.old and roles[at] == self.role]
 
     def applied(self, line: SourceLine) -> str:
         """The line with the new name; all between the words stays."""
+        return self.exchanged(line) if self.touches(line) else line.text
+
+    def exchanged(self, line: SourceLine) -> str:
+        """The same for a line of the item, wherever that stands."""
         text, end = line.text, len(self.old)
-        for at in reversed(self.places(line)):
+        for at in reversed(self.places_in(line)):
             start = line.columns[at] - 1
             text = text[:start] + self.new + text[start + end :]
         return text

@@ -9,7 +9,9 @@ from dataclasses import dataclass, field
 
 from .answers import Answer, check
 from .derivation import read_derivation
+from .rereading import titles_in
 from .script import Apply, Block, Book, Cases, Claim, Item, Step, Superpose, Theorem
+from .syntax import source_line
 
 Trial = list[str]  # lines of a book
 TITLE = "scratch._._"
@@ -62,7 +64,7 @@ class Scratch:
             return {}
         while True:
             writer = Writer(self.theorem, self.number, [])
-            before = self.before()
+            before = self.before([])
             answer = check("\n".join([*before, *writer.lines, ""]), self.seconds)
             part = read_derivation(answer.derivation).parts.get(TITLE)
             if part is not None:
@@ -81,7 +83,7 @@ class Scratch:
                 refused |= set(left)
                 return
             writer = Writer(self.theorem, self.number, [trials[number] for number in left])
-            before = self.before()
+            before = self.before([trials[number] for number in left])
             self.runs += 1
             answer = check("\n".join([*before, *writer.lines, ""]), self.seconds)
             if answer.is_accepted():
@@ -93,10 +95,16 @@ class Scratch:
         """Whether no line of a trial applies what was left out."""
         return not any(line.split()[:1] == ["apply"] and line.split()[1] in self.left_out for line in trial)
 
-    def before(self) -> list[str]:
-        """The lines of all that comes before the theorem, without what was left out."""
-        return [line.text for item in self.earlier() if item.title not in self.left_out and item.fault is None
-                for line in item.lines if not line.is_skipped()]
+    def before(self, trials: list[Trial]) -> list[str]:
+        """The lines of what the theorem and the trials rest on, without what was left out."""
+        own = [source_line(0, line) for trial in trials for line in trial]
+        wanted = set(titles_in([*self.theorem.lines, *own]))
+        kept: list[Item] = []
+        for item in reversed(self.earlier()):
+            if item.title in wanted and item.title not in self.left_out and item.fault is None:
+                kept.append(item)
+                wanted.update(titles_in(item.lines))
+        return [line.text for item in reversed(kept) for line in item.lines if not line.is_skipped()]
 
     def earlier(self) -> list[Item]:
         """The items before the theorem."""

@@ -139,10 +139,14 @@ class Ways:
             self.by_transfer(rule, most_unknown)
 
     def best(self) -> list[Way]:
-        """What was found, the best first; of one rule not too many that lack something."""
+        """What was found, the best first; of one rule not too many that lack something.
+
+        What lacks something that does not follow is left out where something else is found.
+        """
         counts: dict[str, int] = {}
         best, seen = [], set()
-        for way in sorted(self.found.values(), key=Way.key):
+        ways = sorted(self.found.values(), key=Way.key)
+        for way in [way for way in ways if not way.unknown] or ways:
             counts[way.rule] = counts.get(way.rule, 0) + 1
             key = way.rule, frozenset(map(spell, way.lacks))
             if not way.lacks or counts[way.rule] <= MOST_OF_RULE and key not in seen:

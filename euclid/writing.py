@@ -12,13 +12,22 @@ def exchange(path: Path, text: str) -> None:
 
     At every moment the file has the old text or the new one.
     """
+    exchange_bytes(path, text.encode("latin-1"))
+
+
+def exchange_bytes(path: Path, data: bytes, is_synced: bool = True) -> None:
+    """Puts bytes in the place of what a file has; what is no plain file is written as it is."""
     path = path.resolve()
+    if path.exists() and not path.is_file():
+        path.write_bytes(data)
+        return
     handle, name = tempfile.mkstemp(prefix=f".{path.name}.", dir=path.parent)
     try:
         with os.fdopen(handle, "wb") as file:
-            file.write(text.encode("latin-1"))
+            file.write(data)
             file.flush()
-            os.fsync(file.fileno())
+            if is_synced:
+                os.fsync(file.fileno())
         if path.exists():
             os.chmod(name, path.stat().st_mode & 0o7777)
         else:

@@ -10,7 +10,9 @@
   `check_crates`.
 - The usage line, the exit statuses and the libraries that are trusted are those of the code: `check_program`.
 - The limits and the reserved words of docs/book.md are those of the code: `check_language`.
-- What Book I applies is what its `apply` lines say: `check_book_one`.
+- What the theorems of the library apply, and how many steps they have, is what their proofs say: `check_library`, and
+  for what is listed of Book I alone `check_book_one`. What docs/books-1-to-4.md cites of proofs is there: `check_history`,
+  and what docs/stating.md names: `check_stating`.
 - README has at most 150 lines, shows the book and the answers that are there, and says how many lines the second verifier
   has: `check_readme`.
 - The newest version of CHANGELOG.md is that of CITATION.cff, and of release/, or the program there is unreleased:
@@ -329,14 +331,15 @@ def check_language(top):
 def theorems_of(book):
     """Each theorem of a book with the theorems that its steps apply, in order of first use, and its number of steps."""
     theorems = {}
-    in_proof, applied, steps = False, [], 0
+    title, in_proof, applied, steps = None, False, [], 0
     for words in filter(None, map(str.split, book.split("\n"))):
         if words[0] == "theorem":
             title, in_proof, applied, steps = words[1], False, [], 0
         elif words[0] == "proof":
             in_proof = True
-        elif words[0] == "end":
+        elif words[0] == "end" and title is not None:
             theorems[title] = (applied, steps)
+            title = None
         elif in_proof and STEP.match(words[0]):
             steps += 1
             if words[0] == "apply" and words[1] not in applied:
@@ -344,9 +347,53 @@ def theorems_of(book):
     return theorems
 
 
-def check_book_one(top):
-    theorems = theorems_of(join.joined(top / "library/book-1").decode())
-    page = top / "library/book-1/README.md"
+def check_library(top):
+    """The table of each book, and the numbers of theorems and steps that pages tell."""
+    every = {}
+    for page in sorted(top.glob("library/book-*/README.md")):
+        theorems = theorems_of("".join(map(read, sorted(page.parent.glob("*.book")))))
+        every |= theorems
+        yield from check_table(page, theorems)
+        if count_of(theorems) not in re.sub(r"\s+", " ", read(page)):
+            yield page, 1, f"the book has {count_of(theorems)}"
+    page = top / "library/README.md"
+    if count_of(every) not in re.sub(r"\s+", " ", read(page)):
+        yield page, 1, f"the books have {count_of(every)}"
+
+
+def check_history(top):
+    """What docs/books-1-to-4.md cites of a proof stands in it: the line, and the rules and theorems that give it."""
+    page = top / "docs/books-1-to-4.md"
+    carried = {row[0].strip("`") for _, row in cells_of(read(top / "docs/rules.md")) if row[0][:2] in ("`d", "`m")}
+    for number, cells in cells_of(read(page)):
+        files = re.findall(r"\]\(([^)]+\.book)\)", cells[0])
+        for book in [read(page.parent / file) for file in files]:
+            if spans(cells[-1]) and spans(cells[-1])[0] not in map(str.strip, book.split("\n")):
+                yield page, number, f"no such line there: {spans(cells[-1])[0]}"
+            for name in spans(cells[2]) if len(cells) == 4 else []:
+                if name not in book.split() and name not in carried:
+                    yield page, number, f"not there: {name}"
+
+
+def check_stating(top):
+    """What docs/stating.md names of the library is there."""
+    page = top / "docs/stating.md"
+    books = "".join(map(read, sorted(top.glob("library/*/*.book"))))
+    known = set(re.findall(r"(?m)^(?:theorem|define) (\S+)", books))
+    for number, cells in cells_of(read(page)):
+        for name in spans(cells[2]) if len(cells) == 3 else []:
+            if " " not in name and name not in known:
+                yield page, number, f"not in the library: {name}"
+        for name in re.findall(r"\bas ([a-z0-9-]+) [a-z]", " ".join(spans(cells[1]))) if len(cells) == 3 else []:
+            if name not in known:
+                yield page, number, f"no such definition: {name}"
+
+
+def count_of(theorems):
+    return f"{len(theorems)} theorems, {sum(steps for _, steps in theorems.values()):,} steps"
+
+
+def check_table(page, theorems):
     told = set()
     for number, cells in cells_of(read(page)):
         title = cells[1].strip("`")
@@ -357,15 +404,15 @@ def check_book_one(top):
                 yield page, number, f"{title} applies {' '.join(applied) or 'none'} and has {steps} steps"
     for title in sorted(set(theorems) - told):
         yield page, 1, f"no row for {title}"
+
+
+def check_book_one(top):
+    theorems = theorems_of(join.joined(top / "library/book-1").decode())
     page = top / "library/book-1/uses.out"
     lines = [" ".join(["uses", title, *applied]) for title, (applied, _) in theorems.items()]
     if read(page) != "\n".join([*lines, f"listed {len(theorems)}", ""]):
         yield page, 1, "not the lines of the book"
-    count = f"{len(theorems)} theorems, {sum(steps for _, steps in theorems.values()):,} steps"
-    page = top / "library/book-1/README.md"
-    if count not in re.sub(r"\s+", " ", read(page)):
-        yield page, 1, f"Book I has {count}"
-    page = top / "README.md"
+    count, page = count_of(theorems), top / "README.md"
     if count.replace(", ", " and ") not in re.sub(r"\s+", " ", read(page)):
         yield page, 1, f"Book I has {count}"
 
@@ -440,4 +487,4 @@ def check_files(top):
                     yield page, number, f"no file of proofs: {word}"
 
 
-CHECKS = [check_rules, check_counts, check_crates, check_program, check_language, check_book_one, check_readme, check_versions, check_files]
+CHECKS = [check_rules, check_counts, check_crates, check_program, check_language, check_library, check_history, check_stating, check_book_one, check_readme, check_versions, check_files]

@@ -44,7 +44,7 @@ SUFFIXES = "rt antt md book txt edit sh py text out json ebnf vim text".split()
 NOT_KEPT = re.compile(r"(^|/)(out|target)(/|$)|\.\.|[*<>{}]|NAME|\b[A-Z]+\.(text|book|out)$|e_x|^[/~]")
 NOT_KEPT_FILES = {"I.1.text", "thing.rt", "Thing.antt", "Topic.antt", "X.book", "FILE", "mine.book", "whole.book"}
 # Titles of theorems that look like files.
-NOT_KEPT_FILES |= {"right.out"}
+NOT_KEPT_FILES |= {"right.out", "III.20.out", "arc.out"}
 
 # Words of Rust, of antt, of the shell, of the kit and of its libraries that documents cite.
 ALLOWED = set(

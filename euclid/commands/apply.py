@@ -23,16 +23,17 @@ from ..ways import lacking_words
 HELP = """Shows which earlier theorems may be applied before a step, and what each would show.
 
 `ready` is a line that `elements` accepted there; for the others the given literals are named that
-are no facts, and which of these follow in a few lines. With --for a literal come those that show it
-or from which it follows, perhaps with lines before them. What says nothing new is left out, and
-arguments that come twice are last. Without --for or --of two uses of a theorem are shown.
+are no facts, and which of these follow in a few lines. With --for a literal come those that show
+it; where there are none, those from which it follows, perhaps with lines before them. What says
+nothing new is left out, and arguments that come twice are last. Without --for or --of two uses of
+each theorem are shown.
 
-example: euclid apply I.5 23 --for 'seg d c = seg g b' library/book-1
-example: euclid apply I.5 23 --of I.4 library/book-1
+example: euclid apply I.5 19 --for 'seg d c = seg g b' library/book-1
+example: euclid apply I.5 19 --of I.4 library/book-1
 """
 
 MOST_READY, MOST_NEAR, OF_EACH, MOST_LONG = 14, 6, 2, 4
-SECONDS, SECONDS_LONG = 1.5, 1.0
+SECONDS, SECONDS_LONG = 10.0, 1.5  # work is limited besides, so the first is for very large books alone
 MOST_RUNS = 12
 
 
@@ -94,7 +95,9 @@ def search(here: Opened, theorem: Theorem, situation: Situation, args: argparse.
         uses = some_of_each(showing, 0 if args.all else MOST_READY)
     except OutOfTime:
         return Found(is_whole=False)
-    longer = longer_ways(theorem, situation, args, here, wanted, {use.line for use in showing})
+    is_shown = any(not use.lacks for use in showing) and not args.all
+    shown_lines = {use.line for use in showing if not use.lacks}
+    longer = [] if is_shown else longer_ways(theorem, situation, args, here, wanted, shown_lines)
     return confirmed(finder, scratch, uses, longer, spell(wanted), args.all)
 
 
@@ -154,8 +157,9 @@ def confirmed(finder: Finder, scratch: Scratch, uses: list[Use], longer: list[li
     found.ready = [([use.line], use) for use, is_ready in zip(ready, accepted) if is_ready]
     found.ready += [([*lines, *last] if not any(line.startswith("apply") for line in lines) else lines, None)
                     for lines, is_ready in zip(longer, accepted[len(ready) :]) if is_ready]
+    last_lines = {lines[-1] for lines, _ in found.ready}
     refused = [use for use, is_ready in zip(ready, accepted) if not is_ready]
-    near = [*refused, *(use for use in uses if use.lacks)]
+    near = [use for use in [*refused, *(use for use in uses if use.lacks)] if use.line not in last_lines]
     found.near = near if is_all else near[:MOST_NEAR]
     return found
 

@@ -17,6 +17,7 @@ from ..literals import names_in, renamed, spell
 from ..messages import ACCEPTED, WrongUse
 from ..script import Theorem
 from ..targets import add_paths, opened
+from ..writing import exchange_bytes
 
 HELP = """Draws a theorem: what is given, and what the proof draws.
 
@@ -51,7 +52,7 @@ def run(args: argparse.Namespace) -> int:
     state, title = state_at(figure, args.step), args.title + (f", step {args.step}" if args.step else "")
     text = svg(figure, state, title, description(source.theorem))
     if args.output:
-        args.output.write_text(text, encoding="utf-8")
+        exchange_bytes(args.output, text.encode("utf-8"))
     else:
         sys.stdout.write(text)
     for step, fact in figure.layout.false_facts():

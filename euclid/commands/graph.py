@@ -3,6 +3,7 @@
 from __future__ import annotations
 
 import argparse
+import re
 import sys
 import textwrap
 
@@ -20,16 +21,20 @@ is the rule `superpose`. All this is of the proofs that are there: others may ne
 
 example: euclid graph --of I.32 library/book-1
 example: euclid graph --rule da5a library
+example: euclid graph --rule da5a --propositions library
 example: euclid graph --dot --of I.47 library/book-1 | dot -Tsvg > I.47.svg
 """
 
 COLUMNS = 100
+NUMBERED = re.compile(r"([IVXLC]+)\.(\d+)(?![^.])")  # a title of a proposition, or of a part of it: `III.7.near`
 
 
 def arguments(parser: argparse.ArgumentParser) -> None:
     """The words of the command."""
     parser.add_argument("--of", action="append", default=[], metavar="TITLE", help="this theorem alone; may come again")
     parser.add_argument("--rule", metavar="RULE", help="which theorems rest on this rule, and which do not")
+    parser.add_argument("--propositions", action="store_true",
+                        help="with --rule: numbered propositions, in runs, in place of theorems")
     parser.add_argument("--unused", action="store_true", help="the theorems that no other applies")
     parser.add_argument("--dot", action="store_true",
                         help="a drawing for Graphviz; with --of of all that these theorems rest on")
@@ -49,7 +54,7 @@ def run(args: argparse.Namespace) -> int:
             raise WrongUse(f"`{title}` is not accepted, or rests on what is not")
     wanted = args.of or own
     if args.rule:
-        print("\n".join(rule_lines(graph, args.rule, wanted)))
+        print("\n".join(rule_lines(graph, args.rule, wanted, args.propositions)))
     elif args.unused:
         print("\n".join(title for title in graph.unused() if title in wanted))
     elif args.dot:
@@ -75,8 +80,8 @@ def tell_all(here: Opened, graph: Graph, titles: list[str], is_json: bool) -> No
         print("\n".join(row_lines("    ", rows)))
 
 
-def rule_lines(graph: Graph, rule: str, titles: list[str]) -> list[str]:
-    """Which of these theorems rest on a rule."""
+def rule_lines(graph: Graph, rule: str, titles: list[str], by_numbers: bool) -> list[str]:
+    """Which of these theorems, or propositions, rest on a rule: of a proposition one theorem is enough."""
     names = [*tables().diagram, *tables().transfer, SUPERPOSE]
     if rule not in names:
         raise WrongUse(f"no rule is named `{rule}`{close_to(rule, names)}")
@@ -84,15 +89,39 @@ def rule_lines(graph: Graph, rule: str, titles: list[str]) -> list[str]:
     using = [title for title in titles if rule in graph.uses[title]]
     rows = {"use it": using, "rest on it": [each for each in titles if each in under],
             "do not": [each for each in titles if each not in under]}
+    if by_numbers:
+        resting, order = numbers_of(rows["rest on it"]), numbers_of(titles)
+        rows["rest on it"], rows["do not"] = resting, [each for each in order if each not in resting]
+        return row_lines("", rows, {"rest on it": in_runs(resting, order), "do not": in_runs(rows["do not"], order)})
     return row_lines("", rows)
 
 
-def row_lines(indent: str, rows: dict[str, list[str]]) -> list[str]:
-    """Named lists with their lengths, as lines of text."""
+def numbers_of(titles: list[str]) -> list[str]:
+    """The propositions of numbered theorems, each once: `III.7` for `III.7.near`."""
+    matches = [match for match in map(NUMBERED.match, titles) if match]
+    return list(dict.fromkeys(match.group() for match in matches))
+
+
+def in_runs(numbers: list[str], order: list[str]) -> str:
+    """Numbers in this order; three or more neighbours of one book are written `I.4 to I.6`."""
+    runs: list[list[str]] = []
+    for place, number in enumerate(order):
+        if number in numbers:
+            last = order[place - 1] if place else ""
+            if runs and runs[-1][-1] == last and last.split(".")[0] == number.split(".")[0]:
+                runs[-1].append(number)
+            else:
+                runs.append([number])
+    return ", ".join(f"{run[0]} to {run[-1]}" if len(run) > 2 else ", ".join(run) for run in runs)
+
+
+def row_lines(indent: str, rows: dict[str, list[str]], told: dict[str, str] | None = None) -> list[str]:
+    """Named lists with their lengths, as lines of text, or as they are told."""
     found: list[str] = []
     for name, row in rows.items():
         front = f"{indent}{name:10} {len(row):3}  "
-        found += textwrap.wrap(" ".join(row), COLUMNS, initial_indent=front, subsequent_indent=" " * len(front),
+        text = (told or {}).get(name, " ".join(row))
+        found += textwrap.wrap(text, COLUMNS, initial_indent=front, subsequent_indent=" " * len(front),
                                break_long_words=False, break_on_hyphens=False) or [front.rstrip()]
     return found
 

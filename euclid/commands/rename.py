@@ -7,11 +7,12 @@ import sys
 from pathlib import Path
 
 from ..answers import check
+from ..beside import renamed_sketches
 from ..library import STREAM, SourceFile, load, shown
 from ..messages import ACCEPTED, FAILED, FAULTY, WrongUse, tell
 from ..renaming import NotRenamed, Renaming, comments_with, differs_by_more
 from ..script import Item
-from ..syntax import SourceLine
+from ..syntax import SourceLine, count_of
 from ..targets import Opened, add_paths, close_to, opened
 from ..writing import exchange
 
@@ -94,12 +95,16 @@ def tell_comments(here: Opened, lines: list[SourceLine], renaming: Renaming) -> 
 
 
 def write(here: Opened, lines: list[SourceLine], renaming: Renaming, new: dict[Path, str]) -> int:
-    """Exchanges the files with the name, and says how many lines changed in each."""
+    """Exchanges the files with the name, and the sketches beside them; says how many lines changed in each."""
+    sketches = renamed_sketches(here.library, renaming)
     for file in here.library.files:
         count = sum(bool(renaming.places(line)) for line in lines[file.start - 1 :][: len(file.lines)])
         if file.path == STREAM:
             print(new[file.path], end="")
         elif count:
             exchange(file.path, new[file.path])
-            print(f"{shown(file.path)}: {count} line{'s' * (count != 1)}")
+            print(f"{shown(file.path)}: {count_of(count, 'line')}")
+    for path, (text, count) in sketches.items():
+        exchange(path, text)
+        print(f"{shown(path)}: {count_of(count, 'line')}")
     return ACCEPTED

@@ -7,6 +7,7 @@ import sys
 from pathlib import Path
 
 from ..answers import check
+from ..beside import shortened_sketches
 from ..checking import Checker
 from ..derivation import Part
 from ..idle import Minimizer, gone_lines, outermost, trimmed
@@ -94,12 +95,17 @@ def write(here: Opened, paths: list[Path], wanted: list[Theorem], gone: dict[str
     if not check(load(paths or [Path(".")], new).text()).is_accepted():
         print("euclid: what is left would not be accepted, so nothing is written", file=sys.stderr)
         return FAILED
+    gone_in = {file.path: {number - file.start + 1 for number in numbers} for file in here.library.files}
+    sketches = shortened_sketches(here.library, new, gone_in)
     for file in here.library.files:
         if file.path == STREAM:
             print(new[file.path], end="")
         elif new[file.path] != file.text:
             exchange(file.path, new[file.path])
             print(f"written: {shown(file.path)}")
+    for path, text in sketches.items():
+        exchange(path, text)
+        print(f"written: {shown(path)}")
     return ACCEPTED
 
 

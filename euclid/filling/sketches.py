@@ -75,8 +75,8 @@ def parting_of(sketch: list[SourceLine], book: list[SourceLine]) -> Parting | No
     while at < len(sketch) or place < len(book):
         own = sketch[at] if at < len(sketch) else None
         line = book[place] if place < len(book) else None
-        if own and line and own.words == line.words:
-            at, place = at + 1, place + 1
+        if line and (after := behind(sketch, at, line.words)):
+            at, place = after, place + 1
         elif line and line.words[0] in ("by", "hence"):
             place += 1
         elif line and line.words[0] == "claim" and (end := end_of_claim(book, place)):
@@ -85,6 +85,17 @@ def parting_of(sketch: list[SourceLine], book: list[SourceLine]) -> Parting | No
             at += 1
         else:
             return Parting(own.number if own else 0, line.number if line else 0, how(own, line))
+    return None
+
+
+def behind(sketch: list[SourceLine], at: int, words: Words) -> int | None:
+    """Behind the line with these words that comes next, but for wishes; none where another does."""
+    while at < len(sketch):
+        if sketch[at].words == words:
+            return at + 1
+        if not is_wish(sketch[at].words):
+            return None
+        at += 1
     return None
 
 

@@ -20,16 +20,18 @@ SECONDS = 10.0  # for one try
 IN_CLAIMS = (By, Hence, Claim, Cases, Qed, Contradiction)
 
 
-def strip_theorem(theorem: Theorem, known: Known, catalogue: Catalogue | None = None) -> list[SourceLine]:
-    """The lines of a theorem that are needed beside what can be filled in, and its comments."""
-    return Stripper(theorem, known, catalogue or Catalogue()).strip()
+def strip_theorem(theorem: Theorem, known: Known, catalogue: Catalogue | None = None,
+                  seconds: float = SECONDS) -> list[SourceLine]:
+    """The lines of a theorem that are needed beside what can be filled in, and its comments. A try that
+    takes more than some seconds fails."""
+    return Stripper(theorem, known, catalogue or Catalogue(), seconds).strip()
 
 
 class Stripper:
     """One theorem."""
 
-    def __init__(self, theorem: Theorem, known: Known, catalogue: Catalogue) -> None:
-        self.theorem, self.known, self.catalogue = theorem, known, catalogue
+    def __init__(self, theorem: Theorem, known: Known, catalogue: Catalogue, seconds: float) -> None:
+        self.theorem, self.known, self.catalogue, self.seconds = theorem, known, catalogue, seconds
 
     def strip(self) -> list[SourceLine]:
         """The lines that stay."""
@@ -50,7 +52,7 @@ class Stripper:
         items = read_lines(self.without(gone), self.known).items
         if len(items) != 1 or not isinstance(items[0], Theorem):
             return False
-        return fill_theorem(items[0], self.known, seconds=SECONDS, catalogue=self.catalogue).is_whole()
+        return fill_theorem(items[0], self.known, seconds=self.seconds, catalogue=self.catalogue).is_whole()
 
 
 def spared(groups: list[Group], gone: Group, fills: Callable[[Group], bool]) -> Group:

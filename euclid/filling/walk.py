@@ -205,7 +205,8 @@ class ProofFiller:
                 self.blanks(step)
             if isinstance(step, By) and not has_literal(step):
                 self.miss(step, spell(step.literal))
-            self.supply(step, needs_of(step, NOWHERE, self.known, goal, self.filled), isinstance(step, By))
+            else:
+                self.supply(step, needs_of(step, NOWHERE, self.known, goal, self.filled), isinstance(step, By))
             self.close_or_give(step)
 
     def close_or_give(self, step: Step) -> None:

@@ -7,7 +7,7 @@ from collections.abc import Callable, Mapping
 from ..derivation import Arithmetic, Certificate, Clash, Fact, Reason, Row, Transfer
 from ..literals import Literal, Metric, Sort, negation
 from ..rules import tables
-from .markup import esc, link, tag
+from .markup import esc, link, tag, words_in
 from .notation import Notation
 
 Named = Callable[[Literal], str]  # a literal with a link to where it comes from
@@ -48,12 +48,10 @@ class Certificates:
     def transfer(self, certificate: Transfer) -> str:
         """An instance of a transfer rule, with its premises."""
         rule = tables().transfer[certificate.rule]
-        sorts = dict(zip(rule.variables, rule.sorts))
-        names = ", ".join(f"{self.notation.name(variable, sorts[variable])} = {self.notation.name(name, sorts[variable])}"
-                          for variable, name in zip(rule.variables, certificate.names))
+        names = ", ".join(self.notation.name(name, sort) for name, sort in zip(certificate.names, rule.sorts))
         parts = "".join(f"<li>{self.part(part)}</li>" for part in certificate.parts)
-        return (f"<p>by {link(f'{self.rules}{rule.name}.html', rule.name)}, {esc(rule.words)} "
-                f"Here {esc(names)}.</p><ul>{parts}</ul>")
+        return (f"<p>by {link(f'{self.rules}{rule.name}.html', rule.name)}: {words_in(rule.words)} "
+                f"At {esc(names)}:</p><ul>{parts}</ul>")
 
     def part(self, reason: Reason) -> str:
         """A premise of a transfer."""
@@ -84,7 +82,8 @@ class Certificates:
                              ((number, self.notation.term(term)) for term, number in form.items())) or "0"
             terms = terms.removeprefix("+ ")
             sign = {"=": "=", ">": ">", ">=": "≥"}.get(sense, sense)
-            found.append(f'<tr><td>{row.multiplier} ×</td><td>{esc(terms)} {esc(sign)} 0</td>'
+            times = str(row.multiplier).replace("-", "−")
+            found.append(f'<tr><td>{times} ×</td><td>{esc(terms)} {esc(sign)} 0</td>'
                          f"<td>{self.source(row, wanted)}</td></tr>")
         strict = any(row.form(wanted, differs)[1] == ">" for row in rows)
         found.append(f'<tr class="total"><td>sum</td><td>0 {"&gt;" if strict else "≥"} 0</td>'

@@ -118,11 +118,11 @@ def inline_svg(figure: Figure) -> str:
 # ---- keeping
 
 
-@lru_cache(maxsize=1)
-def makers() -> str:
-    """The sum of the code that makes figures."""
+@lru_cache(maxsize=None)
+def sum_of_code(names: tuple[str, ...]) -> str:
+    """The sum of the code that makes something."""
     found = hashlib.sha256()
-    for name in MAKERS:
+    for name in names:
         path = TOP / name
         for file in sorted(path.glob("*.py")) if path.is_dir() else [path]:
             found.update(file.read_bytes())
@@ -139,7 +139,7 @@ class Keeper:
         """Where the text made from these parts is kept."""
         if self.folder is None:
             return None
-        total = hashlib.sha256("\0".join([kind, makers(), *parts]).encode()).hexdigest()
+        total = hashlib.sha256("\0".join([kind, *parts]).encode()).hexdigest()
         return self.folder / kind / f"{total}.json"
 
     def get(self, path: Path | None) -> str | None:
@@ -172,7 +172,7 @@ def kept_folder() -> Path:
 
 def kept_or_drawn(keeper: Keeper, source: Source, made_from: str) -> Drawn:
     """The figures of a theorem, drawn only where they are not kept."""
-    path = keeper.path("figures", made_from)
+    path = keeper.path("figures", sum_of_code(MAKERS), made_from)
     text = keeper.get(path)
     if text is not None:
         try:

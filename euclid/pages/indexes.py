@@ -6,7 +6,7 @@ from dataclasses import dataclass
 
 from ..literals import Sort
 from ..script import Definition
-from .markup import esc, items, table, tag
+from .markup import count_of, esc, items, plain_words, table, tag
 from .model import Entry, Site, script_text, where
 from .notation import Notation, letters_of, sentences
 from .rows import start_sorts
@@ -58,7 +58,7 @@ def definitions_page(site: Site) -> str:
         parts.append(definition_text(site, definition))
     if not site.definitions:
         parts.append("<p>There are none here.</p>")
-    return page(site, "Definitions", "".join(parts).replace("`as`", "<code>as</code>"), current="definitions.html")
+    return page(site, "Definitions", "".join(parts), current="definitions.html")
 
 
 def definition_text(site: Site, definition: Definition) -> str:
@@ -69,8 +69,8 @@ def definition_text(site: Site, definition: Definition) -> str:
     users = [entry.title for entry in site.order() if speaks_of(entry, definition.title)]
     lines = "\n".join(line.text for line in definition.lines if line.number >= definition.first and line.text.strip())
     said = items(map(esc, sentences(notation, statement.shown, sorts)))
-    who = f'<p class="many"><span class="count">{len(users)} theorems speak of it</span> {theorem_links(site, users)}</p>' \
-        if users else ""
+    count = count_of(len(users), "theorem")
+    who = f'<p class="many"><span class="count">{count} with it</span> {theorem_links(site, users)}</p>' if users else ""
     return (f'<section id="{esc(definition.title)}"><h2>{esc(definition.title)}</h2>'
             f'<p>{esc(sentence(definition.comment))}</p><ul>{said}</ul>'
             f'<details class="formal"><summary>As the book has it</summary><pre>{esc(lines)}</pre></details>{who}'
@@ -151,5 +151,5 @@ def search_script(site: Site) -> str:
     for definition in site.definitions:
         rows.append([definition.title, f"definitions.html#{definition.title}", f"definition: {definition.comment}", ""])
     for law in laws():
-        rows.append([law.title, f"rule/{law.file}", law.words, ""])
+        rows.append([law.title, f"rule/{law.file}", plain_words(law.words), ""])
     return script_text("SEARCH", rows)

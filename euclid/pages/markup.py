@@ -2,6 +2,7 @@
 
 from __future__ import annotations
 
+import re
 from collections.abc import Iterable
 from html import escape
 
@@ -9,6 +10,21 @@ from html import escape
 def esc(text: str) -> str:
     """A text inside of HTML."""
     return escape(text, quote=True)
+
+
+def words_in(text: str) -> str:
+    """Words in which backticks mark what books write."""
+    return re.sub(r"`([^`]*)`", r"<code>\1</code>", esc(text))
+
+
+def plain_words(text: str) -> str:
+    """The same without marks."""
+    return text.replace("`", "")
+
+
+def count_of(number: int, word: str) -> str:
+    """A number of things."""
+    return f"{number:,} {word}" + ("" if number == 1 else "s")
 
 
 def tag(name: str, content: str = "", **attributes: str) -> str:

@@ -102,6 +102,10 @@ class Site:
         """The rules."""
         return tables()
 
+    def is_accepted(self, item: Item) -> bool:
+        """Whether an item is accepted."""
+        return item.title not in self.report.refused_titles()
+
     def order(self) -> list[Entry]:
         """The theorems in order."""
         return list(self.entries.values())

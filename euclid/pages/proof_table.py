@@ -9,7 +9,7 @@ from ..derivation import Arithmetic, Certificate, Fact, Transfer
 from ..literals import Literal, Sort, key, negation
 from ..script import Apply, By, Cases, Claim, Contradiction, Hence, Let, Qed, Superpose
 from .certificates import Certificates
-from .markup import esc, link
+from .markup import esc, link, plain_words
 from .model import Entry, Site
 from .notation import Notation, grouped, sentences
 from .rows import Premise, Proof, Row, start_sorts
@@ -51,7 +51,7 @@ class ProofTable:
         """One row."""
         step, depth = row.step, min(row.depth, DEEPEST)
         classes = [f"d{depth}"] if depth else []
-        classes += ["fold"] if step.line.number in self.folded and not row.is_else else []
+        classes += ["fold"] if step.line.number in self.folded else []
         classes += ["quiet"] if row.is_quiet else []
         refused = self.entry.refused_at
         classes += ["after"] if refused and step.number > refused else []
@@ -65,7 +65,7 @@ class ProofTable:
         classes += ["bad"] if refused and step.number == refused else []
         words = f' class="{" ".join(classes)}"' if classes else ""
         return (f'<tr id="s{step.number}"{words}><th scope="row"><a href="#s{step.number}">{step.number}</a></th>'
-                f"<td><div>{self.says(row)}</div><code>{esc(' '.join(step.line.words))}</code></td>"
+                f"<td><div>{self.says(row)}</div><code>{esc(' '.join(step.line.words))}</code>{self.details(row)}</td>"
                 f"<td>{self.by_what(row)}</td><td>{self.premises(row)}</td></tr>\n")
 
     def literal_of(self, step: object) -> Literal:
@@ -133,15 +133,15 @@ class ProofTable:
         if isinstance(step, Let):
             shape = step.construction
             return link(f"{ROOT}rule/{construction_file(shape.number)}", esc(f"construction {shape.number}, {shape_words(shape)}"),
-                        title=shape.words) + self.details(row)
+                        title=plain_words(shape.words))
         if isinstance(step, Apply):
             arguments = self.proof.filled.get(step.number, step.arguments)
-            return f"{theorem_link(self.site, step.title, ROOT)} <small>{esc(' '.join(arguments))}</small>{self.details(row)}"
+            return f"{theorem_link(self.site, step.title, ROOT)} <small>{esc(' '.join(arguments))}</small>"
         if isinstance(step, Superpose):
-            return rule_link(self.site, "superpose", ROOT) + self.details(row)
+            return rule_link(self.site, "superpose", ROOT)
         if isinstance(step, (Claim, Cases)):
             return "the block below" if isinstance(step, Claim) else "both cases below"
-        return self.ways(row) + self.details(row)
+        return self.ways(row)
 
     def ways(self, row: Row) -> str:
         """By what what is needed is allowed, each once."""
@@ -180,13 +180,17 @@ class ProofTable:
     def premises(self, row: Row) -> str:
         """Links to the steps that a step follows from."""
         found: dict[str, list[Premise]] = {}
-        for premise in row.premises:
-            found.setdefault(self.target(premise.origin, premise.literal), []).append(premise)
-        links = []
-        for target, premises in found.items():
-            title = "; ".join(self.said(premise.literal, row.sorts) for premise in premises)
-            links.append(link(target, esc(self.origin_word(premises[0].origin)), title=title))
-        return " ".join(links)
+        order = sorted(row.premises, key=lambda premise: premise.origin.line)
+        for premise in order:
+            found.setdefault(self.origin_word(premise.origin), []).append(premise)
+        return " ".join(self.premise_link(word, premises, row) for word, premises in found.items())
+
+    def premise_link(self, word: str, premises: list[Premise], row: Row) -> str:
+        """A link to a step, or to what of the given is used."""
+        targets = list(dict.fromkeys(self.target(premise.origin, premise.literal) for premise in premises))
+        title = "; ".join(self.said(premise.literal, row.sorts) for premise in premises)
+        every = " ".join(target[1:] for target in targets) if len(targets) > 1 else ""
+        return link(targets[0], esc(word), title=title, data_all=every)
 
     def target(self, origin: Origin, literal: Literal) -> str:
         """Where a fact comes from."""

@@ -15,8 +15,8 @@ from ..rules import LETTERS, Construction, Rule, tables
 from ..script import Block, Theorem
 from ..statements import Known, Objects, Statement
 from ..syntax import source_line
-from .figures import Keeper, inline_svg
-from .markup import esc, items, link, table, tag
+from .figures import MAKERS, Keeper, inline_svg, sum_of_code
+from .markup import count_of, esc, items, link, plain_words, table, tag, words_in
 from .model import Site
 from .notation import DRAWN, Notation, sentences
 from .shell import construction_file, heading, page, rule_link, theorem_links
@@ -106,7 +106,7 @@ def scene_of(law: Law) -> Scene | None:
 
 def figure_of(law: Law, keeper: Keeper) -> str:
     """The figure of a law, kept or drawn."""
-    path = keeper.path("rules", law.name, spell_all(law.given), spell_all(law.then), " ".join(law.sorts))
+    path = keeper.path("rules", sum_of_code(MAKERS), law.name, spell_all(law.given), spell_all(law.then), " ".join(law.sorts))
     text = keeper.get(path)
     if text is None:
         scene = scene_of(law)
@@ -124,7 +124,7 @@ def rule_page(site: Site, law: Law, svg: str) -> str:
     said = clause(law)
     figure = ""
     if svg:
-        label = f"Figure: {law.words}"
+        label = f"Figure: {plain_words(law.words)}"
         figure = f'<figure>{svg.replace("<svg ", f"<svg aria-label={chr(34)}{esc(label)}{chr(34)} ", 1)}</figure>'
     axiom = "" if not law.axiom else f"<p>{esc(axiom_words(law.axiom))}</p>"
     formal = f"<p>A line of a book: <code>{esc(law.line)}</code></p>" if law.line else \
@@ -175,9 +175,9 @@ def users(site: Site, law: Law) -> str:
     own, below = uses(site, law)
     if not below:
         return "<h2>Who uses it</h2><p>no theorem here</p>"
-    return (f'<h2>Who uses it</h2><p class="many"><span class="count">in {len(own)} proofs</span> '
-            f'{theorem_links(site, own, ROOT)}</p><p class="many"><span class="count">{len(below)} rest on it in all</span> '
-            f"{theorem_links(site, below, ROOT)}</p>")
+    proofs, rest = count_of(len(own), "proof"), "rests" if len(below) == 1 else "rest"
+    return (f'<h2>Who uses it</h2><p class="many"><span class="count">in {proofs}</span> {theorem_links(site, own, ROOT)}</p>'
+            f'<p class="many"><span class="count">{len(below)} {rest} on it in all</span> {theorem_links(site, below, ROOT)}</p>')
 
 
 def uses(site: Site, law: Law) -> tuple[list[str], list[str]]:
@@ -205,10 +205,10 @@ def rules_page(site: Site) -> str:
     for rule in [*known.diagram.values(), *known.transfer.values()]:
         groups.setdefault(("Transfer: " if rule.is_transfer else "") + rule.group, []).append(rule)
     for name, rules in groups.items():
-        rows = [[rule_link(site, rule.name), esc(rule.words), str(len(site.graph.resting_on(rule.name)))] for rule in rules]
+        rows = [[rule_link(site, rule.name), words_in(rule.words), str(len(site.graph.resting_on(rule.name)))] for rule in rules]
         parts.append(tag("h2", esc(name)) + table(("Rule", "In words", "Theorems that rest on it"), rows, class_="plain"))
     rows = [[link(f"rule/{construction_file(each.number)}", f"{each.number}"), f"<code>{esc(each.line)}</code>",
-             esc(each.words), str(sum(each.number in shapes for shapes in site.shapes.values()))]
+             words_in(each.words), str(sum(each.number in shapes for shapes in site.shapes.values()))]
             for each in known.constructions]
     parts.append(tag("h2", "Constructions") + table(("No.", "Line", "In words", "Theorems that rest on it"), rows, class_="plain"))
     count = len(site.graph.resting_on("superpose"))

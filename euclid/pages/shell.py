@@ -2,7 +2,7 @@
 
 from __future__ import annotations
 
-from .markup import esc, link, tag
+from .markup import esc, link, plain_words, tag, words_in
 from .model import Site
 
 POLICY = ("default-src 'none'; style-src 'self'; script-src 'self'; img-src 'self'; base-uri 'none'; "
@@ -25,7 +25,7 @@ def page(site: Site, title: str, body: str, root: str = "", current: str = "", a
 <meta http-equiv="Content-Security-Policy" content="{POLICY}">
 <meta name="viewport" content="width=device-width, initial-scale=1">
 <meta name="color-scheme" content="light dark">
-<meta name="description" content="{esc(about or full)}">
+<meta name="description" content="{esc(plain_words(about or full))}">
 <title>{esc(full)}</title>
 <link rel="icon" href="{root}icon.svg">
 <link rel="stylesheet" href="{root}style.css">
@@ -68,7 +68,7 @@ def rule_link(site: Site, name: str, root: str = "") -> str:
     if name == "superpose":
         return link(f"{root}rule/superposition.html", "superposition")
     rule = site.tables.rule(name)
-    return link(f"{root}rule/{name}.html", esc(name), title=rule.words if rule else "")
+    return link(f"{root}rule/{name}.html", esc(name), title=plain_words(rule.words) if rule else "")
 
 
 def construction_file(number: int) -> str:
@@ -78,4 +78,4 @@ def construction_file(number: int) -> str:
 
 def heading(title: str, lead: str = "") -> str:
     """The head of a page."""
-    return tag("h1", esc(title)) + (tag("p", esc(lead), class_="lead") if lead else "")
+    return tag("h1", esc(title)) + (tag("p", words_in(lead), class_="lead") if lead else "")

@@ -9,10 +9,12 @@ from dataclasses import dataclass
 from pathlib import Path
 
 from ..drawing.sources import source_of
+from ..writing import exchange_bytes
 from .figures import Keeper, kept_or_drawn
+from .folds import folded_lines
 from .graph_page import graph_page
 from .indexes import contents, definitions_page, needs_page, search_script
-from .model import Entry, Site
+from .model import Site
 from .rule_pages import figure_of, laws, rule_page, rules_page
 from .theorem_page import TheoremPage
 
@@ -39,7 +41,6 @@ class Work:
 
     site: Site
     keeper: Keeper
-    folds: bool
 
 
 WORK: list[Work] = []
@@ -57,7 +58,7 @@ def theorem_file(work: Work, title: str) -> Page:
     """The page of a theorem."""
     entry = work.site.entries[title]
     figures = kept_or_drawn(work.keeper, source_of(entry.theorem, entry.known, entry.outcome), entry.made_from)
-    text = TheoremPage(work.site, entry, figures, folded_lines(work, entry)).text()
+    text = TheoremPage(work.site, entry, figures, folded_lines(work.site, entry, work.keeper)).text()
     holds = bool(figures.chapters) and not figures.chapters[0].false
     return f"theorem/{entry.file}", text, bool(figures.chapters), holds
 
@@ -66,11 +67,6 @@ def rule_file(work: Work, name: str) -> Page:
     """The page of a rule or a construction."""
     law = next(each for each in laws() if each.name == name)
     return f"rule/{law.file}", rule_page(work.site, law, figure_of(law, work.keeper)), False, False
-
-
-def folded_lines(work: Work, entry: Entry) -> frozenset[int]:
-    """The lines of a theorem that `euclid fill` finds."""
-    return frozenset()
 
 
 def plain_files(work: Work) -> Iterator[tuple[str, str]]:
@@ -94,10 +90,10 @@ def script() -> str:
                                         for part in parts)
 
 
-def make(site: Site, folder: Path, keeper: Keeper, folds: bool = True, processes: int | None = None) -> Made:
+def make(site: Site, folder: Path, keeper: Keeper, processes: int | None = None) -> Made:
     """Writes all files of a site into a folder."""
     writer = Writer(folder)
-    work = Work(site, keeper, folds)
+    work = Work(site, keeper)
     WORK[:] = [work]
     titles = sorted(site.entries, key=lambda title: -len(site.entries[title].theorem.steps()))
     jobs = [("theorem", title) for title in titles] + [("rule", law.name) for law in laws()]
@@ -146,7 +142,7 @@ class Writer:
         path = self.folder / name
         path.parent.mkdir(parents=True, exist_ok=True)
         if not path.is_file() or path.read_bytes() != data:
-            path.write_bytes(data)
+            exchange_bytes(path, data, is_synced=False)
         self.names.append(name)
         self.made.files += 1
         self.made.bytes += len(data)
@@ -159,4 +155,4 @@ class Writer:
             path = (self.folder / name).resolve()
             if path.is_relative_to(self.folder.resolve()) and path.is_file():
                 path.unlink()
-        (self.folder / LIST).write_text("\n".join([*sorted(self.names), ""]), encoding="utf-8")
+        exchange_bytes(self.folder / LIST, "\n".join([*sorted(self.names), ""]).encode("utf-8"))

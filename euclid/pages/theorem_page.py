@@ -131,10 +131,10 @@ class TheoremPage:
             false = f'<p class="false">Here these do not hold: {esc("; ".join(chapter.false[:6]))}' \
                     f'{" .." if len(chapter.false) > 6 else ""}.</p>' if chapter.false else ""
             found.append(f'<div class="chapter-{number}" data-chapter="{number}"{hidden}>{svg}{said}{false}</div>')
-        buttons = ('<div class="buttons" hidden><button type="button" id="back" title="Step before (left arrow)">← step</button>'
-                   '<button type="button" id="forth" title="Next step (right arrow)">step →</button>'
-                   '<button type="button" id="whole" title="The whole figure (Escape)">whole</button>'
-                   '<button type="button" id="other" title="Another figure of the same theorem">another figure</button></div>')
+        buttons = ('<div class="buttons" hidden><button type="button" id="back" aria-label="Step before" title="Step before (left arrow)">←<span> step</span></button>'
+                   '<button type="button" id="forth" aria-label="Next step" title="Next step (right arrow)"><span>step </span>→</button>'
+                   '<button type="button" id="whole" title="The whole figure (Escape)">whole<span> figure</span></button>'
+                   '<button type="button" id="other" title="Another figure of the same theorem">another<span> figure</span></button></div>')
         return (f'<figure id="figure"><div class="paper">{"".join(found)}</div>'
                 f'<figcaption id="caption" aria-live="polite"></figcaption>{buttons}</figure>')
 

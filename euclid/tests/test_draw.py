@@ -127,7 +127,7 @@ class Command(unittest.TestCase):
 
     def test_a_step_colours_what_it_adds(self) -> None:
         whole = euclid("draw", "I.1", str(LIBRARY / "book-1")).stdout
-        step = euclid("draw", "I.1", "--step", "3", str(LIBRARY / "book-1")).stdout
+        step = euclid("draw", "I.1", "--step", "2", str(LIBRARY / "book-1")).stdout
         self.assertNotIn('class="circle thin new"', whole)
         self.assertEqual(step.count('class="circle thin new"'), 1)
 

@@ -80,17 +80,17 @@ class Facts(unittest.TestCase):
                 count += 1
 
             Walker(theorem, book.known_before(theorem), visit, parts[theorem.title].filled()).walk()
-        self.assertEqual(count, 2387)
+        self.assertEqual(count, 1945)
 
     def test_command(self) -> None:
-        done = inside("facts", "I.47", "83", BOOK, "--json")
+        done = inside("facts", "I.47", "54", BOOK, "--json")
         self.assertEqual(done.status, 0)
         data = json.loads(done.stdout)
-        other = self.recorder.seen["I.47", 83]
+        other = self.recorder.seen["I.47", 54]
         self.assertEqual([each["name"] for each in data["objects"]], list(other.scope))
         self.assertEqual(len(data["facts"]), len(other.facts))
         steps = {each["origin"]["step"] for each in data["facts"]}
-        self.assertLessEqual(steps, set(range(83)))
+        self.assertLessEqual(steps, set(range(54)))
 
     def test_origins(self) -> None:
         done = inside("facts", "I.1", "5", BOOK)
@@ -98,7 +98,7 @@ class Facts(unittest.TestCase):
         self.assertIn("points a b declared", rows)
         self.assertIn("a != b given", rows)
         self.assertIn("on b A step 1, line 11", rows)
-        self.assertIn("inside a A step 4, line 14", rows)
+        self.assertIn("inside a A step 3, line 13", rows)
         self.assertEqual(rows[-2], "to show: seg a b = seg b c ; seg b c = seg c a")
 
     def test_cases_have_their_literals(self) -> None:
@@ -119,7 +119,7 @@ class Facts(unittest.TestCase):
         self.assertIn(title, parts)
 
     def test_wrong_words(self) -> None:
-        for words, said in ((("I.49", "1"), "did you mean"), (("I.1", "99"), "has 10 steps"),
+        for words, said in ((("I.49", "1"), "did you mean"), (("I.1", "99"), "has 9 steps"),
                             (("I.1", "0"), "no number of a step"), (("I.1", "x"), "no number of a step")):
             done = inside("facts", *words, BOOK)
             self.assertEqual(done.status, 3)

@@ -185,7 +185,7 @@ class Rename(Folder):
         self.assertEqual(done.status, 0)
         words, changed = re.subn(r"(?m)^(theorem|apply) I\.16( |$)", r"\1 sixteen\2", before)
         self.assertEqual(check(load([folder]).text()).derivation, words)
-        self.assertEqual(sum(map(int, re.findall(r": (\d+) lines?$", done.stdout, re.M))), changed)
+        self.assertEqual(sum(map(int, re.findall(r"\.book: (\d+) lines?$", done.stdout, re.M))), changed)
         self.assertIn("a comment has `I.16`", done.stderr)
 
     def test_object_of_one_theorem(self) -> None:
@@ -223,6 +223,17 @@ class Rename(Folder):
             self.assertEqual(inside("rename", old, new, str(folder)).status, 0)
         self.assertEqual(self.texts(folder), before)
 
+    def test_sketches_follow(self) -> None:
+        folder = self.copy()
+        sketches = [path for path in folder.rglob("*.sketch") if "apply I.32 " in path.read_text()]
+        self.assertTrue(sketches)
+        self.assertEqual(inside("rename", "I.32", "angles", str(folder)).status, 0)
+        for path in sketches:
+            self.assertNotIn("apply I.32 ", path.read_text())
+            self.assertIn("apply angles ", path.read_text())
+        done = inside("check", str(folder))
+        self.assertEqual((done.status, done.stderr), (0, ""))
+
     def test_line_ends_stay(self) -> None:
         path = self.book(TRICKY.replace("\n", "\r\n"))
         inside("rename", "--in", "T.g", "b", "c", str(path))
@@ -253,7 +264,7 @@ class Trim(Folder):
         text = check(load([BOOKS / "book-1"]).text()).derivation
         steps = re.compile(r"^(?:by|hence|let|apply|claim|superpose|qed|contradiction|cases)\b", re.M)
         whole, less = (len(steps.findall(each)) for each in (text, program.run(["trim"], text).output))
-        self.assertEqual(done.stdout.split("\n")[-2], f"{whole - less} of {whole:,} steps, in 44 of 93 theorems")
+        self.assertEqual(done.stdout.split("\n")[-2], f"{whole - less} of {whole:,} steps, in 1 of 93 theorems")
         lines = done.stdout.count(": note: nothing needs step")
         self.assertLessEqual(lines, whole - less)
 
@@ -263,6 +274,12 @@ class Trim(Folder):
         self.assertEqual(inside("trim", "--write", str(folder)).status, 0)
         self.assertEqual(check(load([folder]).text()).derivation, program.run(["trim"], before).output)
         self.assertTrue(inside("trim", str(folder)).stdout.startswith("0 of "))
+
+    def test_sketches_follow(self) -> None:
+        folder = self.copy()
+        self.assertEqual(inside("trim", "--write", str(folder)).status, 0)
+        done = inside("check", str(folder))
+        self.assertEqual((done.status, done.stderr), (0, ""))
 
     def test_minimized(self) -> None:
         folder = self.copy() / "book-1"

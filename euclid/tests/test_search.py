@@ -228,8 +228,11 @@ class Applications(BookOne):
             self.assertTrue(each["lacks"] or each["kind"] == "ready")
 
     def test_theorems_of_many_objects(self) -> None:
-        done = inside("apply", "I.47", "80", "--of", "I.34", BOOK)
-        self.assertIn("apply I.34 a b g f M G A F    ready", done.stdout)
+        theorem = self.book.theorem("I.46")
+        assert theorem is not None
+        step = next(each for each in theorem.steps() if each.line.words[:2] == ("apply", "I.34"))
+        done = inside("apply", "I.46", str(step.number), "--of", "I.34", "--all", BOOK)
+        self.assertIn(f"{step.line.text.strip()}    ready", done.stdout)
 
     def test_shows_what_the_theorem_shows(self) -> None:
         for each in objects(inside("apply", "I.5", "23", "--of", "I.4", "--json", BOOK)):
@@ -250,7 +253,7 @@ class Scratches(BookOne):
     def test_verdicts(self) -> None:
         theorem = self.book.theorem("I.47")
         assert theorem is not None
-        scratch = Scratch(self.book, theorem, 60)
+        scratch = Scratch(self.book, theorem, len(theorem.steps()))
         trials: list[list[str]] = [["hence right = right"], ["by eqr-p a : a = b"], ["nonsense"], ["apply I.1 a b as zz", "hence zz != a"],
                   [], ["by eqr-p a : a = a"]]
         self.assertEqual(scratch.ready(trials), [True, False, False, True, False, True])

@@ -160,7 +160,7 @@ class Figure {
       this.svg.append(handle)
       return handle
     })
-    this.x = Settle.settle(this.x, this.rules) ?? this.x
+    this.x = Settle.settle(this.x, this.rules).x
     this.draw()
     this.say(-1)
   }
@@ -226,7 +226,7 @@ class Figure {
     const { x, paper, names } = this.figures[this.which]
     this.paper = paper
     this.names = names
-    this.x = Settle.settle(x, this.rules) ?? x.slice()
+    this.x = Settle.settle(x, this.rules).x
     const [, , , width, height] = paper
     this.svg.setAttribute('viewBox', `0 0 ${Math.round(width)} ${Math.round(height)}`)
     this.svg.setAttribute('width', Math.round(width))

@@ -8,7 +8,7 @@ const one = (selector, from = document) => from.querySelector(selector)
 const Proof = {
   start() {
     const text = one('#data')?.textContent
-    this.rows = all('.steps tbody tr')
+    this.rows = all('.steps > tbody > tr')
     if (!text || !this.rows.length) return
     const data = JSON.parse(text)
     this.steps = data.steps
@@ -47,7 +47,7 @@ const Proof = {
 
   follow() {
     const row = location.hash.length > 1 && document.getElementById(decodeURIComponent(location.hash.slice(1)))
-    if (row && row.matches('.steps tr')) this.keep(row, false)
+    if (row && this.rows.includes(row)) this.keep(row, false)
   },
 
   // Shows the figure of a row and where its premises are.
@@ -65,7 +65,10 @@ const Proof = {
     const other = one('#other')
     if (other) other.hidden = (this.figures[chapter]?.figures?.length ?? 1) < 2
     if (!row) return
-    all('td:last-child a', row).forEach(each => document.getElementById(each.hash.slice(1))?.classList.add('from-here'))
+    for (const each of all('td:last-child a', row)) {
+      const names = each.dataset.all?.split(' ') ?? [each.hash.slice(1)]
+      names.forEach(name => document.getElementById(name)?.classList.add('from-here'))
+    }
   },
 
   // Points at a row until another one is chosen.
@@ -153,7 +156,7 @@ const Search = {
       if (name.startsWith(low)) return 2
       if (name.includes(low)) return 3
       const text = `${name} ${said} ${shown}`.toLowerCase()
-      return words.every(word => text.includes(word)) ? 4 : 9
+      return (shapes.size ? [low] : words).every(word => text.includes(word)) ? 4 : 9
     }
     return SEARCH.map((row, at) => [rank(row), at, row]).filter(([n]) => n < 9)
       .sort((a, b) => a[0] - b[0] || a[1] - b[1]).map(([, , row]) => row)

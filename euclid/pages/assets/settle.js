@@ -7,7 +7,7 @@ const Settle = (() => {
   const MARGINS = [0.3, 0.25, 0.2] // of lengths, angles, areas
   const SMALL = 0.04 // the part of a margin that is kept
   const ZERO = 0, MORE = 1 // kinds of rules; of kind 2 is what is at least 0
-  const WEIGHTS = { dragged: 1, declared: 0.12, drawn: 0.01 }
+  const FIRM = { dragged: 30, declared: 30, drawn: 0.01 }, SOFT = { dragged: 1, declared: 0.12, drawn: 0.01 }
   const { abs, atan2, cos, hypot, max, min, sin, sqrt } = Math
 
   // Functions that fill `o` with a point and the direction of a line, or the center and radius of a circle.
@@ -239,41 +239,47 @@ const Settle = (() => {
     return y
   }
 
-  // Numbers with which all rules hold, near x; or null. `pulls` are places with the number and the weight of each.
+  // Numbers near x with which all equations hold, and the first rule that does not hold there, or null. `pulls` are
+  // places with the number and the weight of each. A bound pulls only where nothing is moved: else it is watched.
   function settle(x, rules, pulls = []) {
-    const y = x.slice(), lacks = rules.map(lack)
+    const y = x.slice(), equations = rules.filter(rule => rule.kind === ZERO).map(lack)
     if (pulls.length) {
       const soft = pulls.map(([place, to, weight]) =>
         ({ f: z => weight * (z[place] - to), touch: [place], slopes: [weight] }))
-      solve(y, [...lacks, ...soft], 12, 1e-20, 1e-3)
+      solve(y, [...equations, ...soft], 12, 1e-18, 1e-4)
     }
-    solve(y, lacks, 40, EXACT * EXACT * 1e-4, 1e-6)
-    return rules.every(rule => isKept(rule, y)) ? y : null
+    solve(y, pulls.length ? equations : rules.map(lack), 30, EXACT * EXACT * 1e-4, 1e-6)
+    return { x: y, broken: rules.find(rule => !isKept(rule, y) || pulls.length && isTight(rule, x, y)) ?? null }
   }
 
-  // Drags a point to a place: the numbers, how much of the way it came, and the fact that held it back.
+  // Whether a bound has less room than its margin, and less than before.
+  function isTight(rule, before, now) {
+    if (rule.kind !== MORE) return false
+    const value = rule.value(now)
+    return value < rule.margin && value < rule.value(before)
+  }
+
+  // Drags a point to a place: the numbers, and the fact that held it back, or -1. The other declared points stay where
+  // they can; else all give way, the declared ones least.
   function drag(move, rules, x, place, to) {
-    const weights = new Array(x.length).fill(WEIGHTS.drawn)
-    for (const number of move.drag) weights.fill(WEIGHTS.declared, move.at[number], move.at[number] + 2)
+    const own = [place, place + 1], declared = new Set()
+    move.drag.forEach(number => declared.add(move.at[number]).add(move.at[number] + 1))
+    let broken = null
     for (let part = 1; part > 0.05; part /= 2) {
-      const goal = [x[place] + part * (to[0] - x[place]), x[place + 1] + part * (to[1] - x[place + 1])]
-      const pulls = x.map((v, i) => (i === place || i === place + 1
-        ? [i, goal[i - place], WEIGHTS.dragged] : [i, v, weights[i]]))
-      const y = settle(x, rules, pulls)
-      if (y) return { x: y, part, held: part < 1 || hypot(y[place] - to[0], y[place + 1] - to[1]) > 0.15 ? tightest(rules, y) : -1 }
+      const goal = own.map((at, n) => x[at] + part * (to[n] - x[at]))
+      const pulls = weights => x.map((v, i) => (own.includes(i)
+        ? [i, goal[i - place], weights.dragged] : [i, v, declared.has(i) ? weights.declared : weights.drawn]))
+      for (const weights of [FIRM, SOFT]) {
+        const found = settle(x, rules, pulls(weights))
+        const stayed = [...declared].every(i => own.includes(i) || abs(found.x[i] - x[i]) < 1e-3)
+        const came = own.every((at, n) => abs(found.x[at] - goal[n]) < 1e-3)
+        if (!found.broken && (weights === SOFT || stayed && came)) {
+          return { x: found.x, held: part < 1 ? broken.fact : -1 }
+        }
+        if (weights === SOFT) broken = found.broken
+      }
     }
-    return { x, part: 0, held: tightest(rules, x) }
-  }
-
-  // The fact that has least room, or -1 where all have some.
-  function tightest(rules, x) {
-    let least = 3, fact = -1
-    for (const rule of rules) {
-      if (rule.kind !== MORE) continue
-      const room = rule.value(x) / rule.margin
-      if (room < least) { least = room; fact = rule.fact }
-    }
-    return fact
+    return { x, held: broken.fact }
   }
 
   return { prepare, settle, drag, isKept, measure, touch, lineAt, circleAt }

@@ -1,0 +1,1 @@
+"""A classroom on one machine: one page, and the checks behind it."""

@@ -1,0 +1,321 @@
+"""Proofs filled and stripped: `elements` has to accept what comes out."""
+
+from __future__ import annotations
+
+import io
+import tempfile
+import unittest
+from contextlib import redirect_stderr, redirect_stdout
+from pathlib import Path
+
+from euclid.answers import check
+from euclid.cli import main
+from euclid.filling.engine import fill_theorem
+from euclid.filling.strip import strip_theorem
+from euclid.filling.walk import FilledTheorem
+from euclid.filling.ways import ways_at
+from euclid.library import load
+from euclid.reading import read_book
+from euclid.script import Theorem
+from euclid.statements import Known
+
+TOP = Path(__file__).resolve().parents[2]
+I_1 = """# the first
+theorem I.1
+points a b
+given a != b
+made points c
+show seg a b = seg b c
+show seg b c = seg c a
+proof
+let A circle a b
+let B circle b a
+# where they cross
+let c meet A B
+qed c
+end
+"""
+BETWEEN = """theorem T
+points a b c d
+given between a b c ; between b c d
+show between a c d
+proof
+{}qed
+end
+"""
+BLANK = """theorem U
+points a
+lines L
+given on a L
+show on a L
+proof
+qed
+end
+theorem V
+points b a
+lines L
+given on a L ; not on b L
+show on a L
+proof
+apply U _ L
+qed
+end
+"""
+PARTS = """theorem W
+points a b c d
+lines L
+given between a b c ; seg a b = seg b d ; on a L ; not on b L
+show seg a c = seg b d + seg b c
+show not on c L{}
+proof
+qed
+end
+"""
+TWO = """theorem symmetric
+points a b c d
+given seg a b < seg c d ; a != b
+show seg a c < seg b d
+proof
+qed
+end
+theorem use
+points p q r s
+given seg q p < seg r s ; p != q ; seg q s = seg r s
+show seg p r < seg r s
+proof
+{}qed
+end
+"""
+CIRCLES = """theorem X
+points o d b f
+circles A B
+given center o A ; on d A ; not on b A ; not inside b A ; between o d b
+given center o B ; on b B ; on f B
+show not inside f A
+proof
+cases inside f A
+  contradiction
+else
+  qed
+end
+"""
+
+
+def filled(text: str, most_applied: int = 0) -> list[FilledTheorem]:
+    """Each theorem of a text, filled."""
+    book, found = read_book(text), []
+    for theorem in book.theorems():
+        found.append(fill_theorem(theorem, book.known_before(theorem), seconds=None, most_applied=most_applied))
+    return found
+
+
+class FillTest(unittest.TestCase):
+    """`fill_theorem`."""
+
+    def lines(self, text: str) -> list[str]:
+        """The lines of a filled text, which `elements` accepts."""
+        found = filled(text)
+        self.assertEqual([each.missing for each in found], [[]] * len(found))
+        whole = "".join(each.text() for each in found)
+        self.assertTrue(check(whole).is_accepted(), whole)
+        return whole.split("\n")
+
+    def test_lines_and_comments_of_the_author_stay(self) -> None:
+        lines = self.lines(I_1)
+        self.assertEqual([line for line in lines if line in I_1.split("\n")], I_1.split("\n"))
+        self.assertIn("by x5 b a A B : meets A B", lines)
+        self.assertLess(lines.index("# where they cross"), lines.index("let c meet A B"))
+
+    def test_each_line_is_written_once_and_under_its_step(self) -> None:
+        steps = [line for line in self.lines(I_1) if line.startswith(("by", "hence"))]
+        self.assertEqual(len(steps), len(set(steps)))
+        self.assertEqual(len(steps), 5)
+        under = filled(I_1)[0].under()
+        self.assertEqual(set(under), {12, 13})  # the crossing, and what is shown
+        self.assertEqual(under[12][-1], "by x5 b a A B : meets A B")
+
+    def test_a_wish_is_replaced_by_its_lines(self) -> None:
+        lines = self.lines(BETWEEN.format("hence between d c a\n"))
+        self.assertFalse([line for line in lines if line.startswith("hence")])
+        self.assertEqual(self.lines(BETWEEN.format("")), lines)
+
+    def test_what_was_filled_needs_nothing(self) -> None:
+        text = "\n".join(self.lines(I_1))
+        self.assertEqual(filled(text)[0].text(), text)
+
+    def test_a_blank_has_the_least_object_that_fits(self) -> None:
+        self.lines(BLANK)
+
+    def test_sums_and_sides(self) -> None:
+        self.assertIn("hence seg a b + seg b c = seg a c", self.lines(PARTS.format("")))
+
+    def test_an_absurd_case_of_circles(self) -> None:
+        lines = self.lines(CIRCLES)
+        self.assertTrue(check(CIRCLES).kind == "unlicensed")
+        self.assertTrue([line for line in lines if line.startswith("  hence")])
+
+    def test_what_does_not_follow_is_named(self) -> None:
+        missing = filled(PARTS.format(" ; on d L"))[0].missing
+        self.assertEqual([(miss.line, miss.wanted) for miss in missing], [(8, "on d L")])
+
+    def test_what_comes_nearest_is_told(self) -> None:
+        text = "theorem T\npoints a b c\ngiven a != b ; between a b c\nshow between b a c\nproof\nqed\nend\n"
+        self.assertEqual(filled(text)[0].missing[0].wanted, "between b a c")
+        text = "theorem T\npoints a b c\nlines L\ngiven between a b c ; on a L\nshow on c L\nproof\nqed\nend\n"
+        near = filled(text)[0].missing[0].why
+        self.assertTrue(any("`b2 a b c L`" in each and "`on b L`" in each for each in near), near)
+
+    def test_a_citation_that_its_rule_does_not_give(self) -> None:
+        text = "theorem T\npoints a b c\ngiven between a b c\nshow a != c\nproof\nby b1a a b c : a != c\nqed\nend\n"
+        self.assertEqual([miss.wanted for miss in filled(text)[0].missing], ["a != c"])
+        self.assertEqual(check(text).step, 1)
+
+    def test_other_lines_are_left_alone(self) -> None:
+        text = "theorem T\npoints a\nshow a = a\nproof\nfoo\nend\n"
+        found = filled(text)[0]
+        self.assertEqual(found.text(), text)
+        self.assertEqual(found.stopped_at, 5)
+
+    def test_a_limit_of_time_holds_and_is_told(self) -> None:
+        book = load([TOP / "library" / "book-1"]).book()
+        theorem = book.theorem("I.44")
+        assert theorem is not None
+        found = fill_theorem(theorem, book.known_before(theorem), seconds=0.0)
+        self.assertIn("out of time", found.stopped)
+        self.assertEqual(found.text(), "".join(line.text + "\n" for line in theorem.lines))
+
+    def test_the_first_book_without_its_citations(self) -> None:
+        text = load([TOP / "library" / "book-1"]).text()
+        bare = "".join(line + "\n" for line in text.split("\n")[:-1] if not line.lstrip().startswith("by "))
+        self.assertFalse(check(bare).is_accepted())
+        book, known, whole = read_book(bare), Known(), ""
+        for item in book.items:
+            lines = "".join(line.text + "\n" for line in item.lines)
+            if isinstance(item, Theorem):
+                lines = fill_theorem(item, known).text()
+                known.theorems[item.title] = item.statement
+            else:
+                known.definitions[item.title] = item.statement
+            whole += lines
+        self.assertEqual(check(whole).count, 93)
+
+
+class ApplyTest(unittest.TestCase):
+    """Uses of earlier theorems."""
+
+    def uses(self, text: str, most: int) -> tuple[list[str], int]:
+        """What is put into the last theorem, and how much is missing in it."""
+        last = filled(text, most)[-1]
+        return last.applied, len(last.missing)
+
+    def test_a_sum_that_follows_with_facts(self) -> None:
+        self.assertEqual(self.uses(TWO.format(""), 1), (["apply symmetric p q r s"], 0))
+
+    def test_none_is_put_in_unasked(self) -> None:
+        self.assertEqual(self.uses(TWO.format(""), 0), ([], 1))
+
+    def test_the_author_keeps_his(self) -> None:
+        self.assertEqual(self.uses(TWO.format("apply symmetric p q r s\n"), 1), ([], 0))
+
+    def test_ways_are_listed_and_tried(self) -> None:
+        text = TWO.format("").replace("show seg a c < seg b d\nproof\n", "show seg a c < seg b d\nproof\nhence seg a b < seg c d\n")
+        book = read_book(text)
+        theorem = book.theorem("use")
+        assert theorem is not None
+        found = ways_at(book, theorem, 1)
+        self.assertEqual(found.wanted, "seg p r < seg r s")
+        self.assertEqual(found.ways[0].applied, "apply symmetric p q r s")
+        self.assertFalse(found.ways[0].is_ready)  # the first theorem is not proved, so no use of it is accepted
+
+    def test_a_ready_way(self) -> None:
+        text = BETWEEN.format("")
+        book = read_book(text)
+        found = ways_at(book, book.theorems()[0], 1)
+        self.assertEqual(found.wanted, "between a c d")
+        self.assertTrue(found.ways[0].is_ready)
+
+
+class StripTest(unittest.TestCase):
+    """The reverse."""
+
+    def test_strip_takes_out_what_fill_puts_back(self) -> None:
+        full = read_book(filled(I_1)[0].text()).theorems()[0]
+        self.assertEqual("".join(line.text + "\n" for line in strip_theorem(full, Known())), I_1)
+
+
+class CommandTest(unittest.TestCase):
+    """`euclid fill` and `euclid strip`."""
+
+    def setUp(self) -> None:
+        folder = tempfile.TemporaryDirectory()
+        self.addCleanup(folder.cleanup)
+        self.folder = Path(folder.name)
+
+    def run_main(self, *words: str) -> tuple[int, str, str]:
+        """The status, standard output, standard error."""
+        out, err = io.TextIOWrapper(io.BytesIO(), write_through=True), io.StringIO()
+        with redirect_stdout(out), redirect_stderr(err):
+            status = main(list(words))
+        assert isinstance(out.buffer, io.BytesIO)
+        return status, out.buffer.getvalue().decode(), err.getvalue()
+
+    def file(self, name: str, text: str) -> str:
+        """A file with a text; its path."""
+        (self.folder / name).write_bytes(text.encode())
+        return str(self.folder / name)
+
+    def test_fill_writes_what_is_accepted(self) -> None:
+        status, out, err = self.run_main("fill", self.file("I.1.book", I_1))
+        self.assertEqual((status, err), (0, ""))
+        self.assertTrue(check(out).is_accepted())
+
+    def test_lines_that_end_otherwise_stay_so(self) -> None:
+        _, out, _ = self.run_main("fill", self.file("I.1.book", I_1.replace("\n", "\r\n")))
+        self.assertEqual(out.count("\n"), out.count("\r\n"))
+        self.assertTrue(check(out).is_accepted())
+
+    def test_a_false_step_is_refused_by_name_and_nothing_is_written(self) -> None:
+        path = self.file("W.book", PARTS.format(" ; on d L"))
+        status, out, err = self.run_main("fill", "--write", path)
+        self.assertEqual(status, 1)
+        self.assertIn("W.book:8:1: error: W, step 1 lacks `on d L`", err)
+        self.assertEqual(Path(path).read_text(), PARTS.format(" ; on d L"))
+        self.assertIn("0 of 1 accepted", out)
+
+    def test_what_does_not_read_is_told(self) -> None:
+        status, out, err = self.run_main("fill", self.file("X.book", "garbage\n"))
+        self.assertEqual((status, out), (2, "garbage\n"))
+        self.assertIn("X.book:1:1: error: malformed", err)
+
+    def test_a_sketch_is_filled_beside_its_book(self) -> None:
+        self.file("book.toml", 'title = "One"\nfiles = ["I.1.book"]\n')
+        self.file("I.1.sketch", I_1)
+        status, _, _ = self.run_main("fill", "--write", str(self.folder))
+        self.assertEqual(status, 0)
+        self.assertTrue(check((self.folder / "I.1.book").read_text()).is_accepted())
+        self.assertEqual((self.folder / "I.1.sketch").read_text(), I_1)
+
+    def test_strip_writes_a_sketch(self) -> None:
+        path = self.file("I.1.book", filled(I_1)[0].text())
+        status, _, err = self.run_main("strip", "--write", path)
+        self.assertEqual((status, err), (0, "9 steps, 4 of them kept\n"))
+        self.assertEqual((self.folder / "I.1.sketch").read_text(), I_1)
+
+    def test_strip_leaves_what_is_not_accepted(self) -> None:
+        status, out, err = self.run_main("strip", self.file("W.book", PARTS.format("")))
+        self.assertEqual((status, out), (1, PARTS.format("")))
+        self.assertIn("W stays as it is", err)
+
+    def test_ways_at_a_step(self) -> None:
+        status, out, _ = self.run_main("fill", "--at", "T", "1", self.file("T.book", BETWEEN.format("")))
+        self.assertEqual(status, 0)
+        self.assertIn("step 1 of T lacks `between a c d`\n1. ready\n", out)
+
+    def test_wrong_use(self) -> None:
+        path = self.file("I.1.book", I_1)
+        for words in (["--only", "X", path], ["--at", "I.1", "99", path], ["--at", "I.1", "x", path], [path, path[:-5] + "x"]):
+            self.assertIn(self.run_main("fill", *words)[0], (2, 3), words)
+
+
+if __name__ == "__main__":
+    unittest.main()
