@@ -271,17 +271,15 @@ def written(modules, module, lines, twice):
             return f"{here.constructors[first]}.{first}"
         return token
 
-    done = []
+    done, is_data = [], any(re.match(r"(abbrev |unfoldable |pub )*data ", line) for line in lines)
     for line in lines:
         if line.startswith("--"):
             done.append(line)
             continue
-        line = MARKS.sub("", line)
-        line = re.sub(r"^(\s+)pub ", r"\1", line)
-        if MARKS.match(lines[0]) and re.match(r"^\s+\w+ :", line) and "data " in "".join(lines[:4]):
-            done.append(line)
-            continue
-        done.append(claim.NAME.sub(told, line))
+        line = re.sub(r"^(\s+)pub ", r"\1", MARKS.sub("", line))
+        head = re.match(r"\s+\w+ :", line) if is_data else None
+        start = head.end() if head else 0
+        done.append(line[:start] + claim.NAME.sub(told, line[start:]))
     return done
 
 
