@@ -1,20 +1,18 @@
 #!/usr/bin/env python3
-"""Lists the definitions that the claim on the program rests on.
+"""The definitions that the claim on the program rests on.
 
-    python3 tools/claim.py [TOP] > docs/claim.txt
+    python3 tools/claim.py [TOP]           how many there are, clause by clause
+    python3 tools/claim.py --text [TOP]    writes docs/claim-proofs.md and docs/claim-run.md
 
-The claim is the contract of `run` in crates/e_run. Who believes it believes what its clauses cite:
-definitions of the crates' specs/, those that these cite, and so on, down to the types of the
-program and to std, which are not listed. They come in reading order: each file behind those that
-its definitions cite. A file's line says how many of its lines belong to the claim; a definition has
-its comment, its type and its clauses.
+The claim is the contract of `run` in crates/e_run. Who believes it believes what its clauses cite: definitions of the
+crates' specs/, those that these cite, and so on, down to the types of the program and to std. They come in reading
+order: each file behind those that its definitions cite. A definition has its comment, its type and its clauses.
 
-A definition with a star is one of those of the sentence that people rely on: the bytes written
-under Accepted, and a text that is verified, spell proofs in E (clause proofs).
+The sentence is the one that people rely on: the bytes written under Accepted, and a text that is verified, spell proofs
+in E (clause proofs).
 
-The page is made by hand, and tools/lint.py compares it. Names are read off the text: a variable
-with the name of a definition counts as a citation, so the list may be a little too long, and it is
-never too short.
+The pages are made by hand, and tools/lint.py compares them. Names are read off the text: a variable with the name of a
+definition counts as a citation, so there may be a little too much, and there is never too little.
 """
 
 import re
@@ -23,7 +21,6 @@ from pathlib import Path
 
 RUN = "crates/e_run/src/runner.rt"
 SENTENCE = ("proofs",)
-COLUMNS = 100
 
 USE = re.compile(r"^(?:unfoldable )?(?:pub )?(?:ghost )?use ([\w.'+]+?)(?:\.\{(.*)\}| as (\w+))?;?\s*$")
 HEAD = re.compile(r"^(?:abbrev |unfoldable )?(?:pub )?(record |data )?([^\s:(]+)(?= |$)")
@@ -156,7 +153,8 @@ def in_order(modules, claim):
     for module, name in claim:
         here = modules[module]
         for other, _ in cited(modules, here.uses, here.aliases, module, code_of(here.definitions[name])):
-            below[module].add(other)
+            if other in below:
+                below[module].add(other)
     done = []
 
     def add(module, around):
@@ -172,6 +170,10 @@ def in_order(modules, claim):
     return done
 
 
+def crate_of(module):
+    return module.split(".")[1]
+
+
 def count(modules, claim):
     return sum(len(modules[module].definitions[name]) for module, name in claim)
 
@@ -181,37 +183,27 @@ def figures(what, modules, claim):
     return f"{what}: {len(claim):,} definitions, {count(modules, claim):,} lines, {len(files)} files"
 
 
-def wrapped(words):
-    lines, line = [], "   "
-    for word in words:
-        if len(line) + 1 + len(word) > COLUMNS:
-            lines.append(line)
-            line = "   "
-        line += " " + word
-    return lines + [line]
-
-
-def page(top):
-    """The text of docs/claim.txt."""
+def counts(top):
+    """How many definitions there are, clause by clause."""
     modules = modules_of(top)
     clauses, uses = clauses_of_run(top)
     roots = {name: cited(modules, uses, {}, "", clause) for name, clause in clauses}
-    whole = closure(modules, set().union(*roots.values()))
     sentence = closure(modules, set().union(*(roots[name] for name in SENTENCE)))
-    lines = ["The definitions that the contract of `run` rests on, in reading order: made by tools/claim.py."]
-    lines += ["With a star: those of the sentence that the bytes spell proofs in E.", ""]
-    lines += [figures("The sentence", modules, sentence), figures("The contract", modules, whole), ""]
-    for name in roots:
-        lines.append(figures(f"  {name}", modules, closure(modules, roots[name])))
-    for module in in_order(modules, whole):
-        here = modules[module]
-        own = [name for name in here.definitions if (module, name) in whole]
-        size = count(modules, [(module, name) for name in own])
-        lines += ["", f"crates/{here.path}: {size} of {len(here.lines)} lines"]
-        lines += wrapped(name + ("*" if (module, name) in sentence else "") for name in own)
-    return "\n".join(lines) + "\n"
+    whole = closure(modules, set().union(*roots.values()))
+    lines = [figures("The sentence", modules, sentence), figures("The contract", modules, whole)]
+    return lines + [figures(f"  {name}", modules, closure(modules, roots[name])) for name in roots]
+
+
+def main(words):
+    tops = [word for word in words if word != "--text"]
+    top = Path(tops[0] if tops else Path(__file__).resolve().parent.parent).resolve()
+    if "--text" in words:
+        import claim_pages
+
+        for path, text in claim_pages.pages(top).items():
+            (top / path).write_text(text, encoding="utf-8")
+    print("\n".join(counts(top)))
 
 
 if __name__ == "__main__":
-    TOP = Path(sys.argv[1] if sys.argv[1:] else Path(__file__).resolve().parent.parent).resolve()
-    sys.stdout.write(page(TOP))
+    main(sys.argv[1:])

@@ -11,7 +11,7 @@ What it looks for:
 - A link to a file that is not there, or to a heading that is not.
 - A crate that is in one of crates.txt, docs/proved.md, docs/architecture.md and crates/ and not in
   another, or that stands on other crates there.
-- docs/claim.txt, where it is not what tools/claim.py makes of the definitions.
+- docs/claim-proofs.md and docs/claim-run.md, where they are not what tools/claim.py makes of the definitions.
 - A fact that a document tells otherwise than the tree has it: tools/facts.py says which.
 - What a command of the companion prints, where a page shows it otherwise: tools/manual.py says how.
 - A line of prose with more than 100 columns. Rows of tables in docs/ are exempt, and so are lines
@@ -28,7 +28,7 @@ import sys
 from pathlib import Path
 
 sys.dont_write_bytecode = True
-import claim  # noqa: E402
+import claim_pages  # noqa: E402
 import facts  # noqa: E402
 import manual  # noqa: E402
 
@@ -233,13 +233,13 @@ def check_cells(findings):
 
 
 def check_claim(findings):
-    page = TOP / "docs/claim.txt"
-    made = claim.page(TOP)
-    kept = page.read_text(encoding="utf-8") if page.exists() else ""
-    if kept != made:
-        lines = zip((kept + "\n").split("\n"), (made + "\n").split("\n"))
-        number = next((number for number, (a, b) in enumerate(lines, 1) if a != b), 1)
-        findings.append((page, number, "not what tools/claim.py makes"))
+    for path, made in claim_pages.pages(TOP).items():
+        page = TOP / path
+        kept = page.read_text(encoding="utf-8") if page.exists() else ""
+        if kept != made:
+            lines = zip((kept + "\n").split("\n"), (made + "\n").split("\n"))
+            number = next((number for number, (a, b) in enumerate(lines, 1) if a != b), 1)
+            findings.append((page, number, "not what tools/claim.py makes"))
 
 
 def main():

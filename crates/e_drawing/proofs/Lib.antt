@@ -2,3 +2,4 @@ pub mod PlanLines
 pub mod Named
 pub mod Drawn
 pub mod Citing
+pub mod FirstFault

@@ -56,7 +56,7 @@ fails_on {A} (faults.Unended line) q then h = ap (λ (r : Result A BookFault). r
 pub takes_skipped : (old : Plan) (l : LineView) → is_skipped (tokens_of l.bytes) ≡ true → TakesPlanLine old l (Ok tt) old
 takes_skipped old l h = λ last more. ap (λ b. cond b (plan_from last old more) (put_at l.number (words_step old (tokens_of l.bytes)) >>= (λ q. plan_from last q more))) h
 
-worded : (old : Plan) (l : LineView) (last : ℕ) (more : Rest) → is_skipped (tokens_of l.bytes) ≡ false
+pub worded : (old : Plan) (l : LineView) (last : ℕ) (more : Rest) → is_skipped (tokens_of l.bytes) ≡ false
     → plan_from last old (Ok l ∷ more) ≡ (put_at l.number (words_step old (tokens_of l.bytes)) >>= (λ q. plan_from last q more))
 worded old l last more h = ap (λ b. cond b (plan_from last old more) (put_at l.number (words_step old (tokens_of l.bytes)) >>= (λ q. plan_from last q more))) h
 

@@ -5,3 +5,4 @@ pub mod Texts
 pub mod Answers
 pub mod inner
 pub mod Citing
+pub mod FirstFault
