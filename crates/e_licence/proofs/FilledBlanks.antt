@@ -60,9 +60,11 @@ good_filled b t pattern args good =
 
 pub good_wanted : (b : Basis) (t : StatementView) (pattern : List (Option Obj)) (args : List Obj) → is_statement t ≡ true → IsAllowedChoice t b.scope b.facts pattern args
     → Wanted b t pattern (chosen pattern args)
-good_wanted b t pattern args states good =
-    subst (λ (os : List Obj). AllAllowed b.scope b.facts (map (at (paired (objects t) os)) t.given)) (sym (good_filled b t pattern args good))
-    (subst (λ (ls : List Lit). AllAllowed b.scope b.facts ls) (needs_declared t args b.scope states (and_right (fills pattern args) _ good.is_choice)) good.allowed)
+good_wanted b t pattern args states good = (
+  good_fits b t pattern args good,
+  subst (λ (os : List Obj). AllAllowed b.scope b.facts (map (at (paired (objects t) os)) t.given)) (sym (good_filled b t pattern args good))
+      (subst (λ (ls : List Lit). AllAllowed b.scope b.facts ls) (needs_declared t args b.scope states (and_right (fills pattern args) _ good.is_choice)) good.allowed),
+)
 
 -- so where none is wanted, none is good
 pub none_good : (b : Basis) (t : StatementView) (pattern : List (Option Obj)) → is_statement t ≡ true → NoneWanted (Wanted b t pattern) [] (spans b t pattern) → NoneIsAllowed t b.scope b.facts pattern

@@ -1,10 +1,10 @@
 -- A literal whose objects are known by the first numbers of a choice stays what it is.
-use Rattle.std.proofs.Common.{◌≡◌, ℕ, zero, suc, ◌+◌, ◌-◌, ◌<◌, ◌≤◌, List, [], ◌∷◌, ◌++◌, map, length, drop, get_or, refl, sym, ap, ◌∙◌, subst, arith, Bool, true, false, cond, not, ltb, eqb, inl, inr, Option, Some, None, Result, Ok, Err, append_assoc, append-nil}
+use Rattle.std.proofs.Common.{◌≡◌, ℕ, zero, suc, ◌+◌, ◌-◌, ◌<◌, List, [], ◌∷◌, ◌++◌, map, length, drop, get_or, refl, sym, ap, ◌∙◌, subst, arith, Bool, true, false, cond, not, ltb, eqb, inl, inr, Option, Some, None, Result, Ok, Err, append_assoc, append-nil}
 use Rattle.std.specs.Prelude.{IfOk, Contains, slice_index_or}
 use Rattle.std.specs.Prelude.{length as length_of}
 use Rattle.std.specs.Option.{option_map_or}
 use Rattle.std.proofs.lemmas.Bool.{ltb-true, cases_Bool}
-use Rattle.std.proofs.lemmas.List.{drop_more, drop_all}
+use Rattle.std.proofs.lemmas.List.{drop_more}
 use Rattle.e_literal.specs.declared.object.Obj.{Obj}
 use Rattle.e_literal.specs.declared.object.Scope.{Scope}
 use Rattle.e_literal.specs.declared.object.Sort.{Sort}
@@ -28,19 +28,19 @@ use Rattle.e_transfer.specs.declared.walk.Verdict.{Verdict}
 use Rattle.e_transfer.specs.declared.walk.Verdict.TheVariants as verdict
 use Rattle.e_licence.specs.Contexts.{Basis}
 use Rattle.e_licence.specs.Verdicts.{JudgedIs}
-use Rattle.e_licence.specs.inner.BlankChoices.{filled_arguments, spans_of, images_of_choice, AllBound, AllBoundOf, IsKeptChoice, IsWanted, IsRefusedAt, SomeIsRefusedAt, SomeIsWideAt, KnownIs, OneIs, AreIs, AllIs}
+use Rattle.e_licence.specs.inner.BlankChoices.{filled_arguments, spans_of, images_of_choice, AllBound, AllBoundOf, IsKeptChoice, IsWanted, IsRefusedAt, SomeIsWideAt, KnownIs, OneIs, AreIs, AllIs}
 
 -- ---- one object
 
-abbrev number_of : Option Obj → ℕ → ℕ
+abbrev pub number_of : Option Obj → ℕ → ℕ
 number_of v n = option_map_or (λ (x : Obj). x.num) v n
 
-step : (f : Bool) (x y : Obj) (v w : Option Obj) (n k : ℕ) → (f ≡ true → ltb x.num k ≡ true → x.num ≡ y.num) → (ltb (number_of v n) k ≡ true → number_of v n ≡ number_of w n)
+pub step : (f : Bool) (x y : Obj) (v w : Option Obj) (n k : ℕ) → (f ≡ true → ltb x.num k ≡ true → x.num ≡ y.num) → (ltb (number_of v n) k ≡ true → number_of v n ≡ number_of w n)
     → ltb (number_of (cond f (Some x) v) n) k ≡ true → number_of (cond f (Some x) v) n ≡ number_of (cond f (Some y) w) n
 step true x y v w n k here rest h = here refl h
 step false x y v w n k here rest h = rest h
 
-not_in_scope : (s : Scope) (sort : Sort) (o : Obj) (num : ℕ) (y : ℕ) → same_obj (obj sort num) o ≡ true → ltb (count_of s sort) (count_of s o.sort) ≡ true → count_of s sort ≡ y
+pub not_in_scope : (s : Scope) (sort : Sort) (o : Obj) (num : ℕ) (y : ℕ) → same_obj (obj sort num) o ≡ true → ltb (count_of s sort) (count_of s o.sort) ≡ true → count_of s sort ≡ y
 not_in_scope s sort o num y is less =
     let e = ap (count_of s) (same_sort_is sort o.sort (and_left (same_sort sort o.sort) _ is)) in
     let k = ltb-true (count_of s sort) (count_of s o.sort) less in
@@ -103,7 +103,7 @@ allowed_all b es (l ∷ ls) (here, rest) good =
 
 -- ---- a literal that is refused, or too wide
 
-allowed_at : (scope : Scope) (facts : List Lit) (f : Lit → Lit) (ls : List Lit) (l : Lit) (k : ℕ) → k < length ls → slice_index_or ls k l ≡ l → AllAllowed scope facts (map f ls) → Allowed scope facts (f l)
+pub allowed_at : (scope : Scope) (facts : List Lit) (f : Lit → Lit) (ls : List Lit) (l : Lit) (k : ℕ) → k < length ls → slice_index_or ls k l ≡ l → AllAllowed scope facts (map f ls) → Allowed scope facts (f l)
 allowed_at scope facts f [] l k less is all = absurd (omega (arith, less))
 allowed_at scope facts f (x ∷ ls) l zero less is (here, rest) = subst (λ y. Allowed scope facts (f y)) is here
 allowed_at scope facts f (x ∷ ls) l (suc k) less is (here, rest) = allowed_at scope facts f ls l k (omega (arith, less)) is rest
@@ -112,7 +112,7 @@ pub refused : (b : Basis) (sorts : List Sort) (entries : List (Option Obj)) (giv
     → IsRefusedAt b (images_of_choice b.scope (next_objects nothing sorts) entries part) l → IsWanted b (next_objects nothing sorts) entries given (part ++ rest) → ⊥
 refused b sorts entries given part rest l (k, less, is) r wanted =
     r.not_allowed (subst (λ x. Allowed b.scope b.facts x) (sym (stays b.scope b.scope sorts entries part rest l r.good))
-    (allowed_at b.scope b.facts (at (images_of_choice b.scope (next_objects nothing sorts) entries (part ++ rest))) given l k less is wanted))
+    (allowed_at b.scope b.facts (at (images_of_choice b.scope (next_objects nothing sorts) entries (part ++ rest))) given l k less is wanted.1))
 
 contains_map : (f : Lit → Lit) (ls : List Lit) (l : Lit) (k : ℕ) → k < length ls → slice_index_or ls k l ≡ l → (k < length (map f ls)) × (slice_index_or (map f ls) k (f l) ≡ f l)
 contains_map f [] l k less is = absurd (omega (arith, less))
@@ -134,9 +134,6 @@ left_more : (b : Basis) (now : List Entry) (metric all : Bool) (ls : List Lit) (
 left_more b now metric all ls i d less here left whole rest =
     left whole (subst (λ x. AllBoundOf b now metric x) (sym (drop_more ls i d less)) (here whole, rest))
 
-pub left_none : (b : Basis) (now : List Entry) (metric all : Bool) (ls : List Lit) (i : ℕ) → length ls ≤ i → Left b now metric all ls i → all ≡ true → AllBoundOf b now metric ls
-left_none b now metric all ls i most left whole = left whole (subst (λ x. AllBoundOf b now metric x) (sym (drop_all i ls most)) tt)
-
 -- one that is allowed
 pub kept_more : (b : Basis) (now : List Entry) (metric all : Bool) (ls : List Lit) (i : ℕ) (d l : Lit) (o : Verdict (Unit {0})) (p : Unit {0}) → i < length ls
     → l ≡ get_or ls i d → o ≡ verdict.Yes p → OneIs b now l o → Left b now metric all ls i → Left b now metric all ls (i + 1)
@@ -149,19 +146,6 @@ pub unasked_more : (b : Basis) (now : List Entry) (metric all : Bool) (ls : List
     → l ≡ get_or ls i d → (all ≡ true → is_metric l ≡ metric → ⊥) → Left b now metric all ls i → Left b now metric all ls (i + 1)
 unasked_more b now metric all ls i d l less is none =
     left_more b now metric all ls i d less (λ whole kind good. absurd (none whole (ap is_metric is ∙ kind)))
-
-one_of : (ls : List Lit) (l : Lit) (i : ℕ) → i < length ls → l ≡ get_or ls i l → Contains ls l
-one_of ls l i less is = (i, less, sym is)
-
-pub refused_one : (b : Basis) (now : List Entry) (ls : List Lit) (i : ℕ) (l : Lit) (o : Verdict (Unit {0})) → i < length ls → l ≡ get_or ls i l
-    → o ≡ verdict.No → OneIs b now l o → SomeIsRefusedAt b now ls
-refused_one b now ls i l o less is refuse claim =
-    record { lit = l; is_one = one_of ls l i less is; is_refused = subst (λ x. OneIs b now l x) refuse claim }
-
-pub wide_one : (b : Basis) (now : List Entry) (ls : List Lit) (i : ℕ) (l : Lit) (o : Verdict (Unit {0})) (w : ℕ) → i < length ls → l ≡ get_or ls i l
-    → o ≡ verdict.TooWide w → OneIs b now l o → SomeIsWideAt b now ls w
-wide_one b now ls i l o w less is stop claim =
-    record { lit = l; is_one = one_of ls l i less is; is_wide = subst (λ x. OneIs b now l x) stop claim }
 
 -- ---- diagram literals and metric ones
 

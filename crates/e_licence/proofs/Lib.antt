@@ -8,6 +8,7 @@ pub mod Clashes
 pub mod BlankChoices
 pub mod KeptVerdicts
 pub mod KnownLiterals
+pub mod FailingRows
 pub mod FilledBlanks
 pub mod SweptChoices
 pub mod ChoicesInOrder

@@ -19,7 +19,8 @@ ghost use Rattle.e_licence.specs.FilledBlanks.{FilledIs};
 
 use crate::context::Context;
 use crate::licensing::allowed_by;
-use crate::ready::ready_places;
+use crate::ready::{Ready, ready_places};
+use crate::restricted::BlankSearch;
 use crate::verdicts::Verdicts;
 use e_literal::{Items, Lit, Map, NOTHING, Obj, Scope, count, kind, next_objects, renamed};
 use e_metric::{MetricFacts, StepFacts};
@@ -49,8 +50,8 @@ pub struct Blanks<'a> {
     pub statement: &'a Statement,
     pub pattern: &'a [Option<Obj>],
     pub declared: Vec<Obj>,
-    /// With how many numbers each given literal is known. It is a matter of speed alone.
-    pub ready: Vec<usize>,
+    /// On which blanks each given literal depends. It is a matter of speed alone.
+    pub ready: Vec<Ready>,
     /// How many numbers a whole choice has.
     pub whole: usize,
     ghost fronts: { step_facts.now ≡ context.now.facts },
@@ -138,7 +139,7 @@ fn matched_by(
     }
     let scope = context.scope();
     let whole = spans.len();
-    let ready = ready_places(alloc, scope, statement, &declared, pattern, whole)?;
+    let ready = ready_places(alloc, scope, statement, &declared, pattern, &spans)?;
     let step_facts = StepFacts::new(context.facts(), metric_facts);
     let blanks = Blanks {
         context,
@@ -151,8 +152,12 @@ fn matched_by(
         whole,
     };
     let mut memory = Verdicts::new(alloc);
+    let task = BlankSearch {
+        blanks: &blanks,
+        excluded: blanks.excluded(alloc, &mut memory, &spans)?,
+    };
     let mut chosen = Vec::new(alloc);
-    match search(alloc, &blanks, &mut memory, &spans, &mut chosen)? {
+    match search(alloc, &task, &mut memory, &spans, &mut chosen)? {
         Verdict::Yes(()) => {
             let args = arguments(alloc, scope, &blanks.declared, pattern, &chosen)?;
             Ok(Filled::Found(Items::new(args)))
@@ -310,7 +315,7 @@ impl<'a> Blanks<'a> {
     }
 
     /// The same of a given literal by the images of its objects.
-    fn license_one(
+    pub fn license_one(
         &self,
         alloc: Global,
         memory: &mut Verdicts,
@@ -333,7 +338,7 @@ impl<'a> Blanks<'a> {
         if kind(lit).is_some() != metric {
             return false;
         }
-        all || (at < self.ready.len() && self.ready[at] == length)
+        all || (at < self.ready.len() && self.ready[at].known == length)
     }
 
     /// Licenses the metric given literals, or the others, up to the first that is not allowed: all,

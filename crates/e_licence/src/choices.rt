@@ -14,6 +14,7 @@ ghost use Rattle.e_licence.specs.inner.BlankChoices.{filled_arguments};
 use crate::blanks::{Blanks, arguments, has_empty, spans};
 use crate::context::Context;
 use crate::ready::ready_places;
+use crate::restricted::BlankSearch;
 use crate::sweep::{Swept, sweep};
 use crate::verdicts::Verdicts;
 use e_literal::{Items, NOTHING, Obj, Scope, next_objects};
@@ -148,7 +149,7 @@ fn choices_by(
     }
     let scope = context.scope();
     let whole = spans.len();
-    let ready = ready_places(alloc, scope, statement, &declared, pattern, whole)?;
+    let ready = ready_places(alloc, scope, statement, &declared, pattern, &spans)?;
     let step_facts = StepFacts::new(context.facts(), metric_facts);
     let blanks = Blanks {
         context,
@@ -160,26 +161,15 @@ fn choices_by(
         ready,
         whole,
     };
+    let task = BlankSearch {
+        blanks: &blanks,
+        excluded: blanks.excluded(alloc, memory, &spans)?,
+    };
     let mut chosen = Vec::new(alloc);
     let mut found = Items::empty(alloc);
-    match sweep(
-        alloc,
-        &blanks,
-        memory,
-        &spans,
-        &mut chosen,
-        &mut found,
-        most,
-    )? {
-        Swept::Done => as_found(
-            alloc,
-            scope,
-            &blanks.declared,
-            pattern,
-            found.items(),
-            false,
-        ),
-        Swept::Full => as_found(alloc, scope, &blanks.declared, pattern, found.items(), true),
+    match sweep(alloc, &task, memory, &spans, &mut chosen, &mut found, most)? {
+        Swept::Done => as_found(alloc, &blanks, &found, false),
+        Swept::Full => as_found(alloc, &blanks, &found, true),
         Swept::TooWide(width) => Ok(FirstChoices::TooWide(width)),
     }
 }
@@ -187,16 +177,16 @@ fn choices_by(
 /// The choices that were found, as arguments.
 fn as_found(
     alloc: Global,
-    scope: Scope,
-    declared: &[Obj],
-    pattern: &[Option<Obj>],
-    found: &[Items<u16>],
+    blanks: &Blanks,
+    found: &Items<Items<u16>>,
     more: bool,
 ) -> Result<FirstChoices, AllocError>
-    ensures { IfOk result
-        (λ f. f ≡ Found (map (filled_arguments scope declared.now pattern.now) found.now) more) }
+    ensures { IfOk result (λ f. f ≡ Found (map (filled_arguments blanks.now.context.now.scope
+        blanks.now.declared.items blanks.now.pattern.now) found.now) more) }
 {
-    let choices = all_arguments(alloc, scope, declared, pattern, found)?;
+    let scope = blanks.context.scope();
+    let declared = &blanks.declared;
+    let choices = all_arguments(alloc, scope, declared, blanks.pattern, found.items())?;
     Ok(FirstChoices::Found { choices, more })
 }
 

@@ -11,6 +11,7 @@ mod held;
 mod licensing;
 mod limits;
 mod ready;
+mod restricted;
 mod solving;
 mod sweep;
 mod verdicts;

@@ -1,6 +1,5 @@
-//! With how many numbers of a choice each given literal is known. It is a matter of speed alone: a
-//! literal that is asked too late is asked of more choices, and one that is asked too early says
-//! nothing yet.
+//! On which blanks each given literal depends. It is a matter of speed alone: a literal that is
+//! asked too late is asked of more choices, and one that is asked too early says nothing yet.
 
 ghost use Rattle.std.specs.Prelude.{◌≡◌, IsTrue};
 ghost use Rattle.e_literal.specs.Scopes.{nothing, next_objects as declared_objects};
@@ -8,54 +7,95 @@ ghost use Rattle.e_theorem.specs.Pattern.{is_pattern};
 ghost use Rattle.e_theorem.specs.Statements.{stated};
 
 use crate::blanks::images;
-use e_literal::{Lit, Map, Obj, Scope, renamed};
+use e_literal::{Lit, Map, Obj, Scope, kind, renamed};
 use e_theorem::Statement;
-use e_transfer::is_well_formed_in;
+use e_transfer::{Span, is_well_formed_in};
 use std::alloc::{AllocError, Global};
 use std::mem;
 
-/// For each given literal, with how many of the numbers of a choice its objects are known: with
-/// `whole` where fewer do not do.
+/// What is known of a given literal.
+#[derive(Clone, Copy)]
+pub struct Ready {
+    /// With how many of the numbers of a choice all its objects are known.
+    pub known: usize,
+    /// On how many blanks it depends.
+    pub blanks: usize,
+    /// The first of these.
+    pub first: usize,
+    /// Whether it compares magnitudes.
+    pub metric: bool,
+}
+
+/// For each given literal on which blanks it depends: it does on one where it is out of scope by
+/// an object that is out of scope there, and by no other.
 pub fn ready_places(
     alloc: Global,
     scope: Scope,
     statement: &Statement,
     declared: &[Obj],
     pattern: &[Option<Obj>],
-    whole: usize,
-) -> Result<Vec<usize>, AllocError>
+    spans: &[Span],
+) -> Result<Vec<Ready>, AllocError>
     requires declares { declared.now ≡ declared_objects nothing statement.now.declared }
     requires fits { IsTrue (is_pattern (stated statement.now) scope pattern.now) }
 {
     let given = statement.given.items();
-    let mut ready = vec![in alloc; whole; given.len()]?;
-    let mut part = Vec::with_capacity(alloc, whole)?;
-    for length in 0..whole {
+    let mut ready = Vec::with_capacity(alloc, given.len())?;
+    for lit in given {
+        ready.push(Ready {
+            known: 0,
+            blanks: 0,
+            first: 0,
+            metric: kind(lit).is_some(),
+        })?;
+    }
+    for blank in 0..spans.len() {
+        let part = out_at(alloc, spans, blank)?;
         let images = images(alloc, scope, statement, declared, pattern, &part)?;
-        mark_ready(alloc, scope, given, &images, length, &mut ready)?;
-        mem::drop(images);
-        part.push(0)?;
+        mark_blank(alloc, scope, given, &images, blank, &mut ready)?;
     }
     Ok(ready)
 }
 
-// Those that are known by these images, and were not before, are so with this many numbers.
-fn mark_ready(
+// A choice with a number that is out of scope at this blank alone.
+fn out_at(alloc: Global, spans: &[Span], blank: usize) -> Result<Vec<u16>, AllocError> {
+    let mut part = Vec::with_capacity(alloc, spans.len())?;
+    for (at, span) in spans.iter().enumerate() {
+        part.push(if at == blank { span.to } else { 0 })?;
+    }
+    Ok(part)
+}
+
+// Those that are out of scope by these images depend on the blank.
+fn mark_blank(
     alloc: Global,
     scope: Scope,
     given: &[Lit],
     images: &Map,
-    length: usize,
-    ready: &mut [usize],
+    blank: usize,
+    ready: &mut [Ready],
 ) -> Result<(), AllocError> {
     for (at, lit) in given.iter().enumerate() {
-        if at < ready.len() && length < ready[at] {
+        if at < ready.len() {
             let image = renamed(alloc, lit, images)?;
-            if is_well_formed_in(scope, &image) {
-                ready[at] = length;
+            if !is_well_formed_in(scope, &image) {
+                ready[at] = with_blank(ready[at], blank);
             }
             mem::drop(image);
         }
     }
     Ok(())
+}
+
+fn with_blank(ready: Ready, blank: usize) -> Ready {
+    Ready {
+        known: blank.saturating_add(1),
+        blanks: ready.blanks.saturating_add(1),
+        first: if ready.blanks == 0 {
+            blank
+        } else {
+            ready.first
+        },
+        metric: ready.metric,
+    }
 }

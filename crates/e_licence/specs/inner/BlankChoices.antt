@@ -14,6 +14,7 @@ use Rattle.e_clause.specs.Wide.{IsTooWideLit}
 use Rattle.e_transfer.specs.declared.walk.Span.{Span}
 use Rattle.e_transfer.specs.declared.walk.Verdict.{Verdict}
 use Rattle.e_transfer.specs.declared.walk.Verdict.TheVariants as verdict
+use Rattle.e_transfer.specs.Choice.{FitsSpans}
 use Rattle.e_licence.specs.Contexts.{Basis}
 
 -- ---- arguments
@@ -70,10 +71,10 @@ IsKeptChoice b os entries given part =
     length part ≡ length (spans_of b.scope os entries)
     → AllBound b (images_of_choice b.scope os entries part) given
 
--- each literal is allowed
+-- a whole choice with which each literal is allowed
 abbrev pub IsWanted : Basis → List Obj → List (Option Obj) → List Lit → List ℕ → Type 0
 IsWanted b os entries given c =
-    AllAllowed b.scope b.facts
+    FitsSpans (spans_of b.scope os entries) c × AllAllowed b.scope b.facts
     (map (renamed (image_in (images_of_choice b.scope os entries c))) given)
 
 -- all objects of the literal are in scope, and it is not allowed
