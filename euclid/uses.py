@@ -18,7 +18,7 @@ from .filling.candidates import Candidates, TooMuch, shown_as
 from .filling.page import Page
 from .filling.supply import Supplier
 from .filling.theorems import Catalogue, Shape, split
-from .literals import Literal, Sort, names_in, spell
+from .literals import Literal, Sort, is_same, names_in, spell
 from .reach import Reach
 from .statements import Known, Statement
 from .syntax import is_name
@@ -80,9 +80,11 @@ class Finder:
 
     def showing(self, literal: Literal) -> list[Use]:
         """The uses that show a literal, or one that says the same."""
-        codes = [self.reach.code(each) for each in [literal, *turned(literal)]]
-        return self.gathered((entry, [bound for code in codes for bound in shown_at(entry, code)])
+        same = [literal, *turned(literal)]
+        codes = [self.reach.code(each) for each in same]
+        uses = self.gathered((entry, [bound for code in codes for bound in shown_at(entry, code)])
                              for entry in reversed(self.entries))
+        return [use for use in uses if not any(is_same(each, one) for each in use.unknown for one in same)]
 
     def gathered(self, starts: Iterable[tuple[Entry, list[Bound]]]) -> list[Use]:
         """The uses with these objects at their places."""

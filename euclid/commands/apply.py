@@ -19,6 +19,7 @@ from ..syntax import Fault
 from ..targets import Opened, add_json, add_paths, add_step, opened
 from ..uses import Finder, Use, spelled
 from ..ways import lacking_words
+from .give import tell_fact
 
 HELP = """Shows which earlier theorems may be applied before a step, and what each would show.
 
@@ -71,6 +72,9 @@ def run(args: argparse.Namespace) -> int:
     if not args.json:
         place = here.library.place(line.number, line.column(0))
         print(f"{place}: before step {args.step} of {args.title}: {line.text.strip()}")
+    fact = situation.context.fact(literal_of(args.wanted, situation)) if args.wanted is not None else None
+    if fact is not None:
+        return tell_fact(here, fact.origin.words(), fact.origin.line, args.json)
     try:
         found = search(here, theorem, situation, args)
     except Unknown as unknown:

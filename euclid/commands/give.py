@@ -26,7 +26,7 @@ that are not of it are of any objects. With --at the rules are tried on the obje
 facts, and which of these follow in a few lines.
 
 example: euclid give 'not on c L'
-example: euclid give 'b != g' --at I.5 25 library/book-1
+example: euclid give 'not on c M' --at I.5 13 library/book-1
 """
 
 MOST_READY, MOST_NEAR, MOST_LINES = 12, 8, 12
@@ -65,7 +65,8 @@ def tell_givers(words: list[str], is_json: bool) -> int:
         tell_giver(giver, is_json)
     if not found:
         kind = isinstance(readings(words)[0][0], Metric)
-        print("euclid: no rule gives that" + ("; arithmetic may: `hence`" if kind else ""), file=sys.stderr)
+        other = "arithmetic may, by `hence`, and a theorem" if kind else "a theorem may"
+        print(f"euclid: no rule gives that; {other}: see euclid find", file=sys.stderr)
     return ACCEPTED if found else REFUSED
 
 

@@ -4,8 +4,11 @@ from __future__ import annotations
 
 import json
 import random
+import tempfile
 import time
 import unittest
+from collections.abc import Iterator
+from itertools import islice
 from pathlib import Path
 from typing import Any
 
@@ -15,7 +18,7 @@ from euclid.giving import givers, readings
 from euclid.library import Library, load
 from euclid.literals import is_same, key, negation, parse_literal, renamed, spell
 from euclid.matching import parse_patterns
-from euclid.reading import read_book
+from euclid.reading import STEPS, read_book
 from euclid.rules import LETTERS, tables
 from euclid.scratch import Scratch, Untried
 from euclid.script import Apply, Book, By, Step, Theorem
@@ -226,6 +229,45 @@ class Applications(BookOne):
             accepted = check(self.with_lines(theorem, 23, each["lines"])).is_accepted()
             self.assertEqual(accepted, each["kind"] == "ready", each["lines"])
             self.assertTrue(each["lacks"] or each["kind"] == "ready")
+
+    def test_fact(self) -> None:
+        done = inside("apply", "I.5", "20", "--for", "a != b", BOOK)
+        self.assertIn("it is a fact: step 1", done.stdout)
+
+    def test_lines_before_a_theorem(self) -> None:
+        """Where a `by` line before an `apply` line is out, lines come back with which a use is accepted."""
+        longer = 0
+        for theorem, step in islice(self.needed_citations(), 5):
+            lines = [line for line in self.library.lines() if line.number <= theorem.last]
+            text = "\n".join(line.text for line in lines if line.number != step.line.number) + "\n"
+            self.assertFalse(check(text).is_accepted())
+            book = read_book(text)
+            use = book.theorems()[-1].steps()[step.number - 1]
+            assert isinstance(use, Apply)
+            wanted = spell(book.known.theorems[use.title].gives_at(use.arguments, [])[0])
+            with tempfile.NamedTemporaryFile(suffix=".book") as file:
+                Path(file.name).write_text(text)
+                found = objects(inside("apply", theorem.title, str(step.number), "--for", wanted, "--json", file.name))
+            ready = [each["lines"] for each in found if each["kind"] == "ready"]
+            self.assertTrue(ready)
+            longer += any(len(added) > 1 for added in ready)
+            rows, place = text.split("\n"), use.line.number - 1
+            start = next(at for at, row in enumerate(rows) if row == f"theorem {theorem.title}")
+            for added in ready:
+                tried = [*rows[:place], *added, f"hence {wanted}"]
+                answer = check("\n".join([*tried, *rows[place:]]))
+                at = sum(row.split()[:1] != [] and row.split()[0] in STEPS for row in tried[start:])
+                self.assertTrue(answer.is_accepted() or answer.title == theorem.title and answer.step > at, added)
+        self.assertGreater(longer, 2)
+
+    def needed_citations(self) -> Iterator[tuple[Theorem, Step]]:
+        """The `by` steps directly before an `apply` step that needs them."""
+        for theorem in self.book.theorems():
+            for step, use in zip(theorem.proof.steps, theorem.proof.steps[1:]):
+                if isinstance(step, By) and isinstance(use, Apply) and not use.new and theorem.title != "I.5":
+                    needs = self.book.known.theorems[use.title].needs_at(use.arguments)
+                    if any(is_same(need, step.literal) for need in needs):
+                        yield theorem, step
 
     def test_theorems_of_many_objects(self) -> None:
         theorem = self.book.theorem("I.46")
