@@ -15,7 +15,7 @@ ghost use Rattle.e_transfer.specs.inner.SearchedPlaces.{Wanted, NoneFrom, Shown}
 use crate::areas::{equal_areas, is_one_of};
 use crate::clause::{clause_len, pattern_at};
 use crate::instance_check::{check_instance, is_refuted};
-use crate::marks::{is_equation, is_metric_place};
+use crate::marks::is_equation;
 use crate::numbers::Numbers;
 use crate::plan::{Plan, last_of_term};
 use crate::query::{Query, Strength};
@@ -122,15 +122,9 @@ impl<'a> InstanceSearch<'a> {
         is_free(&self.query, numbers.term(area))
     }
 
-    /// Whether the last number of the part completes the literal at a place of the clause, a metric
-    /// one or a diagram one, and the literal is excluded.
-    fn is_excluded(
-        &self,
-        alloc: Global,
-        numbers: &Numbers,
-        j: usize,
-        metric: bool,
-    ) -> Result<bool, AllocError>
+    /// Whether the last number of the part completes the literal at a place of the clause, and the
+    /// literal is excluded.
+    fn is_excluded(&self, alloc: Global, numbers: &Numbers, j: usize) -> Result<bool, AllocError>
         requires of_table { slice_get table self.now.rule ≡ Some (row_of numbers.now.row.now) }
         requires places { numbers.now.positions.now ≡ self.now.plan.now.positions.items }
         requires in_clause { j < length (clause_of (row_of numbers.now.row.now)) }
@@ -142,15 +136,11 @@ impl<'a> InstanceSearch<'a> {
         if !is_completed(&self.plan.ready_at, j, numbers.part.len()) {
             return Ok(false);
         }
-        if is_metric_place(numbers.row, j) != metric {
-            return Ok(false);
-        }
         let lit = numbers.literal(alloc, j)?;
         Ok(!may_hold(&self.query, j == self.place, lit))
     }
 
-    /// Whether no literal that the last number of the part completes is excluded. Diagram literals
-    /// are looked up, and so come first.
+    /// Whether no literal that the last number of the part completes is excluded.
     fn may_go_on(&self, alloc: Global, numbers: &Numbers) -> Result<bool, AllocError>
         requires of_table { slice_get table self.now.rule ≡ Some (row_of numbers.now.row.now) }
         requires places { numbers.now.positions.now ≡ self.now.plan.now.positions.items }
@@ -159,28 +149,8 @@ impl<'a> InstanceSearch<'a> {
             self.now.query.goal.now self.now.rule self.now.place self.now.plan.now
             numbers.now.part.now) }
     {
-        if !self.may_all_go_on(alloc, numbers, false)? {
-            return Ok(false);
-        }
-        self.may_all_go_on(alloc, numbers, true)
-    }
-
-    /// The same of the metric literals alone, or of the others.
-    fn may_all_go_on(
-        &self,
-        alloc: Global,
-        numbers: &Numbers,
-        metric: bool,
-    ) -> Result<bool, AllocError>
-        requires of_table { slice_get table self.now.rule ≡ Some (row_of numbers.now.row.now) }
-        requires places { numbers.now.positions.now ≡ self.now.plan.now.positions.items }
-        ensures { IfOk result (λ b. b ≡ false
-            → NoneFrom self.now.query.strength self.now.query.scope self.now.query.facts.now
-            self.now.query.goal.now self.now.rule self.now.place self.now.plan.now
-            numbers.now.part.now) }
-    {
         for j in 0..clause_len(numbers.row) {
-            if self.is_excluded(alloc, numbers, j, metric)? {
+            if self.is_excluded(alloc, numbers, j)? {
                 return Ok(false);
             }
         }

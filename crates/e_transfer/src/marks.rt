@@ -178,16 +178,6 @@ fn may_hold(query: &Query, row: &Row, at: usize) -> bool
     mark(relation_of(&shape), neg) == mark_of(query.goal) || may_suffice(query, !neg, &shape)
 }
 
-/// Whether the literal at a place of the clause compares sums.
-pub fn is_metric_place(row: &Row, at: usize) -> bool
-    requires { at < length (clause_of (row_of row.now)) }
-{
-    let (pattern, _) = pattern_at(row, at);
-    match pattern {
-        Pattern::Is(shape) | Pattern::Not(shape) => relation_of(&shape) >= OF_DIAGRAMS,
-    }
-}
-
 /// Whether an instance may have the goal at this place of the clause.
 pub fn may_be_goal(query: &Query, row: &Row, place: usize) -> bool
     requires { place < length (clause_of (row_of row.now)) }
