@@ -311,6 +311,16 @@ class CommandTest(unittest.TestCase):
         self.assertEqual(status, 0)
         self.assertIn("step 1 of T lacks `between a c d`\n1. ready\n", out)
 
+    def test_blanks_that_may_mean_other_objects_are_told(self) -> None:
+        text = BLANK.replace("not on b L\n", "not on b L ; on c L\n").replace("points b a", "points b c a")
+        text = text.replace("given on a L\n", "given on a L ; a != b\n", 1).replace("points a\n", "points a b\n")
+        text = text.replace("apply U _ L", "apply U _ b L")
+        self.assertTrue(check(text).wanted == "match")
+        status, out, err = self.run_main("fill", self.file("V.book", text))
+        self.assertEqual(status, 0)
+        self.assertIn("warning: the blanks of step 1 may be `c b L` or `a b L`", err)
+        self.assertIn("by sub-on-1 c b L : c != b\napply U _ b L\n", out)
+
     def test_wrong_use(self) -> None:
         path = self.file("I.1.book", I_1)
         for words in (["--only", "X", path], ["--at", "I.1", "99", path], ["--at", "I.1", "x", path], [path, path[:-5] + "x"]):
