@@ -56,6 +56,7 @@ class FilledBooks:
                 found.append(self.message(each.theorem.first, text))
             elif each.is_whole():
                 found += self.about_blanks(title, each)
+                found += self.about_rests(title, each)
                 found += [self.message(place_of(each, text), f"put before this step of {title}: {text}", kind="note")
                           for text in each.applied]
         return found
@@ -76,6 +77,13 @@ class FilledBooks:
                 text = f"the blanks of step {step.number} may be `{mine}` or `{other}`: lines were put in for the first"
                 found.append(self.message(step.line.number, text, kind="warning"))
         return found
+
+    def about_rests(self, title: str, each: FilledTheorem) -> list[Message]:
+        """On what a filled theorem rests that is not accepted."""
+        for item, outcome in zip(self.book.items, self.outcomes.items):
+            if item is each.theorem and outcome.verdict == Verdict.RESTS:
+                return [self.message(each.theorem.first, f"{title} rests on {outcome.on}, which is not accepted", kind="note")]
+        return []
 
     def faults(self) -> list[Message]:
         """What does not read, in the files that were asked for."""
@@ -211,6 +219,24 @@ def texts_of(result: FilledBooks) -> dict[Path, str]:
     for file in result.library.files:
         if file.path in result.library.own:
             texts[file.path] = text_of(file.text, file.start, items, result.filled)
+    return texts
+
+
+def sketches_of(result: FilledBooks) -> dict[Path, str]:
+    """The sketches into which a use of a theorem was put, so that they agree with their books."""
+    put: dict[int, list[str]] = {}
+    for title, each in result.filled.items():
+        if result.stays(title):
+            for number, lines in each.under().items():
+                put[number] = [line for line in lines if line.strip() in each.applied]
+    texts = {}
+    for file in result.library.files:
+        sketch = sketch_of(file.path) if file.path in result.library.own else None
+        if sketch is not None and any(put.get(file.start + at) for at in range(len(file.lines))):
+            raw = file.text.split("\n")
+            end = "\r" if raw[0].endswith("\r") else ""
+            texts[sketch] = "\n".join(part for at, line in enumerate(raw)
+                                      for part in [*(each + end for each in put.get(file.start + at, [])), line])
     return texts
 
 

@@ -11,6 +11,7 @@ from pathlib import Path
 from euclid.answers import check
 from euclid.cli import main
 from euclid.filling.engine import fill_theorem
+from euclid.filling.sketches import partings
 from euclid.filling.strip import strip_theorem
 from euclid.filling.walk import FilledTheorem
 from euclid.filling.ways import ways_at
@@ -294,6 +295,18 @@ class CommandTest(unittest.TestCase):
         self.assertEqual(status, 0)
         self.assertTrue(check((self.folder / "I.1.book").read_text()).is_accepted())
         self.assertEqual((self.folder / "I.1.sketch").read_text(), I_1)
+
+    def test_a_use_of_a_theorem_is_put_into_the_sketch_as_well(self) -> None:
+        head = "points v x b c\ngiven v != x ; between v b c\nshow ang x v b = ang x v c\nproof\n"
+        text = f"theorem T\n{head}let L line v b\nlet M line v x\nqed\nend\ntheorem U\n{head}qed\nend\n"
+        self.file("X.sketch", text)
+        book = self.file("X.book", "")
+        self.assertEqual(self.run_main("fill", "--write", book)[0], 1)
+        status, _, err = self.run_main("fill", "--apply", "--write", book)
+        self.assertEqual(status, 0, err)
+        sketch = (self.folder / "X.sketch").read_text()
+        self.assertEqual(sketch, "apply T v x b c\nqed".join(text.rsplit("qed", 1)))
+        self.assertEqual(partings(sketch, Path(book).read_text()), [])
 
     def test_strip_writes_a_sketch(self) -> None:
         path = self.file("I.1.book", filled(I_1)[0].text())
