@@ -118,8 +118,10 @@ class Scope:
     def bring(self, name: str, sort: Sort) -> int:
         """A new object; its number in its sort."""
         number = len(self.names[sort])
-        if number >= MOST_OBJECTS or name in self.sorts:
-            raise Unknown(f"`{name}` cannot be brought into scope")
+        if number >= MOST_OBJECTS:
+            raise Unknown(f"`{name}` is one too many: at most {MOST_OBJECTS} {sort.plural} are in scope")
+        if name in self.sorts:
+            raise Unknown(f"the name `{name}` is taken")
         self.sorts[name], self.numbers[name] = sort, number
         self.names[sort].append(name)
         return number

@@ -5,9 +5,7 @@
   name stands: `check_rules`.
 - A number of rules, in any document, is that of the table: `check_counts`. So is the number of stored rows, and of
   reserved words.
-- The row of a crate in docs/architecture.md has the first sentence of its head comment, and its section in
-  docs/proved.md names each of its public functions and laws; what the table there says carries its claim is in its code:
-  `check_crates`.
+- The row of a crate in docs/architecture.md has the first sentence of its head comment: `check_crates`.
 - The usage line, the exit statuses and the libraries that are trusted are those of the code: `check_program`.
 - The limits and the reserved words of docs/book.md are those of the code: `check_language`.
 - What the theorems of the library apply, and how many steps they have, is what their proofs say: `check_library`, and
@@ -236,14 +234,6 @@ def head_sentence(top, crate):
     return re.split(r"\.(?: |$)", " ".join(lines))[0]
 
 
-def public_names(top, crate):
-    """The functions that the root of a crate hands on, with its laws."""
-    root = top / "crates" / crate / "src/lib.rt"
-    text = read(root) if root.exists() else ""
-    for names in re.findall(r"^pub use [\w:]+::(\{[^}]*\}|\w+);", text, re.M):
-        yield from (name for name in re.findall(r"\w+", names) if name[0].islower())
-
-
 def check_crates(top):
     crates = re.findall(r"^(\w+):", read(top / "crates.txt"), re.M)
     page = top / "docs/architecture.md"
@@ -252,20 +242,6 @@ def check_crates(top):
         number, sentence = rows.get(crate, (1, ""))
         if sentence != head_sentence(top, crate):
             yield page, number, f"the sentence of {crate} is not that at the head of the crate"
-    page = top / "docs/proved.md"
-    text = read(page)
-    for crate in crates:
-        section = re.search(rf"^### `{crate}`\n(.*?)(?=^##|\Z)", text, re.M | re.S)
-        for name in public_names(top, crate):
-            if section and not re.search(rf"\b{name}\b", section.group(1)):
-                yield page, line_of(text, section.group()), f"{crate} has the public function {name}"
-    for number, cells in cells_of(text):
-        crate = cells[0].strip("`")
-        if len(cells) == 3 and crate in crates:
-            code = "".join(read(path) for path in sorted((top / "crates" / crate / "src").glob("*.rt")))
-            for name in re.findall(r"\w+", " ".join(spans(cells[2]))):
-                if not re.search(rf"\b{name}\b", code):
-                    yield page, number, f"{crate} has no {name}"
 
 
 # ---- the program

@@ -9,9 +9,10 @@ What it looks for:
   library/ and the like, that is written as a path, a file, a crate, or an identifier of Rust or antt, and that
   the tree does not have. What counts as which is told at `kind_of`.
 - A link to a file that is not there, or to a heading that is not.
-- A crate that is in one of crates.txt, docs/proved.md, docs/architecture.md and crates/ and not in
+- A crate that is in one of crates.txt, docs/architecture.md and crates/ and not in
   another, or that stands on other crates there.
 - docs/claim-proofs.md and docs/claim-run.md, where they are not what tools/claim.py makes of the definitions.
+- docs/proved.md and docs/refusals.md, where they are not what tools/contracts.py makes of the crates.
 - A fact that a document tells otherwise than the tree has it: tools/facts.py says which.
 - What a command of the companion prints, where a page shows it otherwise: tools/manual.py says how.
 - A line of prose with more than 100 columns. Rows of tables in docs/ are exempt, and so are lines
@@ -29,6 +30,7 @@ from pathlib import Path
 
 sys.dont_write_bytecode = True
 import claim_pages  # noqa: E402
+import contracts  # noqa: E402
 import facts  # noqa: E402
 import manual  # noqa: E402
 
@@ -190,7 +192,7 @@ def check_crates(findings):
     folders = {path.parent.name for path in TOP.glob("crates/*/src")}
     for name in sorted(set(listed) ^ folders):
         findings.append((crates_txt, listed.get(name, (1,))[0], f"in one of list and crates/: {name}"))
-    for page in (TOP / "docs/proved.md", TOP / "docs/architecture.md"):
+    for page in (TOP / "docs/architecture.md",):
         if not page.exists():
             continue
         told = {}
@@ -206,11 +208,10 @@ def check_crates(findings):
                 for name in re.findall(r"`(e_\w+)`", cell):
                     if name not in listed and re.fullmatch(r"(`\w+`(, | and )?)+", cell):
                         findings.append((page, number, f"not in crates.txt: {name}"))
-        if page.name == "architecture.md":
-            for name, (number, cells) in told.items():
-                below = re.findall(r"`(\w+)`", cells[-1])
-                if len(cells) >= 4 and sorted(below) != sorted(listed[name][1]):
-                    findings.append((page, number, f"{name} stands on other crates in crates.txt"))
+        for name, (number, cells) in told.items():
+            below = re.findall(r"`(\w+)`", cells[-1])
+            if len(cells) >= 4 and sorted(below) != sorted(listed[name][1]):
+                findings.append((page, number, f"{name} stands on other crates in crates.txt"))
 
 
 def check_columns(findings):
@@ -233,13 +234,14 @@ def check_cells(findings):
 
 
 def check_claim(findings):
-    for path, made in claim_pages.pages(TOP).items():
+    made_by = [(claim_pages.pages(TOP), "tools/claim.py"), (contracts.pages(TOP), "tools/contracts.py")]
+    for path, made, tool in [(path, made, tool) for pages, tool in made_by for path, made in pages.items()]:
         page = TOP / path
         kept = page.read_text(encoding="utf-8") if page.exists() else ""
         if kept != made:
             lines = zip((kept + "\n").split("\n"), (made + "\n").split("\n"))
             number = next((number for number, (a, b) in enumerate(lines, 1) if a != b), 1)
-            findings.append((page, number, "not what tools/claim.py makes"))
+            findings.append((page, number, f"not what {tool} makes"))
 
 
 def main():

@@ -3,6 +3,7 @@
 
     python3 tools/manual.py             compares, and prints each block that differs
     python3 tools/manual.py --write     puts what the commands print into the pages
+    python3 tools/manual.py --write PAGE ..    into these
 
 A block of code counts where its first line begins with `$ euclid`. Each line of it that begins with `$ ` is a command, of
 the shell, and below it is what it prints to both streams, up to the next command. A line `..` stands for any lines; the
@@ -85,27 +86,27 @@ def renewed(lines, top):
     return new
 
 
-def renewed_pages(top):
+def renewed_pages(top, pages=None):
     """Each page that has such blocks: its path, and for each block its place, its lines, and these renewed."""
-    pages = [page for pattern in PAGES for page in sorted(top.glob(pattern))]
+    pages = pages or [page for pattern in PAGES for page in sorted(top.glob(pattern))]
     found = [(page, block) for page in pages for block in blocks_of(page.read_text(encoding="utf-8"))]
     with ThreadPoolExecutor(2) as pool:
         news = pool.map(lambda pair: renewed(pair[1][2], top), found)
         return [(page, *block, new) for (page, block), new in zip(found, news)]
 
 
-def check(top):
+def check(top, pages=None):
     """The lines of pages that commands do not print so, as findings."""
-    for page, start, _, lines, new in renewed_pages(top):
+    for page, start, _, lines, new in renewed_pages(top, pages):
         if lines != new:
             pairs = enumerate(zip(lines + [""], new + [""]))
             at, (line, instead) = next(((at, pair) for at, pair in pairs if pair[0] != pair[1]), (0, ("", "")))
             yield page, start + at + 1, f"the command prints {instead!r}, not {line!r}: see tools/manual.py"
 
 
-def write(top):
+def write(top, pages=None):
     """Puts what the commands print into the pages."""
-    for page, start, end, _, new in reversed(renewed_pages(top)):
+    for page, start, end, _, new in reversed(renewed_pages(top, pages)):
         lines = page.read_text(encoding="utf-8").split("\n")
         if lines[start:end] != new:
             print(f"{page.relative_to(top)}:{start + 1}: renewed")
@@ -113,8 +114,8 @@ def write(top):
 
 
 def main(words):
-    if words == ["--write"]:
-        write(TOP)
+    if words[:1] == ["--write"]:
+        write(TOP, [Path(word).resolve() for word in words[1:]])
         return 0
     if words:
         print(__doc__)

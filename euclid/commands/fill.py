@@ -8,7 +8,7 @@ import sys
 from pathlib import Path
 
 from ..checking import Outcome, Verdict
-from ..filling.books import FilledBooks, fill_books, sketched, wanted
+from ..filling.books import FilledBooks, fill_books, sketched, sketches_of, wanted
 from ..filling.ways import Ways, ways_at
 from ..library import STREAM, load, shown
 from ..messages import ACCEPTED, FAILED, FAULTY, REFUSED, WrongUse, put_json, tell
@@ -68,8 +68,8 @@ def fill(args: argparse.Namespace) -> int:
         tell(message)
     if args.json:
         tell_as_json(found)
-    put(found, args.write, args.json)
-    return status_of(found)
+    put(found, args)
+    return status_of(found, args.only)
 
 
 def list_ways(args: argparse.Namespace) -> int:
@@ -113,29 +113,31 @@ def number_of(word: str) -> int:
         raise WrongUse(str(error)) from None
 
 
-def put(found: FilledBooks, is_write: bool, is_json: bool) -> None:
-    """Writes the books."""
-    for path, text in found.texts.items():
-        if path == STREAM or not is_write:
-            if not is_json:
+def put(found: FilledBooks, args: argparse.Namespace) -> None:
+    """Writes the books, and sketches into which a use of a theorem was put."""
+    for path, text in [*found.texts.items(), *(sketches_of(found).items() if args.write else [])]:
+        if path == STREAM or not args.write:
+            if not args.json:
                 sys.stdout.buffer.write(text.encode("latin-1"))
         elif not path.is_file() or path.read_bytes() != text.encode("latin-1"):
             exchange(path, text)
-            if not is_json:
+            if not args.json:
                 print(shown(path))
-    if is_write and not is_json and STREAM not in found.texts:
-        accepted = sum(each.verdict == Verdict.ACCEPTED for each in own_outcomes(found))
-        print(f"{count_of(found.put_in(), 'line')} put in; {accepted} of {len(own_outcomes(found))} accepted")
+    if args.write and not args.json and STREAM not in found.texts:
+        outcomes = own_outcomes(found, args.only)
+        accepted = sum(each.verdict == Verdict.ACCEPTED for each in outcomes)
+        print(f"{count_of(found.put_in(), 'line')} put in; {accepted} of {len(outcomes)} accepted")
 
 
-def own_outcomes(found: FilledBooks) -> list[Outcome]:
+def own_outcomes(found: FilledBooks, only: list[str]) -> list[Outcome]:
     """What became of the theorems and definitions that were asked for."""
-    return [each for item, each in zip(found.book.items, found.outcomes.items) if found.library.is_own(item.first)]
+    return [each for item, each in zip(found.book.items, found.outcomes.items)
+            if found.library.is_own(item.first) and (not only or item.title in only)]
 
 
-def status_of(found: FilledBooks) -> int:
+def status_of(found: FilledBooks, only: list[str]) -> int:
     """The exit status."""
-    verdicts = {each.verdict for each in own_outcomes(found)}
+    verdicts = {each.verdict for each in own_outcomes(found, only)}
     if Verdict.FAULTY in verdicts or found.outcomes.strays:
         return FAULTY
     return ACCEPTED if verdicts <= {Verdict.ACCEPTED} else REFUSED

@@ -2,7 +2,8 @@
 
 from __future__ import annotations
 
-from collections.abc import Callable
+from collections.abc import Callable, Iterator
+from itertools import islice
 
 from ..codes import Coded, Pattern, SumPattern, coded, sum_at
 from ..contexts import BLANK
@@ -14,10 +15,10 @@ from .theorems import places_of, split
 Judge = Callable[[Coded], bool]
 
 
-def match(used: Statement, arguments: list[str], reach: Reach, may: Judge) -> list[str] | None:
-    """The arguments with the least choice for the blanks of which each given literal is judged
-    good."""
-    return Matcher(used, arguments, reach, may).match()
+def match(used: Statement, arguments: list[str], reach: Reach, may: Judge, most: int = 1) -> list[list[str]]:
+    """The arguments with the least choices for the blanks of which each given literal is judged
+    good, up to so many."""
+    return list(islice(Matcher(used, arguments, reach, may).matches(), most))
 
 
 class Matcher:
@@ -32,27 +33,23 @@ class Matcher:
         self.given += [(pattern, places_of(pattern)) for pattern in sums]
         self.blanks = [place for place, name in enumerate(arguments) if name == BLANK]
 
-    def match(self) -> list[str] | None:
-        """The arguments without blanks, or none."""
+    def matches(self) -> Iterator[list[str]]:
+        """The arguments without blanks."""
         bound = {place: self.reach.scope.numbers[name] for place, name in enumerate(self.arguments) if name != BLANK}
-        found = self.rest(self.blanks, bound)
-        if found is None:
-            return None
-        return [self.reach.scope.names[sort][found[place]] for place, sort in enumerate(self.sorts)]
+        for found in self.rest(self.blanks, bound):
+            yield [self.reach.scope.names[sort][found[place]] for place, sort in enumerate(self.sorts)]
 
-    def rest(self, blanks: list[int], bound: Bound) -> Bound | None:
-        """The least choice for the blanks that are left."""
+    def rest(self, blanks: list[int], bound: Bound) -> Iterator[Bound]:
+        """The choices for the blanks that are left."""
         if not blanks:
-            return bound
+            yield bound
+            return
         place, *later = blanks
         ready = [pattern for pattern, places in self.given if place in places <= bound.keys() | {place}]
         for number in range(len(self.reach.scope.names[self.sorts[place]])):
             tried = {**bound, place: number}
             if all(self.may(item_at(pattern, tried)) for pattern in ready):
-                found = self.rest(later, tried)
-                if found is not None:
-                    return found
-        return None
+                yield from self.rest(later, tried)
 
 
 def item_at(pattern: Pattern | SumPattern, bound: Bound) -> Coded:

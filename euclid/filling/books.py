@@ -32,6 +32,7 @@ class FilledBooks:
     most_applied: int
     refused: dict[str, str] = field(default_factory=dict)  # filled, and refused all the same: what is wanted
     texts: dict[Path, str] = field(default_factory=dict)  # of the files that were asked for
+    taken: dict[tuple[str, int], str] = field(default_factory=dict)  # what `elements` took for blanks: title, line
 
     def put_in(self) -> int:
         """How many lines were put in, of those that stay."""
@@ -54,9 +55,35 @@ class FilledBooks:
                 text = f"{title} was filled, and `elements` refuses it: {self.refused[title]}"
                 found.append(self.message(each.theorem.first, text))
             elif each.is_whole():
+                found += self.about_blanks(title, each)
+                found += self.about_rests(title, each)
                 found += [self.message(place_of(each, text), f"put before this step of {title}: {text}", kind="note")
                           for text in each.applied]
         return found
+
+    def about_blanks(self, title: str, each: FilledTheorem) -> list[Message]:
+        """Where the blanks of a step may mean other objects than those for which lines were put in."""
+        found = []
+        for step in each.theorem.steps():
+            if step.number not in each.filled:
+                continue
+            mine = " ".join(each.filled[step.number])
+            taken = self.taken.get((title, step.line.number), mine)
+            if taken != mine:
+                text = f"`elements` fills the blanks of step {step.number} with `{taken}`; lines were put in for `{mine}`"
+                found.append(self.message(step.line.number, text, kind="warning"))
+            elif step.number in each.others:
+                other = " ".join(each.others[step.number])
+                text = f"the blanks of step {step.number} may be `{mine}` or `{other}`: lines were put in for the first"
+                found.append(self.message(step.line.number, text, kind="warning"))
+        return found
+
+    def about_rests(self, title: str, each: FilledTheorem) -> list[Message]:
+        """On what a filled theorem rests that is not accepted."""
+        for item, outcome in zip(self.book.items, self.outcomes.items):
+            if item is each.theorem and outcome.verdict == Verdict.RESTS:
+                return [self.message(each.theorem.first, f"{title} rests on {outcome.on}, which is not accepted", kind="note")]
+        return []
 
     def faults(self) -> list[Message]:
         """What does not read, in the files that were asked for."""
@@ -109,6 +136,7 @@ def fill_books(paths: list[Path], *, only: Collection[str] = (), seconds: float 
         result.outcomes = Checker().check(after)
         refused = newly_refused(result, after)
         if not refused:
+            result.taken = taken_for_blanks(result, after)
             return result
         result.refused |= refused
 
@@ -165,6 +193,22 @@ def newly_refused(result: FilledBooks, after: Book) -> dict[str, str]:
     return found
 
 
+def taken_for_blanks(result: FilledBooks, after: Book) -> dict[tuple[str, int], str]:
+    """The arguments with which `elements` took the steps of filled theorems that have blanks, by the
+    author's lines."""
+    found = {}
+    for item, outcome in zip(after.items, result.outcomes.items):
+        each = result.filled.get(item.title)
+        if each is None or not each.filled or outcome.part is None or not isinstance(item, Theorem):
+            continue
+        own = {line.number: put.own for line, put in zip(item.lines, each.lines)}
+        arguments = outcome.part.filled()
+        for step in item.steps():
+            if step.number in arguments:
+                found[item.title, own.get(step.line.number, 0)] = " ".join(arguments[step.number])
+    return found
+
+
 def texts_of(result: FilledBooks) -> dict[Path, str]:
     """The files that were asked for, with what stays put in."""
     items: dict[int, Item] = {}
@@ -175,6 +219,24 @@ def texts_of(result: FilledBooks) -> dict[Path, str]:
     for file in result.library.files:
         if file.path in result.library.own:
             texts[file.path] = text_of(file.text, file.start, items, result.filled)
+    return texts
+
+
+def sketches_of(result: FilledBooks) -> dict[Path, str]:
+    """The sketches into which a use of a theorem was put, so that they agree with their books."""
+    put: dict[int, list[str]] = {}
+    for title, each in result.filled.items():
+        if result.stays(title):
+            for number, lines in each.under().items():
+                put[number] = [line for line in lines if line.strip() in each.applied]
+    texts = {}
+    for file in result.library.files:
+        sketch = sketch_of(file.path) if file.path in result.library.own else None
+        if sketch is not None and any(put.get(file.start + at) for at in range(len(file.lines))):
+            raw = file.text.split("\n")
+            end = "\r" if raw[0].endswith("\r") else ""
+            texts[sketch] = "\n".join(part for at, line in enumerate(raw)
+                                      for part in [*(each + end for each in put.get(file.start + at, [])), line])
     return texts
 
 

@@ -43,6 +43,8 @@ class FilledTheorem:
     applied: list[str] = field(default_factory=list)  # the `apply` lines that were put in
     stopped: str = ""  # why the walk ended early, in words
     stopped_at: int = 0  # the number of the line where it did
+    filled: dict[int, list[str]] = field(default_factory=dict)  # what was taken for blanks, by step
+    others: dict[int, list[str]] = field(default_factory=dict)  # what they may mean as well
 
     def is_whole(self) -> bool:
         """Whether nothing was left missing; whether it is accepted `elements` alone says."""
@@ -85,6 +87,7 @@ class ProofFiller:
         self.applier = Applier(catalogue or Catalogue(), known, self.reach, self.page, self.supplier)
         self.most_applied = most_applied  # how many theorems may be put in
         self.filled: dict[int, list[str]] = {}  # the arguments of `apply` steps with blanks
+        self.others: dict[int, list[str]] = {}  # other arguments, where the blanks may mean these as well
         self.place = 0  # of the author's next line
         self.last: int | None = None  # the number of the step before which the walk ends
         self.at = theorem.first  # the number of the line at hand
@@ -99,7 +102,8 @@ class ProofFiller:
         at = self.at if stopped else 0
         self.page.step = 0
         self.keep_before(self.theorem.last + 1)
-        return FilledTheorem(self.theorem, self.page.lines, self.missing, list(self.applier.written), stopped, at)
+        return FilledTheorem(self.theorem, self.page.lines, self.missing, list(self.applier.written), stopped, at,
+                             self.filled, self.others)
 
     def run_to(self, number: int) -> list[PageLine]:
         """All lines of the theorem, with what the steps before one lacked."""
@@ -253,13 +257,15 @@ class ProofFiller:
     def blanks(self, step: Apply) -> None:
         """Fills the blanks of a step: what is allowed now comes first, then what can be had."""
         used = self.known.theorems[step.title]
-        for may in (self.supplier.is_allowed, self.supplier.may_follow):
-            found = match(used, step.arguments, self.reach, may)
-            if found is not None:
-                self.filled[step.number] = found
-                return
-        self.miss(step, "match")
-        raise Stopped("nothing fits the blanks")
+        found = match(used, step.arguments, self.reach, self.supplier.is_allowed)
+        if not found:
+            found = match(used, step.arguments, self.reach, self.supplier.may_follow, 2)
+        if not found:
+            self.miss(step, "match")
+            raise Stopped("")
+        self.filled[step.number] = found[0]
+        if len(found) > 1:
+            self.others[step.number] = found[1]
 
 
 def has_literal(step: By) -> bool:

@@ -60,7 +60,7 @@ def own_lines(document: Document, project: Project) -> set[int]:
 def hovered(session: Session, params: Json) -> Json:
     """`textDocument/hover`."""
     spot = session.spot(params)
-    text = hover.hover(spot)
+    text = hover.hover(spot, session.settings.pages)
     if text is None:
         return None
     place = int(params["position"]["line"]) + 1

@@ -11,12 +11,12 @@ from .workspace import Spot
 MOST_FACTS = 40
 
 
-def hover(spot: Spot) -> str | None:
-    """Markdown for the word under the cursor, or none."""
+def hover(spot: Spot, pages: str = "") -> str | None:
+    """Markdown for the word under the cursor, or none; rules have a link to their page with its figure."""
     step = spot.step()
     first = spot.line.words[0] if spot.line.words else ""
     if first == "by" and spot.at == 1 and (rule := tables().diagram.get(spot.word)):
-        return rule_text(rule)
+        return rule_text(rule) + (f"\n\n[figure]({pages}/rule/{rule.name}.html)" if pages else "")
     if spot.at == 1 and first in ("apply", "theorem", "define") or spot.line.words[spot.at - 1 : spot.at] == ("as",):
         item = titled(spot, spot.word)
         if item is not None:

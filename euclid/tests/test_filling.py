@@ -11,6 +11,7 @@ from pathlib import Path
 from euclid.answers import check
 from euclid.cli import main
 from euclid.filling.engine import fill_theorem
+from euclid.filling.sketches import partings
 from euclid.filling.strip import strip_theorem
 from euclid.filling.walk import FilledTheorem
 from euclid.filling.ways import ways_at
@@ -295,6 +296,18 @@ class CommandTest(unittest.TestCase):
         self.assertTrue(check((self.folder / "I.1.book").read_text()).is_accepted())
         self.assertEqual((self.folder / "I.1.sketch").read_text(), I_1)
 
+    def test_a_use_of_a_theorem_is_put_into_the_sketch_as_well(self) -> None:
+        head = "points v x b c\ngiven v != x ; between v b c\nshow ang x v b = ang x v c\nproof\n"
+        text = f"theorem T\n{head}let L line v b\nlet M line v x\nqed\nend\ntheorem U\n{head}qed\nend\n"
+        self.file("X.sketch", text)
+        book = self.file("X.book", "")
+        self.assertEqual(self.run_main("fill", "--write", book)[0], 1)
+        status, _, err = self.run_main("fill", "--apply", "--write", book)
+        self.assertEqual(status, 0, err)
+        sketch = (self.folder / "X.sketch").read_text()
+        self.assertEqual(sketch, "apply T v x b c\nqed".join(text.rsplit("qed", 1)))
+        self.assertEqual(partings(sketch, Path(book).read_text()), [])
+
     def test_strip_writes_a_sketch(self) -> None:
         path = self.file("I.1.book", filled(I_1)[0].text())
         status, _, err = self.run_main("strip", "--write", path)
@@ -310,6 +323,16 @@ class CommandTest(unittest.TestCase):
         status, out, _ = self.run_main("fill", "--at", "T", "1", self.file("T.book", BETWEEN.format("")))
         self.assertEqual(status, 0)
         self.assertIn("step 1 of T lacks `between a c d`\n1. ready\n", out)
+
+    def test_blanks_that_may_mean_other_objects_are_told(self) -> None:
+        text = BLANK.replace("not on b L\n", "not on b L ; on c L\n").replace("points b a", "points b c a")
+        text = text.replace("given on a L\n", "given on a L ; a != b\n", 1).replace("points a\n", "points a b\n")
+        text = text.replace("apply U _ L", "apply U _ b L")
+        self.assertTrue(check(text).wanted == "match")
+        status, out, err = self.run_main("fill", self.file("V.book", text))
+        self.assertEqual(status, 0)
+        self.assertIn("warning: the blanks of step 1 may be `c b L` or `a b L`", err)
+        self.assertIn("by sub-on-1 c b L : c != b\napply U _ b L\n", out)
 
     def test_wrong_use(self) -> None:
         path = self.file("I.1.book", I_1)

@@ -75,6 +75,15 @@ class BookOne(unittest.TestCase):
                 self.assertIn(title, without)
         self.assertIn("I.32", need)
 
+    def test_propositions(self) -> None:
+        done = inside("graph", "--rule", "da5a", "--propositions", BOOK)
+        self.assertEqual(done.stdout.split("\n")[1:], ["rest on it  19  I.29, I.30, I.32 to I.48",
+                                                       "do not      29  I.1 to I.28, I.31", ""])
+
+    def test_propositions_of_one_theorem(self) -> None:
+        done = inside("graph", "--rule", "da5a", "--propositions", "--of", "I.29.int", "--of", "meets.parallel", BOOK)
+        self.assertEqual(done.stdout.split("\n"), ["use it       0", "rest on it   1  I.29", "do not       0", ""])
+
     def test_superposition_is_of_three(self) -> None:
         done = inside("graph", "--rule", "superpose", BOOK)
         self.assertTrue(done.stdout.startswith("use it       2  I.4 I.8\n"))

@@ -156,6 +156,8 @@ class Reading(LspCase):
         self.assertIn("center a A    given", self.ask("hover", 7, 0)["contents"]["value"])
         self.assertIn("a point, declared", self.ask("hover", 7, 10)["contents"]["value"])
         self.assertIsNone(self.ask("hover", 10, 0))
+        self.client.notify("workspace/didChangeConfiguration", {"settings": {"euclid": {"pages": "https://example.org/site/"}}})
+        self.assertIn("(https://example.org/site/rule/b5.html)", self.ask("hover", REFUSED, 4)["contents"]["value"])
 
     def test_definition(self) -> None:
         self.opened()

@@ -78,5 +78,16 @@ class Pages(unittest.TestCase):
         self.assertEqual(len(list(manual.check(self.top))), 2)
 
 
+class Stored(unittest.TestCase):
+    """What commands print of small books."""
+
+    def test_outputs(self) -> None:
+        page = TOP / "euclid" / "tests" / "outputs.md"
+        blocks = manual.blocks_of(page.read_text())
+        self.assertEqual(len(blocks), 7)
+        for _, _, lines in blocks:
+            self.assertEqual(manual.renewed(lines, TOP), lines)
+
+
 if __name__ == "__main__":
     unittest.main()
