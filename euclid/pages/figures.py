@@ -12,13 +12,12 @@ from functools import lru_cache
 from pathlib import Path
 
 from ..drawing.course import Source
-from ..drawing.elements import order
 from ..drawing.figure import Figure, steps_shown
 from ..drawing.search import chapters, find_any
 from ..drawing.svg import classes_of, tag_of
 from ..literals import Literal
 from ..places import TOP
-from .movable import Json, Movable, elements_data, move_data, paper_data, states_data
+from .movable import Json, Movable, elements_data, move_data, paper_data, parts_shown, states_data
 from .notation import Notation
 
 MAKERS = ("euclid/drawing", "euclid/pages/figures.py", "euclid/pages/movable.py", "euclid/pages/notation.py",
@@ -66,23 +65,24 @@ def drawn(source: Source) -> Drawn:
     for number, each in enumerate(chapters(scene)):
         figure = Figure(each)
         others = [Figure(other, with_states=False) for other in each.others[:3]]
-        found.append(chapter(figure, others))
-        for step, at in steps_shown(each.events).items():
-            steps.setdefault(step, (number, at))
+        own = {step: at for step, at in steps_shown(each.events).items() if step not in steps}
+        kept = sorted(own.values())
+        steps |= {step: (number, kept.index(at)) for step, at in own.items()}
+        found.append(chapter(figure, others, kept))
     return Drawn(found, steps, scene.attempts)
 
 
-def chapter(figure: Figure, others: Sequence[Figure]) -> Chapter:
-    """One figure."""
-    notation = Notation(figure.letters)
-    movable = Movable(figure)
+def chapter(figure: Figure, others: Sequence[Figure], kept: Sequence[int]) -> Chapter:
+    """One figure, in the states of its own steps and as a whole."""
+    notation, movable = Notation(figure.letters), Movable(figure)
+    parts = parts_shown(figure, kept)
     said = [words_of(notation, fact, figure) for fact in movable.facts]
-    data: dict[str, Json] = {"els": elements_data(figure, movable.objects), "states": states_data(figure),
-                  "paper": paper_data(figure)}
+    data: dict[str, Json] = {"els": elements_data(figure, movable.objects, parts),
+                             "states": states_data(figure, kept, parts), "paper": paper_data(figure)}
     if not figure.scene.is_loose:
-        data["move"] = move_data(movable, said, others)
+        data["move"] = move_data(movable, said, others, parts)
     false = [words_of(notation, fact, figure) for _, fact in figure.scene.false]
-    return Chapter(inline_svg(figure), title_of(figure, notation), data, false)
+    return Chapter(inline_svg(figure, parts), title_of(figure, notation), data, false)
 
 
 def words_of(notation: Notation, fact: Literal, figure: Figure) -> str:
@@ -103,12 +103,12 @@ def title_of(figure: Figure, notation: Notation) -> str:
     return ""
 
 
-def inline_svg(figure: Figure) -> str:
-    """The picture with all its parts; those that the whole figure does not show are off."""
+def inline_svg(figure: Figure, parts: Sequence[int]) -> str:
+    """The picture with these parts; those that the whole figure does not show are off."""
     width, height = (f"{size:.0f}" for size in (figure.layout.width, figure.layout.height))
     elements, whole = figure.elements, figure.whole
     lines = [f'<svg viewBox="0 0 {width} {height}" width="{width}" height="{height}" role="img">']
-    for at in order(figure.numbers):
+    for at in parts:
         words = classes_of(elements[at], whole.classes.get(at, ""))
         is_shown = at in whole.shown or at in whole.classes
         lines.append(tag_of(figure, elements[at], words if is_shown else words + " off"))

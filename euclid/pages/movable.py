@@ -91,23 +91,30 @@ def paper_data(figure: Figure) -> Json:
     return [round(x, 2), round(y, 2), round(figure.layout.scale, 4), figure.layout.width, figure.layout.height]
 
 
-def elements_data(figure: Figure, objects: Objects) -> Json:
-    """The parts, those below first: kind, look, objects, numbers."""
+def parts_shown(figure: Figure, kept: Sequence[int]) -> list[int]:
+    """The parts that are ever shown in these states or in the whole figure, those below first."""
+    states = [*(figure.states[at] for at in kept), figure.whole]
+    shown = {part for state in states for part in [*state.shown, *state.classes]}
+    return [part for part in order(figure.numbers) if part in shown]
+
+
+def elements_data(figure: Figure, objects: Objects, parts: Sequence[int]) -> Json:
+    """The parts: kind, look, objects, numbers."""
     elements = figure.elements
     found: list[Json] = []
-    for at in order(figure.numbers):
+    for at in parts:
         each = elements[at]
         refs: list[Json] = [objects.number(name) for name in each.refs]
         found.append([each.kind, each.look, refs, *each.numbers])
     return found
 
 
-def states_data(figure: Figure) -> Json:
+def states_data(figure: Figure, kept: Sequence[int], parts: Sequence[int]) -> Json:
     """The states, each against the one before: what is shown, what is no more, and classes with their parts."""
-    place = {at: number for number, at in enumerate(order(figure.numbers))}
+    place = {at: number for number, at in enumerate(parts)}
     before: set[int] = set()
     found: list[Json] = []
-    for state in [*figure.states, figure.whole]:
+    for state in [*(figure.states[at] for at in kept), figure.whole]:
         now = {place[at] for at in state.shown}
         found.append([sorted_data(now - before), sorted_data(before - now), classes_data(state, place)])
         before = now
@@ -132,21 +139,21 @@ def rounded(x: Sequence[float]) -> Json:
     return [round(number, 6) for number in x]
 
 
-def move_data(movable: Movable, said: Sequence[str], others: Sequence[Figure]) -> Json:
+def move_data(movable: Movable, said: Sequence[str], others: Sequence[Figure], parts: Sequence[int] = ()) -> Json:
     """The equations, and other figures: numbers, paper, and the places of names."""
     rows: list[Json] = [[KINDS[each.kind], UNITS[each.unit], number, measure_data(each.measure)]
                         for number, each in movable.constraints]
     return {"at": movable.objects.data(), "x": rounded(movable.x), "rules": rows, "facts": list(said),
             "drag": list(movable.declared()),
             "others": [{"x": rounded(movable.numbers(each)), "paper": paper_data(each),
-                        "names": names_data(movable.figure, each)} for each in others]}
+                        "names": names_data(movable.figure, each, parts)} for each in others]}
 
 
-def names_data(figure: Figure, other: Figure) -> Json:
+def names_data(figure: Figure, other: Figure, parts: Sequence[int]) -> Json:
     """Where the names of points are beside them in another figure, by the numbers of the parts."""
     found: dict[str, Json] = {}
     elements = figure.elements
-    for number, at in enumerate(order(figure.numbers)):
+    for number, at in enumerate(parts):
         each = elements[at]
         if each.kind == "name":
             x, y = other.spots[each.refs[0]]

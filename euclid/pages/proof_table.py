@@ -2,18 +2,19 @@
 
 from __future__ import annotations
 
-from collections.abc import Mapping
+from collections.abc import Mapping, Sequence
 
 from ..contexts import Origin
 from ..derivation import Arithmetic, Certificate, Fact, Transfer
-from ..literals import Literal, Sort, key, negation
+from ..literals import Key, Literal, Sort, key, negation
 from ..script import Apply, By, Cases, Claim, Contradiction, Hence, Let, Qed, Superpose
 from .certificates import Certificates
 from .markup import esc, link, plain_words
 from .model import Entry, Site
-from .notation import Notation, grouped, sentences
-from .rows import Premise, Proof, Row, start_sorts
+from .notation import Notation, sentences
+from .rows import Premise, Proof, Row
 from .rule_pages import shape_words
+from .statement import Said
 from .shell import construction_file, rule_link, theorem_link
 
 ROOT = "../"
@@ -24,11 +25,16 @@ MOST_SAID = 6  # literals of one step that are said in its cell
 class ProofTable:
     """The table of one proof."""
 
-    def __init__(self, site: Site, entry: Entry, proof: Proof, notation: Notation, folded: frozenset[int]) -> None:
+    def __init__(self, site: Site, entry: Entry, proof: Proof, notation: Notation, folded: frozenset[int],
+                 given: Sequence[Said], brief: int = 0) -> None:
+        """Where it is brief, premises have no words for who points at them; where it is very brief, there are no
+        certificates."""
+        self.brief = brief
         self.site, self.entry, self.proof, self.notation, self.folded = site, entry, proof, notation, folded
-        sorts = start_sorts(entry.theorem)
-        groups = grouped(notation, entry.theorem.statement.given, sorts)
-        self.given = {key(literal): f"g{number}" for number, (_, group) in enumerate(groups, 1) for literal in group}
+        self.given: dict[Key, str] = {}
+        for number, said in enumerate(given, 1):
+            for literal in said.literals:
+                self.given.setdefault(key(literal), f"g{number}")
 
     def text(self) -> str:
         """The section."""
@@ -163,7 +169,7 @@ class ProofTable:
     def details(self, row: Row) -> str:
         """The certificates, on demand; those that are facts alone say nothing more than the premises."""
         reasons = [reason for reason in row.reasons if not isinstance(reason.certificate, Fact)]
-        if not reasons:
+        if not reasons or self.brief > 1:
             return ""
         origins = {premise.literal: premise.origin for premise in row.premises}
 
@@ -188,7 +194,7 @@ class ProofTable:
     def premise_link(self, word: str, premises: list[Premise], row: Row) -> str:
         """A link to a step, or to what of the given is used."""
         targets = list(dict.fromkeys(self.target(premise.origin, premise.literal) for premise in premises))
-        title = "; ".join(self.said(premise.literal, row.sorts) for premise in premises)
+        title = "" if self.brief else "; ".join(self.said(premise.literal, row.sorts) for premise in premises)
         every = " ".join(target[1:] for target in targets) if len(targets) > 1 else ""
         return link(targets[0], esc(word), title=title, data_all=every)
 

@@ -16,6 +16,7 @@ from ..script import Block, Theorem
 from ..statements import Known, Objects, Statement
 from ..syntax import source_line
 from .figures import MAKERS, Keeper, inline_svg, sum_of_code
+from .movable import parts_shown
 from .markup import count_of, esc, items, link, plain_words, table, tag, words_in
 from .model import Site
 from .notation import DRAWN, Notation, sentences
@@ -110,10 +111,15 @@ def figure_of(law: Law, keeper: Keeper) -> str:
     text = keeper.get(path)
     if text is None:
         scene = scene_of(law)
-        text = inline_svg(Figure(scene)) if scene is not None and scene.values else "-"
+        text = whole_svg(Figure(scene)) if scene is not None and scene.values else "-"
         text = text.encode("ascii", "xmlcharrefreplace").decode()
         keeper.put(path, text)
     return "" if text == "-" else text
+
+
+def whole_svg(figure: Figure) -> str:
+    """The whole figure alone."""
+    return inline_svg(figure, parts_shown(figure, []))
 
 
 # ---- pages

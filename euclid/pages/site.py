@@ -21,7 +21,6 @@ from .theorem_page import TheoremPage
 ASSETS = Path(__file__).resolve().parent / "assets"
 SCRIPTS = ("settle.js", "figure.js", "page.js")
 LIST = "made-by-euclid.txt"  # what a run made, so that the next one takes away what is no more
-MOST_BYTES = 300_000
 
 
 @dataclass

@@ -3,6 +3,7 @@
 from __future__ import annotations
 
 import json
+import re
 
 from ..drawing.figure import Letters
 from ..literals import POINT, Sort
@@ -10,12 +11,14 @@ from ..script import Theorem
 from .figures import Drawn
 from .markup import count_of, esc, items, link
 from .model import Entry, Site, where
-from .notation import Notation, grouped, sentences
+from .notation import Notation, sentences
 from .proof_table import ProofTable
 from .rows import Proof, proof_of, start_sorts
+from .statement import said_in
 from .shell import page, rule_link, theorem_link, theorem_links
 
 ROOT = "../"
+MOST_BYTES = 300_000  # of a page
 
 
 class TheoremPage:
@@ -24,9 +27,11 @@ class TheoremPage:
     def __init__(self, site: Site, entry: Entry, figures: Drawn, folded: frozenset[int] = frozenset()) -> None:
         self.site, self.entry, self.figures, self.folded = site, entry, figures, folded
         self.theorem: Theorem = entry.theorem
+        self.brief = 0
         self.proof: Proof = proof_of(entry.theorem, entry.known, entry.part)
         self.sorts = start_sorts(entry.theorem)
         self.notation = Notation(Letters.of(self.all_points()))
+        self.given = said_in(entry.theorem, entry.known, self.notation, self.sorts, "given", ROOT)
 
     def all_points(self) -> list[str]:
         """All points of the theorem, so that letters are the same in the figure."""
@@ -36,7 +41,15 @@ class TheoremPage:
         return list(dict.fromkeys(found))
 
     def text(self) -> str:
-        """The page."""
+        """The page; what is long is left out where it would be too large."""
+        for self.brief in range(3):
+            found = self.whole()
+            if len(found.encode("utf-8")) <= MOST_BYTES:
+                break
+        return found
+
+    def whole(self) -> str:
+        """The page as it is."""
         entry = self.entry
         body = "\n".join([
             self.head(), '<div class="split">', self.statement(), f'<div class="side">{self.figure()}</div>',
@@ -98,23 +111,27 @@ class TheoremPage:
         declared = self.declared(statement.declared)
         if declared:
             parts.append(f"<dt>Let there be</dt><dd>{declared}</dd>")
-        if statement.given:
-            said = grouped(self.notation, statement.given, self.sorts)
-            given = "".join(f'<li id="g{number}">{esc(text)}</li>' for number, (text, _) in enumerate(said, 1))
+        if self.given:
+            given = "".join(f'<li id="g{number}">{said.text}</li>' for number, said in enumerate(self.given, 1))
             parts.append(f'<dt id="given">Given</dt><dd><ul>{given}</ul></dd>')
         if statement.made:
             parts.append(f"<dt>There can be drawn</dt><dd>{self.declared(statement.made)}</dd>")
         word = "such that" if statement.made else "Then"
-        parts.append(f"<dt>{word}</dt><dd>{self.list_of(sentences(self.notation, statement.shown, self.sorts))}</dd>")
+        shown = said_in(self.theorem, self.entry.known, self.notation, self.sorts, "show", ROOT)
+        parts.append(f"<dt>{word}</dt><dd><ul>{items(said.text for said in shown)}</ul></dd>")
         formal = "\n".join(line.text.strip() for line in self.theorem.lines
                            if line.number >= self.theorem.first and not line.is_comment() and line.text.strip()
                            and (self.theorem.proof_line is None or line.number < self.theorem.proof_line.number))
         return (f'<section id="statement" tabindex="-1"><h2>What it says</h2><dl>{"".join(parts)}</dl>'
-                f'<details class="formal"><summary>As the book has it</summary><pre>{esc(formal)}</pre></details></section>')
+                f'<details class="formal"><summary>As the book has it</summary><pre>{self.with_definitions(esc(formal))}</pre></details></section>')
 
-    def list_of(self, said: list[str]) -> str:
-        """Short sentences as a list."""
-        return f"<ul>{items(map(esc, said))}</ul>"
+    def with_definitions(self, text: str) -> str:
+        """The lines of a book with links to the definitions that they use."""
+        def linked(found: re.Match[str]) -> str:
+            title = found[1]
+            return f"as {link(f'{ROOT}definitions.html#{title}', title)}" if title in self.entry.known.definitions else found[0]
+
+        return re.sub(r"\bas ([A-Za-z][A-Za-z0-9._-]*)", linked, text)
 
     def declared(self, objects: list[tuple[str, Sort]]) -> str:
         """Objects by their sorts."""
@@ -168,8 +185,10 @@ class TheoremPage:
 
     def steps(self) -> str:
         """The proof as a table."""
-        table = ProofTable(self.site, self.entry, self.proof, self.notation, self.folded)
-        return table.text()
+        table = ProofTable(self.site, self.entry, self.proof, self.notation, self.folded, self.given, self.brief)
+        left_out = f"<p>The certificates are left out here, since the page would be too large: " \
+                   f"<code>euclid why {esc(self.entry.title)}</code> has them.</p>" if self.brief > 1 else ""
+        return left_out + table.text()
 
     # What it rests on
 

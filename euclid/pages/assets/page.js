@@ -61,7 +61,9 @@ const Proof = {
     this.chapter = chapter
     this.boxes.forEach((box, at) => { box.hidden = at !== chapter })
     this.figures[chapter]?.show(state)
+    const by = row && one('td:nth-of-type(2) > a', row)
     one('#caption').textContent = row ? `${number}. ${one('td > div', row).textContent}` : ''
+    if (by?.title) one('#caption').append(Object.assign(document.createElement('small'), { textContent: `${by.textContent}: ${by.title}` }))
     const other = one('#other')
     if (other) other.hidden = (this.figures[chapter]?.figures?.length ?? 1) < 2
     if (!row) return
