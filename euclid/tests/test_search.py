@@ -190,8 +190,12 @@ class GiveAt(BookOne):
         self.assertIn("it is a fact: given", done.stdout)
 
     def test_quick_in_i_47(self) -> None:
+        theorem = self.book.theorem("I.47")
+        assert theorem is not None
+        step = [step for step in theorem.steps() if isinstance(step, By)][-1]
+        self.assertGreater(step.number, 40)
         start = time.process_time()
-        inside("give", "not on b J", "--at", "I.47", "78", BOOK)
+        self.assertEqual(inside("give", spell(step.literal), "--at", "I.47", str(step.number), BOOK).status, 0)
         self.assertLess(time.process_time() - start, 2.0)  # a second, on a machine with nothing else to do
 
 
