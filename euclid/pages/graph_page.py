@@ -6,36 +6,61 @@ from collections.abc import Mapping, Sequence
 
 from .markup import esc
 from .model import Group, Site
-from .shell import heading, page
+from .shell import heading, page, theorem_links
 
 HIGH, GAP, LETTER = 20.0, 34.0, 6.4  # of a box, between layers, of a letter
 SIDE = 10.0  # between boxes
 SWEEPS = 12
 
 
-class Drawing:
-    """The theorems of one book in layers."""
+Edges = dict[str, list[str]]
 
-    def __init__(self, site: Site, group: Group) -> None:
-        self.site, self.group = site, group
-        own = [entry.title for entry in group.entries if entry.title in site.graph.applies]
-        self.nodes = own
-        inside = set(own)
-        self.edges = {title: [each for each in self.reduced(title) if each in inside] for title in own}
+
+def edges_in(site: Site, group: Group) -> Edges:
+    """The theorems of a book, each with those of the book that it applies, but for what it rests on by another of them
+    too."""
+    applies, below = site.graph.applies, site.graph.below
+    own = {entry.title: None for entry in group.entries if entry.title in applies}
+    return {title: [each for each in applies[title] if each in own
+                    and not any(each in below[other] for other in applies[title] if other != each)] for title in own}
+
+
+def joined_parts(edges: Edges) -> list[list[str]]:
+    """The theorems in parts that no line joins, the largest first."""
+    parent = {title: title for title in edges}
+
+    def root(title: str) -> str:
+        while parent[title] != title:
+            title = parent[title]
+        return title
+
+    for title, below in edges.items():
+        for each in below:
+            parent[root(each)] = root(title)
+    found: dict[str, list[str]] = {}
+    for title in edges:
+        found.setdefault(root(title), []).append(title)
+    return sorted(found.values(), key=lambda part: -len(part))
+
+
+class Drawing:
+    """Theorems that lines join, in layers."""
+
+    def __init__(self, site: Site, label: str, nodes: list[str], edges: Edges) -> None:
+        self.site, self.label, self.nodes = site, label, nodes
+        self.edges = {title: edges[title] for title in nodes}
         self.layers = self.in_layers()
         self.at: dict[str, float] = {}
         self.arrange()
-
-    def reduced(self, title: str) -> list[str]:
-        """What a theorem applies, but for what it rests on by another of them too."""
-        applied, below = self.site.graph.applies[title], self.site.graph.below
-        return [each for each in applied if not any(each in below[other] for other in applied if other != each)]
 
     def in_layers(self) -> list[list[str]]:
         """The theorems by how long the longest way down is."""
         depth: dict[str, int] = {}
         for title in self.nodes:
             depth[title] = 1 + max((depth[each] for each in self.edges[title]), default=-1)
+        for title in self.nodes:  # what rests on nothing here stands just above those that apply it
+            if not self.edges[title]:
+                depth[title] = min(depth[each] for each in self.nodes if title in self.edges[each]) - 1
         found: list[list[str]] = [[] for _ in range(max(depth.values(), default=-1) + 1)]
         for title in self.nodes:
             found[depth[title]].append(title)
@@ -106,9 +131,8 @@ class Drawing:
             lines.append(f'<a href="theorem/{esc(entry.file)}" data-title="{esc(title)}"><title>{esc(entry.comment)}</title>'
                          f'<rect x="{self.at[title] - wide / 2:.0f}" y="{top(title):.0f}" width="{wide:.0f}" height="{HIGH:.0f}" rx="4"/>'
                          f'<text x="{self.at[title]:.0f}" y="{top(title) + 14:.0f}">{esc(title)}</text></a>')
-        label = f"What the theorems of {self.group.title} apply"
         return (f'<svg class="graph" viewBox="0 0 {width:.0f} {height:.0f}" width="{width:.0f}" height="{height:.0f}" role="group" '
-                f'aria-label="{esc(label)}">{"".join(lines)}</svg>')
+                f'aria-label="{esc(self.label)}">{"".join(lines)}</svg>')
 
 
 def graph_page(site: Site) -> str:
@@ -117,7 +141,14 @@ def graph_page(site: Site) -> str:
            "What is applied by way of another theorem too has no line of its own; nor has what is in another book."
     parts = [heading("Graph", lead)]
     for group in site.groups:
-        drawing = Drawing(site, group)
-        if drawing.nodes:
-            parts.append(f'<h2>{esc(group.title)}</h2><div class="wide">{drawing.svg()}</div>')
+        edges = edges_in(site, group)
+        parts.append(f"<h2>{esc(group.title)}</h2>" if edges else "")
+        label = f"What the theorems of {group.title} apply"
+        found = joined_parts(edges)
+        drawings = "".join(Drawing(site, label, part, edges).svg() for part in found if len(part) > 1)
+        parts.append(f'<div class="graphs">{drawings}</div>' if drawings else "")
+        alone = site.graph.in_order(part[0] for part in found if len(part) == 1)
+        if alone:
+            parts.append(f'<p class="many"><span class="count">neither apply one here nor are applied</span> '
+                         f"{theorem_links(site, alone)}</p>")
     return page(site, "Graph", "".join(parts), current="graph.html")

@@ -6,13 +6,12 @@ from dataclasses import dataclass
 
 from ..literals import Sort
 from ..script import Definition
-from .markup import count_of, esc, items, plain_words, table, tag
+from .markup import count_of, esc, items, plain_words, sentence, table, tag
 from .model import Entry, Site, script_text, where
 from .notation import Notation, letters_of, sentences
 from .rows import start_sorts
 from .rule_pages import laws
 from .shell import heading, page, theorem_link, theorem_links
-from .theorem_page import sentence
 
 NARROW = "auxiliary"  # a comment that begins so is of a theorem that others need
 
@@ -44,7 +43,7 @@ def item_of(entry: Entry) -> str:
     words = ["aux"] if entry.comment.lower().startswith(NARROW) else []
     words += [] if entry.is_accepted else ["no"]
     refused = "" if entry.is_accepted else " (not accepted)"
-    return tag("li", f'<a href="theorem/{esc(entry.file)}">{esc(entry.title)}</a> <span>{esc(entry.comment)}{refused}</span>',
+    return tag("li", f'<a href="theorem/{esc(entry.file)}">{esc(entry.title)}</a> <span>{esc(sentence(entry.comment))}{refused}</span>',
                class_=" ".join(words))
 
 

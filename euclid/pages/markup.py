@@ -22,6 +22,11 @@ def plain_words(text: str) -> str:
     return text.replace("`", "")
 
 
+def sentence(text: str) -> str:
+    """A comment as a sentence: with a capital."""
+    return text[:1].upper() + text[1:]
+
+
 def count_of(number: int, word: str) -> str:
     """A number of things."""
     return f"{number:,} {word}" + ("" if number == 1 else "s")

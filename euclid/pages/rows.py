@@ -9,7 +9,7 @@ from ..contexts import Context, Filled, Goal, Origin, Walker, gives_of, needs_of
 from ..derivation import Part, Reason, Unread, proved
 from ..drawing.sources import facts_of
 from ..literals import Literal, Metric, Sort, key
-from ..script import By, Cases, Let, Apply, Step, Superpose, Theorem
+from ..script import Apply, By, Cases, Hence, Let, Step, Superpose, Theorem
 from ..statements import Known
 
 
@@ -101,8 +101,10 @@ def premises_at(row: Row, context: Context) -> list[Premise]:
     """The facts that a step follows from, each once."""
     if isinstance(row.step, By):
         wanted = premises_of(row.step)
-    else:
+    elif row.reasons:
         wanted = [fact for reason in row.reasons for fact in facts_of(reason)]
+    else:  # of a theorem that is refused
+        wanted = [] if isinstance(row.step, Hence) else row.needs
     found: dict[object, Premise] = {}
     for literal in wanted:
         fact = context.fact(literal)

@@ -9,7 +9,7 @@ from ..drawing.figure import Letters
 from ..literals import POINT, Sort
 from ..script import Theorem
 from .figures import Drawn
-from .markup import count_of, esc, items, link
+from .markup import count_of, esc, items, link, sentence, words_in
 from .model import Entry, Site, where
 from .notation import Notation, sentences
 from .proof_table import ProofTable
@@ -180,7 +180,7 @@ class TheoremPage:
         if diagnosis is None:
             return ""
         details = "\n".join(diagnosis.details(self.site.library))
-        return (f'<section id="refused" class="refused"><h2>Why it is not accepted</h2><p>{esc(diagnosis.message)}</p>'
+        return (f'<section id="refused" class="refused"><h2>Why it is not accepted</h2><p>{words_in(diagnosis.message)}</p>'
                 f"<pre>{esc(details)}</pre></section>")
 
     def steps(self) -> str:
@@ -223,8 +223,3 @@ class TheoremPage:
         data = {"steps": steps, "chapters": [chapter.data for chapter in self.figures.chapters]}
         text = json.dumps(data, separators=(",", ":"), ensure_ascii=True).replace("</", "<\\/")
         return f'<script type="application/json" id="data">{text}</script>'
-
-
-def sentence(text: str) -> str:
-    """A comment as a sentence: with a capital."""
-    return text[:1].upper() + text[1:]
