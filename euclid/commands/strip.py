@@ -4,12 +4,12 @@ from __future__ import annotations
 
 import argparse
 import sys
-from pathlib import Path
 
 from ..filling.sketches import SUFFIX
 from ..filling.stripping import StrippedBooks, strip_books
 from ..library import STREAM, shown
-from ..messages import ACCEPTED, REFUSED, Message, WrongUse, tell
+from ..messages import ACCEPTED, FAULTY, REFUSED, Message, WrongUse, tell
+from ..targets import opened
 from ..words import add_paths, close_to
 from ..writing import exchange
 
@@ -31,8 +31,11 @@ def arguments(parser: argparse.ArgumentParser) -> None:
 
 def run(args: argparse.Namespace) -> int:
     """Strips, and tells the numbers of steps."""
-    found = strip_books(args.paths or [Path(".")], args.only)
-    titles = [item.title for item in found.library.own_theorems(found.library.book())]
+    here = opened(args.paths)
+    if here.has_faults():
+        return FAULTY
+    found = strip_books(here.library, here.book, args.only)
+    titles = [item.title for item in here.library.own_theorems(here.book)]
     for title in args.only:
         if title not in titles:
             raise WrongUse(f"no theorem here has the title `{title}`{close_to(title, titles)}")

@@ -7,7 +7,7 @@ from dataclasses import dataclass
 from pathlib import Path
 
 from ..checking import Checker, Verdict
-from ..library import Library, load
+from ..library import Library
 from ..reading import read_lines
 from ..script import Book, Theorem
 from ..statements import Known
@@ -28,10 +28,8 @@ class StrippedBooks:
     left: list[Theorem]  # those that are not accepted, or not filled again as they should: as they are
 
 
-def strip_books(paths: list[Path], only: Collection[str] = ()) -> StrippedBooks:
+def strip_books(library: Library, book: Book, only: Collection[str] = ()) -> StrippedBooks:
     """The books and libraries of a command line without the lines that `fill` puts back."""
-    library = load(paths)
-    book = library.book()
     accepted = accepted_items(book)
     kept = stripped_items(library, book, accepted, only)
     left = [item for item in book.theorems() if library.is_own(item.first) and item.title not in accepted]

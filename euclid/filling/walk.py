@@ -99,6 +99,8 @@ class ProofFiller:
             self.walk()
         except (OutOfTime, Unknown, Stopped) as fault:
             stopped = str(fault)
+        except RecursionError:
+            stopped = "it is too deep"
         at = self.at if stopped else 0
         self.page.step = 0
         self.keep_before(self.theorem.last + 1)
@@ -110,7 +112,7 @@ class ProofFiller:
         self.last = number
         try:
             self.walk()
-        except (OutOfTime, Unknown, Stopped):
+        except (OutOfTime, Unknown, Stopped, RecursionError):
             pass
         self.page.step = 0
         self.keep_before(self.theorem.last + 1)

@@ -97,7 +97,7 @@ def ways_to(theorem: Theorem, known: Known, number: int, wanted: Literal | None 
             item = finder.reach.code(literal)
             if not finder.is_there(item, is_fact):
                 return finder.ways(item, is_fact, most)
-    except (Unknown, OutOfTime) as cause:
+    except (Unknown, OutOfTime, RecursionError) as cause:
         return Ways("", stopped=str(cause))
     return Ways("")
 
