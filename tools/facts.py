@@ -15,7 +15,7 @@
   has: `check_readme`.
 - The newest version of CHANGELOG.md is that of CITATION.cff, and of release/, or the program there is unreleased:
   `check_versions`.
-- Pages of definitions and files of proofs, which docs/definitions.md and docs/proofs.md name without their suffix, are
+- Pages of definitions and files of proofs, which docs/definitions.md and docs/proofs*.md name without their suffix, are
   there: `check_files`.
 
 Each check yields findings: a page, the number of a line, and what is wrong there.
@@ -450,17 +450,12 @@ def check_files(top):
         for word in words:
             if word not in specs and word != "File":
                 yield page, number, f"no page of definitions: {word}"
-    page = top / "docs/proofs.md"
-    text = read(page)
-    for match in re.finditer(r"\[([^\[\]]+)\](?!\()", text):
-        for word in re.findall(r"\b[A-Z]\w+", re.sub(r"`[^`]*`", "", match.group(1))):
-            if word not in specs | proofs:
-                yield page, text[: match.start()].count("\n") + 1, f"no file of proofs: {word}"
-    for number, cells in cells_of(text):
-        if len(cells) == 3 and cells[1].startswith("e_"):
-            for word in re.findall(r"\b[A-Z]\w+", cells[2]):
-                if word not in proofs:
-                    yield page, number, f"no file of proofs: {word}"
+    for page in (top / "docs/proofs.md", top / "docs/proofs-of-texts.md"):
+        text = read(page)
+        for match in re.finditer(r"\[([^\[\]]+)\](?!\()", text):
+            for word in re.findall(r"\b[A-Z]\w+", re.sub(r"`[^`]*`", "", match.group(1))):
+                if word not in specs | proofs:
+                    yield page, text[: match.start()].count("\n") + 1, f"no file of proofs: {word}"
 
 
 CHECKS = [check_rules, check_counts, check_crates, check_program, check_language, check_library, check_history, check_stating, check_book_one, check_readme, check_versions, check_files]
