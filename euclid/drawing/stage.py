@@ -77,11 +77,6 @@ class Stage:
         return set(points) <= self.names and len({self.frame.root(point) for point in points}) == len(points)
 
 
-def text_of(names: Sequence[str]) -> str:
-    """The name of points on one spot."""
-    return " = ".join(dict.fromkeys(map(name_of, names)))
-
-
 class Story:
     """The stages of a scene, one after each event; what the whole figure leaves out, and which lines go on beyond
     their points."""
@@ -92,7 +87,6 @@ class Story:
         self.whole = Stage(sheet, self.events, hidden)
         left_out = self.helpers()
         all_hidden = left_out | {name for name in self.whole.names if name in hidden}
-        self.all = self.whole  # with helpers
         self.whole = Stage(sheet, self.events, all_hidden) if left_out else self.whole
         self.full_lines = self.lines_without_two_points() | self.parallels_with_free_ends()
 

@@ -11,7 +11,7 @@ from ..drawing.figure import Figure, State
 from ..drawing.frame import Frame, known_numbers
 from ..drawing.measures import Curve, Measure
 from ..drawing.settle import distinct
-from ..literals import POINT, Literal
+from ..literals import POINT
 
 Json = int | float | str | list["Json"] | dict[str, "Json"]
 KINDS = {"zero": 0, "more": 1, "least": 2}
@@ -60,10 +60,8 @@ class Movable:
         self.figure = figure
         scene, values = figure.scene, figure.values
         events = [event for event in scene.events if event.kind != "undecided"]
-        false = figure.sheet.false
         facts = [fact for event in events for fact in event.facts if figure.sheet.is_true(fact)]
         self.facts = distinct(facts)
-        self.has_false = bool(false)
         self.frame = Frame(list(scene.frame.sorts.items()), self.facts, values)
         self.x = known_numbers(self.frame, values)
         self.objects = Objects(self.frame, list(self.frame.sorts))
@@ -79,10 +77,6 @@ class Movable:
         """The points that may be dragged."""
         return [self.objects.number(name) for name, sort in self.figure.scene.source.declared
                 if sort == POINT and self.frame.root(name) == name]
-
-    def said(self) -> list[Literal]:
-        """The facts of which constraints are kept, by their numbers."""
-        return self.facts
 
 
 def paper_data(figure: Figure) -> Json:

@@ -7,21 +7,14 @@ from __future__ import annotations
 
 from collections.abc import Iterable, Mapping, Sequence
 
+from ..drawing import describe
 from ..drawing.figure import Letters
 from ..literals import CIRCLE, LINE, POINT, Diagram, Literal, Metric, Sort, Sum, Term
 from ..rules import Construction
 
 SIGNS = {"=": "=", "!=": "≠", "<": "<", "<=": "≤"}
-POSITIVE = {
-    "on": "{} is on {}", "inside": "{} is inside {}", "center": "{} is the center of {}",
-    "between": "{1} is between {0} and {2}", "same-side": "{} and {} are on one side of {}", "meets": "{} crosses {}",
-    "=": "{} = {}",
-}
-NEGATIVE = {
-    "on": "{} is not on {}", "inside": "{} is not inside {}", "center": "{} is not the center of {}",
-    "between": "{1} is not between {0} and {2}", "same-side": "{} and {} are not on one side of {}",
-    "meets": "{} does not cross {}", "=": "{} ≠ {}",
-}
+POSITIVE = describe.POSITIVE | {"=": "{} = {}"}
+NEGATIVE = describe.NEGATIVE | {"=": "{} ≠ {}"}
 MOST_LIKE = 3  # points on one line that are said together
 
 # What a construction draws, by its number in docs/rules.md; letters are those of its pattern.
