@@ -48,7 +48,8 @@ Made by `tools/contracts.py`. For reviewers: each function that a crate hands on
 no, by an `Err`, by `None`, or by a variant of its answer; the clauses that say when; and, where
 something is lent to be changed, the clauses that say what is left of it. Behind the name of a
 clause are the definitions that it uses. *Equation* is a clause `result ≡ ..`: the answer is exactly
-that value. [proved.md](proved.md) has in words what each call does, and
+that value. A call that answers a Boolean is not here: its clause is one equation.
+[proved.md](proved.md) has in words what each call does, and
 [answers.md](answers.md#what-was-written) what the program wrote before each answer.
 
 ## What holds of all
@@ -238,21 +239,27 @@ def refusals_of(answer, enums):
             said.append(f"`{name}`")
         elif name in ("LineError", "BookFault"):
             said.append("a fault of a line")
+        elif name == "Status":
+            said.append("an [answer](answers.md#the-last-lines) other than success")
         elif name in ANSWERS:
             said += [f"`{variant}`" for variant in enums[name] if variant not in NOT_REFUSED]
     return ", ".join(dict.fromkeys(said))
 
 
-NOT_REFUSED = set("Yes Found Added SolvedRows Theorem Accepted Verified Made Tried Upgraded Drawn Trimmed Listed NoMemory".split())
+# Variants that are no refusal.
+NOT_REFUSED = set("Yes Found Added SolvedRows Theorem Verified NoMemory".split())
 # Choices of answers, by their variants.
 ANSWERS = set(
     """Added Filled FirstChoices Found InstanceFault Judgement LawFault Licensed LineFault Metric NextItem
-    Prepared Refuted Reject Status Stop Suggested TextFault UseFault Verdict""".split()
+    Prepared Refuted Reject Stop Suggested TextFault UseFault Verdict""".split()
 )
 
 
 def uses(clause):
-    """A clause as a cell names it."""
+    """A clause as a cell names it: what is as before, what is an equation, or the definitions that it uses."""
+    before = re.fullmatch(r"(OnErr result )?\(?(\w+)\.new((?:\.\w+)*) ≡ \2\.old\3\)?", clause.text)
+    if before:
+        return f"`{clause.name}`: as before" if clause.name else "as before"
     defined = dict.fromkeys(re.findall(r"(?<![\w.])(?:\w+\.)*([A-Z][a-z]+(?:[A-Z][a-z]*)*)\b", clause.text))
     names = [name for name in defined if name not in USUAL]
     if re.match(r"\(?result(\.new)?\)? ≡", clause.text):
@@ -268,11 +275,12 @@ def refusal_row(call, enums):
     """The cells of a call that can answer no, after its name, or none."""
     refused = refusals_of(call.answer, enums)
     of_refusal = [clause for clause in call.clauses if not re.match(r"(IfOk|OnOk|IfSome) result", clause.text)]
-    if refused and not any(re.search(r"\bresult\b", clause.text) for clause in of_refusal):
-        of_refusal = call.clauses
+    if refusals_of(call.answer.removeprefix("Result<").rpartition(", ")[0] or call.answer, enums):
+        of_refusal = call.clauses  # what is answered besides an `Err` may be a refusal too
     when = [clause for clause in of_refusal if re.search(r"\bresult\b", clause.text)] if refused else []
     changed = [clause for clause in of_refusal if any(re.search(rf"\b{name}\.new\b", clause.text) for name in call.lent)]
-    when, left = ("; ".join(map(uses, clauses)) for clauses in (when, changed))
+    left = "; ".join(f"`{clause.name}`" if clause in when and clause.name else uses(clause) for clause in changed)
+    when = "; ".join(map(uses, when))
     if not refused and not (call.lent and "AllocError" in call.answer):
         return None
     if call.lent and not left:
