@@ -5,7 +5,8 @@
   name stands: `check_rules`.
 - A number of rules, in any document, is that of the table: `check_counts`. So is the number of stored rows, and of
   reserved words.
-- The row of a crate in docs/architecture.md has the first sentence of its head comment: `check_crates`.
+- The row of a crate in docs/architecture.md has the first sentence of its head comment, and the laws of the picture there
+  are in the code: `check_crates`.
 - The usage line, the exit statuses and the libraries that are trusted are those of the code: `check_program`.
 - The limits and the reserved words of docs/book.md are those of the code: `check_language`.
 - What the theorems of the library apply, and how many steps they have, is what their proofs say: `check_library`, and
@@ -242,6 +243,13 @@ def check_crates(top):
         number, sentence = rows.get(crate, (1, ""))
         if sentence != head_sentence(top, crate):
             yield page, number, f"the sentence of {crate} is not that at the head of the crate"
+    code = "".join(read(path) for path in sorted(top.glob("crates/*/src/*.rt")))
+    pictures = re.findall(r"```\n(text of a book.*?)```", read(page), re.S)
+    for name in re.findall(r"\w+_\w+", " ".join(pictures)):
+        if name not in crates and not re.search(rf"\bfn {name}\b", code):
+            yield page, line_of(read(page), name), f"no such law: {name}"
+    if not pictures:
+        yield page, 1, "the picture of the way of a book is gone"
 
 
 # ---- the program
