@@ -46,6 +46,11 @@ def rows(caption: str, heads: tuple[str, ...], found: Iterable[tuple[str, ...]])
                       "</tbody></table>"])
 
 
+def words(text: str) -> str:
+    """A sentence, in which what stands between backticks is code."""
+    return "".join(code(part) if at % 2 else escape(part) for at, part in enumerate(text.split("`")))
+
+
 def code(text: str) -> str:
     """Words of the language."""
     return f"<code>{escape(text)}</code>"
@@ -59,9 +64,9 @@ def codes(literals: Iterable[Literal], between: str) -> str:
 def rule_row(rule: Rule) -> tuple[str, ...]:
     """A rule."""
     name = code(f"{rule.name} {' '.join(rule.variables)}")
-    return name, codes(rule.premises, ", "), codes(rule.conclusions, " or "), escape(rule.words)
+    return name, codes(rule.premises, ", "), codes(rule.conclusions, " or "), words(rule.words)
 
 
 def construction_row(each: Construction) -> tuple[str, ...]:
     """A construction."""
-    return code(each.line), codes(each.needs, ", "), codes(each.gives, ", "), escape(each.words)
+    return code(each.line), codes(each.needs, ", "), codes(each.gives, ", "), words(each.words)

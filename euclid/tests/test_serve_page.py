@@ -82,6 +82,32 @@ class Page(unittest.TestCase):
         done = self.page.run("return [...document.querySelectorAll('#task option')].filter((each) => each.textContent.startsWith('\u2713')).length")
         self.assertEqual(done, 3)
 
+    def test_a_text_is_kept_for_each_task_and_answers_are_hidden(self) -> None:
+        self.opened()
+        self.choose(LESSONS[0])
+        self.assertNotIn("g3", self.page.text("#messages h3"))
+        self.assertIn("g3", str(self.page.run("return document.querySelector('#messages details').textContent")))
+        start = str(self.page.run("return document.getElementById('text').value"))
+        self.write(start.replace("qed", "# mine\nqed"))
+        self.choose(LESSONS[1])
+        self.choose(LESSONS[0])
+        self.assertIn("# mine", str(self.page.run("return document.getElementById('text').value")))
+        self.opened()
+        self.choose(LESSONS[0])
+        self.assertIn("# mine", str(self.page.run("return document.getElementById('text').value")))
+        self.checked("document.getElementById('again').click()")
+        self.assertEqual(self.page.run("return document.getElementById('text').value"), start)
+        self.checked("document.execCommand('undo')")
+        self.assertIn("# mine", str(self.page.run("return document.getElementById('text').value")))
+
+    def test_an_old_answer_is_shown_as_old(self) -> None:
+        self.opened()
+        self.choose("")
+        self.write(RIGHT)
+        self.page.run("const t = document.getElementById('text'); t.value += '# more\\n'; t.dispatchEvent(new Event('input'))")
+        self.assertEqual(self.page.text("#verdict"), "Checking ..")
+        self.assertTrue(self.page.wait("return !document.documentElement.classList.contains('old')", 40))
+
     def test_a_link_has_the_text(self) -> None:
         self.opened()
         self.choose("")

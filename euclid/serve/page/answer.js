@@ -31,6 +31,12 @@ function sentence(text) {
   return text.split("`").map((part, at) => (at % 2 ? code(part) : part));
 }
 
+/** What is wrong, and apart from it what would mend it. */
+function parted(text) {
+  const at = text.search(/; (`|\d+ lines?\b|with the (names|arguments)\b|a line\b)/);
+  return at < 0 ? [text, ""] : [text.slice(0, at), text.slice(at + 2)];
+}
+
 function premiseItem(each, go) {
   if (each.there) return element("li", { class: "there" }, "there ", code(each.literal), " ", element("small", {}, jump(each.from, each.line, go)));
   const more = each.turned ? [" \u2014 there is ", code(each.turned)] : each.false ? [` \u2014 false: its contrary ${each.false}`] : [];
@@ -41,24 +47,26 @@ function premiseItem(each, go) {
 export function showMessages(place, messages, go, insert) {
   place.replaceChildren(...messages.map((each) => {
     const box = element("article", { class: `message ${each.kind}` });
-    box.append(element("h3", {}, jump(`Line ${each.line}`, each.line, go), ": ", ...sentence(each.text)));
+    const [what, way] = parted(each.text);
+    box.append(element("h3", {}, jump(`Line ${each.line}`, each.line, go), ": ", ...sentence(what)));
     if (each.reason) box.append(element("p", {}, ...sentence(each.reason)));
     if (each.premises?.length) box.append(element("ul", {}, ...each.premises.map((premise) => premiseItem(premise, go))));
     for (const said of each.sentences ?? []) box.append(element("p", {}, ...sentence(said)));
     if (each.values?.length) box.append(counterexample(each.values));
-    if (each.ways?.length) {
-      const ways = each.ways.map((way) => {
-        const button = element("button", { type: "button", onclick: () => insert(each.line, way) }, way.instead ? "Write this instead" : "Put in before it");
-        return element("div", { class: "row way" }, button, element("pre", {}, way.lines.join("\n")));
+    if (each.ways?.length || way) {
+      const ways = (each.ways ?? []).map((one) => {
+        const button = element("button", { type: "button", onclick: () => insert(each.line, one) }, one.instead ? "Write this instead" : "Put in before it");
+        return element("div", { class: "row way" }, button, element("pre", {}, one.lines.join("\n")));
       });
-      box.append(element("details", {}, element("summary", {}, ways.length === 1 ? "A way" : `${ways.length} ways`), ...ways));
+      const said = way ? [element("p", {}, ...sentence(way))] : [];
+      box.append(element("details", {}, element("summary", {}, ways.length < 2 ? "A way" : `${ways.length} ways`), ...said, ...ways));
     }
     return box;
   }));
 }
 
 function counterexample(values) {
-  const table = element("table", {}, element("caption", {}, "A counterexample: all that is known is true, and this is false"));
+  const table = element("table", {}, element("caption", {}, "A counterexample: with these numbers all that is known is true, and this is false"));
   for (const each of values) {
     table.append(element("tr", {}, element("th", { scope: "row" }, code(each.term)), element("td", {}, String(each.value)),
       element("td", {}, each.free ? "nothing known speaks of it" : "")));
@@ -102,7 +110,7 @@ function stepItem(step, go) {
   const line = element("span", { class: "math" }, "\u00a0\u00a0".repeat(step.depth) + step.text);
   if (!step.grounds.length) { item.append(jump(line, step.line, go)); return item; }
   const grounds = element("ul", {}, ...step.grounds.map((each) => groundItem(each, go)));
-  if (step.words) grounds.prepend(element("li", {}, step.words));
+  if (step.words) grounds.prepend(element("li", {}, ...sentence(step.words)));
   item.append(element("details", {}, element("summary", {}, line, " ", element("small", {}, byWhat(step))), grounds));
   return item;
 }

@@ -7,7 +7,7 @@ import { packed, unpacked } from "./share.js";
 const PAUSE = 300; // milliseconds of quiet before a check
 const at = (id) => document.getElementById(id);
 const course = await (await fetch("course.json")).json();
-const state = { task: "", library: "", euclid: false, hints: 0, titles: [], text: [], facts: {}, running: null, done: new Set() };
+const state = { task: "", library: "", euclid: false, hints: 0, titles: [], text: [], facts: {}, running: null, checked: null, texts: {}, done: new Set() };
 const editor = new Editor(at("text"), at("colours"), at("gutter"), at("offers"), complete);
 const OWN = "theorem mine\npoints a b\ngiven a != b\nmade points c\nshow seg a c = seg a b\nproof\n\nend\n";
 
@@ -41,8 +41,14 @@ function waiting(words) {
 const job = (kind) => ({ kind, text: editor.value, line: editor.current(), euclid: state.euclid, lesson: state.task, library: state.library });
 
 let timer = 0;
+/** What is said of an older text is shown as old until the text is checked again. */
 function later() {
   clearTimeout(timer);
+  if (editor.value !== state.checked) {
+    document.documentElement.classList.add("old");
+    waiting("Checking ..");
+    keepText();
+  }
   timer = setTimeout(check, PAUSE);
 }
 
@@ -54,6 +60,8 @@ async function check() {
     const data = await ask(job("check"), control.signal);
     if (control !== state.running || text !== editor.value) return;
     if (data.error) { waiting(data.error); return; }
+    state.checked = text;
+    document.documentElement.classList.remove("old");
     show(data);
     const drawing = await ask(job("figure"), control.signal);
     if (control === state.running) showFigure(drawing);
@@ -90,11 +98,14 @@ function showFigure(drawing) {
 
 // ---- lessons and libraries
 
+/** The title of a task with its number. */
+const titleOf = (task) => `${course.lessons.indexOf(task) + 1}. ${task.title}`;
+
 function fillTasks() {
   const groups = new Map();
   for (const task of course.lessons) {
     if (!groups.has(task.group)) groups.set(task.group, at("task").appendChild(element("optgroup", { label: task.group })));
-    groups.get(task.group).append(element("option", { value: task.name }, task.title));
+    groups.get(task.group).append(element("option", { value: task.name }, titleOf(task)));
   }
   for (const name of course.libraries) at("library").append(element("option", { value: name }, name));
   markDone();
@@ -104,10 +115,16 @@ function keepDone() {
   try { sessionStorage.setItem("done", JSON.stringify([...state.done])); } catch { /* it is only for the eye */ }
 }
 
+/** The text of each task stays in this tab, until it is closed. */
+function keepText() {
+  state.texts[state.task] = editor.value;
+  try { sessionStorage.setItem("texts", JSON.stringify(state.texts)); } catch { /* it stays as long as the page */ }
+}
+
 function markDone() {
   for (const option of at("task").querySelectorAll("option")) {
     const task = course.lessons.find((each) => each.name === option.value);
-    if (task) option.textContent = (state.done.has(task.name) ? "\u2713 " : "") + task.title;
+    if (task) option.textContent = (state.done.has(task.name) ? "\u2713 " : "") + titleOf(task);
   }
 }
 
@@ -119,13 +136,17 @@ function openTask(name, text) {
   at("library-label").hidden = Boolean(task);
   at("euclid").checked = state.euclid;
   if (task) {
-    at("lesson-title").textContent = task.title;
+    at("lesson-title").textContent = titleOf(task);
     at("lesson-words").textContent = task.words;
     at("lesson-hints").replaceChildren();
     at("hint").disabled = !task.hints.length;
     at("lesson-done").textContent = "";
   }
-  editor.value = text ?? task?.start ?? OWN;
+  editor.hide();
+  editor.value = text ?? state.texts[state.task] ?? task?.start ?? OWN;
+  state.checked = null;
+  for (const place of ["messages", "facts", "steps"]) at(place).replaceChildren();
+  showFigure({});
   loadTitles();
   later();
 }
@@ -207,7 +228,10 @@ at("task").addEventListener("change", () => openTask(at("task").value));
 at("library").addEventListener("change", () => { state.library = at("library").value; loadTitles(); later(); });
 at("euclid").addEventListener("change", () => { state.euclid = at("euclid").checked; later(); });
 at("hint").addEventListener("click", hint);
-at("again").addEventListener("click", () => openTask(state.task));
+at("again").addEventListener("click", () => {
+  const task = course.lessons.find((each) => each.name === state.task);
+  editor.replace(task ? task.start : OWN); // as typing, so that it can be undone
+});
 at("next").addEventListener("click", () => {
   const place = course.lessons.findIndex((each) => each.name === state.task);
   openTask(course.lessons[place + 1]?.name ?? "");
@@ -222,7 +246,10 @@ at("help").addEventListener("click", () => {
 });
 toggle("large", "large");
 toggle("theme", "dark", "light");
-try { state.done = new Set(JSON.parse(sessionStorage.getItem("done") ?? "[]")); } catch { /* none kept */ }
+try {
+  state.done = new Set(JSON.parse(sessionStorage.getItem("done") ?? "[]"));
+  state.texts = JSON.parse(sessionStorage.getItem("texts") ?? "{}");
+} catch { /* none kept */ }
 fillTasks();
 const shared = location.hash.length > 1 ? await unpacked(location.hash.slice(1)) : null;
 state.library = shared ? String(shared.library ?? "") : course.libraries[0] ?? "";

@@ -85,9 +85,16 @@ export class Editor {
     const lines = this.value.split("\n");
     const indent = lines[line - 1].match(/^[ \t]*/)[0];
     lines.splice(line - 1, isInstead ? 1 : 0, ...texts.map((text) => indent + text));
-    this.value = lines.join("\n");
+    this.replace(lines.join("\n"));
     this.go(line);
-    this.changed();
+  }
+
+  /** Puts another text in the place of the whole, as typing does, so that it can be undone. */
+  replace(value) {
+    this.marks = [];
+    this.text.focus();
+    this.text.select();
+    this.put(value);
   }
 
   // Completion
