@@ -138,7 +138,8 @@ class FaultLooker:
             yield from meant(word, [*STEPS, *BEFORE_PROOF, "end", "else", "theorem", "define"])
         if word == "by" and ":" not in self.words:
             rule = tables().rule(self.words[1]) if len(self.words) > 1 else None
-            if rule and len(self.words) > 2 + len(rule.variables):
+            is_glued = any(GLUED.search(each) for each in self.words)
+            if rule and len(self.words) > 2 + len(rule.variables) and not is_glued:
                 place = 2 + len(rule.variables)
                 yield f"{CAUSE}a colon is missing: `{' '.join([*self.words[:place], ':', *self.words[place:]])}`"
         if word == "by" and len(self.words) > 1 and self.words[1] in tables().transfer:
@@ -274,7 +275,8 @@ class FaultLooker:
 
 def meant(word: str, words: Iterable[str], like: float = 0.7) -> Iterator[str]:
     """A word that is like this one."""
-    found = difflib.get_close_matches(word, list(words), 1, like)
+    choices = list(words)
+    found = [each for each in choices if each.lower() == word.lower()] or difflib.get_close_matches(word, choices, 1, like)
     if found and found[0] != word:
         yield f"did you mean `{found[0]}`?"
 

@@ -4,7 +4,7 @@ from __future__ import annotations
 
 from ..literals import Diagram, Literal, Metric, Sum
 from ..script import Theorem
-from .figure import Letters
+from .letters import Letters, lines_in
 
 POSITIVE = {
     "on": "{} is on {}", "inside": "{} is inside {}", "center": "{} is the center of {}",
@@ -23,7 +23,7 @@ def description(theorem: Theorem) -> str:
     """What is given and what is shown."""
     statement = theorem.statement
     objects = statement.declared + statement.made
-    letters = Letters.of(name for name, sort in objects if sort.value == "point")
+    letters = Letters.of((name for name, sort in objects if sort.value == "point"), lines_in(theorem))
     points = {name for name, sort in objects if sort.value == "point"}
     names = {name: letters.name(name) if name in points else f"{sort.value} {name}" for name, sort in objects}
     given = "; ".join(sentence(fact, names) for fact in statement.given) or "nothing"

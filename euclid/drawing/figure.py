@@ -19,6 +19,7 @@ from .course import Event, name_of
 from .elements import Element, farthest, line_ends
 from .frame import distance
 from .labels import Labels, Spot
+from .letters import Letters, lines_in
 from .segments import mentioned, speaks_of_areas
 from .stage import Sheet, Stage, Story
 from .wishes import distance_from
@@ -36,27 +37,6 @@ class State:
     classes: dict[int, str] = field(default_factory=dict)
 
 
-@dataclass
-class Letters:
-    """The names of points as a figure has them: capitals, where no two would be the same."""
-
-    capitals: bool = True
-
-    @staticmethod
-    def of(names: Iterable[str]) -> Letters:
-        """The letters for the points of a theorem."""
-        plain = {name_of(name) for name in names}
-        return Letters(len({name.upper() for name in plain}) == len(plain))
-
-    def name(self, identity: str) -> str:
-        """The name of a point."""
-        return name_of(identity).upper() if self.capitals else name_of(identity)
-
-    def text(self, names: Sequence[str]) -> str:
-        """The names of points on one spot."""
-        return " = ".join(dict.fromkeys(map(self.name, names)))
-
-
 class Figure:
     """The picture of a scene."""
 
@@ -66,7 +46,7 @@ class Figure:
         self.sheet = Sheet(scene)
         self.layout, self.values, self.spots = self.sheet.layout, self.sheet.values, self.sheet.spots
         self.story = Story(self.sheet, hidden)
-        self.letters = Letters.of(self.spots)
+        self.letters = Letters.of(self.spots, lines_in(scene.source.theorem))
         self.numbers: dict[Element, int] = {}  # the parts, in the order in which they came
         self.is_statement = len(self.events) == 2 and self.events[-1].step == 0
         self.name_spots = self.places_of_names()

@@ -8,7 +8,7 @@ from __future__ import annotations
 from collections.abc import Iterable, Mapping, Sequence
 
 from ..drawing import describe
-from ..drawing.figure import Letters
+from ..drawing.letters import Letters
 from ..literals import CIRCLE, LINE, POINT, Diagram, Literal, Metric, Sort, Sum, Term
 from ..rules import Construction
 
@@ -73,7 +73,8 @@ class Notation:
 
 def letters_of(sorts: Mapping[str, Sort], more: Iterable[str] = ()) -> Letters:
     """The letters for some objects, and for more points."""
-    return Letters.of([name for name, sort in sorts.items() if sort == POINT] + list(more))
+    lines = [name for name, sort in sorts.items() if sort == LINE]
+    return Letters.of([name for name, sort in sorts.items() if sort == POINT] + list(more), lines)
 
 
 def gathered(literals: Sequence[Literal]) -> list[Sequence[Literal]]:

@@ -8,7 +8,8 @@ from dataclasses import dataclass
 
 from ..drawing.attempt import Scene
 from ..drawing.course import Bare, Source
-from ..drawing.figure import Figure, Letters
+from ..drawing.figure import Figure
+from ..drawing.letters import Letters
 from ..drawing.search import find
 from ..literals import Literal, Sort, spell_all
 from ..rules import LETTERS, Construction, Rule, tables

@@ -5,7 +5,7 @@ from __future__ import annotations
 import json
 import re
 
-from ..drawing.figure import Letters
+from ..drawing.letters import Letters, lines_in
 from ..literals import POINT, Sort
 from ..script import Theorem
 from .figures import Drawn
@@ -30,7 +30,7 @@ class TheoremPage:
         self.brief = 0
         self.proof: Proof = proof_of(entry.theorem, entry.known, entry.part)
         self.sorts = start_sorts(entry.theorem)
-        self.notation = Notation(Letters.of(self.all_points()))
+        self.notation = Notation(Letters.of(self.all_points(), lines_in(entry.theorem)))
         self.given = said_in(entry.theorem, entry.known, self.notation, self.sorts, "given", ROOT)
 
     def all_points(self) -> list[str]:
