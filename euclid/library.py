@@ -5,7 +5,7 @@ from __future__ import annotations
 import bisect
 import sys
 import tomllib
-from collections.abc import Mapping
+from collections.abc import Collection, Mapping
 from dataclasses import dataclass, field
 from functools import cached_property, lru_cache
 from pathlib import Path
@@ -103,9 +103,17 @@ class Library:
 
     def is_own(self, number: int) -> bool:
         """Whether a line of the joined text is of a file that was asked for."""
+        return self.file_with(number).path in self.own
+
+    def file_with(self, number: int) -> SourceFile:
+        """The file of a line of the joined text."""
         starts = [file.start for file in self.files]
-        file = self.files[max(bisect.bisect_right(starts, number) - 1, 0)]
-        return file.path in self.own
+        return self.files[max(bisect.bisect_right(starts, number) - 1, 0)]
+
+    def asked_files(self, book: Book, only: Collection[str] = ()) -> list[SourceFile]:
+        """The files that were asked for; where titles are, those that have them."""
+        having = {self.file_with(item.first).path for item in book.items if item.title in only}
+        return [file for file in self.files if file.path in self.own and (not only or file.path in having)]
 
     def own_theorems(self, book: Book) -> list[Theorem]:
         """The theorems of the files that were asked for."""

@@ -34,13 +34,14 @@ def run(args: argparse.Namespace) -> int:
     here = opened(args.paths)
     if here.has_faults():
         return FAULTY
-    found = strip_books(here.library, here.book, args.only)
     titles = [item.title for item in here.library.own_theorems(here.book)]
     for title in args.only:
         if title not in titles:
             raise WrongUse(f"no theorem here has the title `{title}`{close_to(title, titles)}")
-    if not args.write and len(found.texts) != 1:
-        raise WrongUse(f"standard output takes one book, and here are {len(found.texts)}: use --write")
+    count = len(here.library.asked_files(here.book, args.only))
+    if not args.write and count != 1:
+        raise WrongUse(f"standard output takes one book, and here are {count}: use --write")
+    found = strip_books(here.library, here.book, args.only)
     for item in found.left:
         place = found.library.place(item.first)
         tell(Message(place, "error", f"{item.title} stays as it is: `elements` does not accept it"))

@@ -7,12 +7,14 @@ from dataclasses import dataclass
 from pathlib import Path
 
 from ..checking import Checker, Verdict
-from ..library import Library
+from ..library import Library, SourceFile, read_text
 from ..reading import read_lines
 from ..script import Book, Theorem
 from ..statements import Known
 from ..syntax import SourceLine, lines_of
 from .engine import fill_theorem
+from .pieces import pieced
+from .sketches import sketch_of
 from .strip import strip_theorem
 from .theorems import Catalogue
 
@@ -32,16 +34,15 @@ def strip_books(library: Library, book: Book, only: Collection[str] = ()) -> Str
     """The books and libraries of a command line without the lines that `fill` puts back."""
     accepted = accepted_items(book)
     kept = stripped_items(library, book, accepted, only)
-    left = [item for item in book.theorems() if library.is_own(item.first) and item.title not in accepted]
-    left += unfilled(book, kept)
+    own = [item for item in library.own_theorems(book) if not only or item.title in only]
+    left = [item for item in own if item.title not in accepted] + unfilled(book, kept)
     for item in left:
         kept.pop(item.title, None)
-    own = library.own_theorems(book)
     steps = sum(len(item.steps()) for item in own)
     gone = sum(len(item.lines) - len(kept[item.title]) for item in own if item.title in kept)
     otherwise = sum(line.words == ("else",) for item in own if item.title in kept for line in item.lines)
     otherwise -= sum(line.words == ("else",) for lines in kept.values() for line in lines)
-    return StrippedBooks(library, texts_of(library, book, kept), steps, steps - gone + otherwise, left)
+    return StrippedBooks(library, texts_of(library, book, kept, only), steps, steps - gone + otherwise, left)
 
 
 def accepted_items(book: Book) -> set[str]:
@@ -81,15 +82,19 @@ def unfilled(book: Book, kept: dict[str, list[SourceLine]]) -> list[Theorem]:
     return [item for item in book.theorems() if item.title in kept and item.title not in accepted]
 
 
-def texts_of(library: Library, book: Book, kept: dict[str, list[SourceLine]]) -> dict[Path, str]:
-    """The files that were asked for, without the lines that are gone."""
+def texts_of(library: Library, book: Book, kept: dict[str, list[SourceLine]], only: Collection[str]) -> dict[Path, str]:
+    """The files that were asked for, without the lines that are gone. Where titles are given, a sketch
+    that is there keeps what it has for other theorems."""
     gone: set[int] = set()
     for item in book.theorems():
         if item.title in kept:
             gone |= {line.number for line in item.lines} - {line.number for line in kept[item.title]}
     texts = {}
-    for file in library.files:
-        if file.path in library.own:
-            raw = file.text.split("\n")
-            texts[file.path] = "\n".join(line for at, line in enumerate(raw) if file.start + at not in gone)
+    for file in library.asked_files(book, only):
+        raw = file.text.split("\n")
+        texts[file.path] = "\n".join(line for at, line in enumerate(raw) if file.start + at not in gone or at >= file.count)
+        sketch = sketch_of(file.path) if only else None
+        if sketch is not None:
+            there, stripped = SourceFile(sketch, read_text(sketch)), SourceFile(file.path, texts[file.path])
+            texts[file.path] = pieced(there, stripped, kept).text
     return texts
