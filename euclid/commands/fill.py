@@ -8,7 +8,7 @@ import sys
 from pathlib import Path
 
 from ..checking import Outcome, Verdict
-from ..filling.books import FilledBooks, fill_books, sketched, sketches_of, wanted
+from ..filling.books import FilledBooks, fill_books, open_books, sketched, sketches_of, texts_in, wanted
 from ..filling.ways import Ways, ways_at
 from ..library import STREAM, load, shown
 from ..messages import ACCEPTED, FAILED, FAULTY, REFUSED, WrongUse, put_json, tell
@@ -56,14 +56,9 @@ def run(args: argparse.Namespace) -> int:
 
 def fill(args: argparse.Namespace) -> int:
     """Fills the books."""
-    found = fill_books(args.paths or [Path(".")], only=args.only, seconds=args.seconds,
-                       most_applied=1 if args.apply else 0)
-    titles = [item.title for item in found.library.own_items(found.book)]
-    for title in args.only:
-        if title not in titles:
-            raise WrongUse(f"no theorem here has the title `{title}`{close_to(title, titles)}")
-    if not args.write and not args.json and len(found.texts) != 1:
-        raise WrongUse(f"standard output takes one book, and here are {len(found.texts)}: use --write")
+    found = open_books(args.paths or [Path(".")], args.only, 1 if args.apply else 0)
+    check_use(found, args)
+    fill_books(found, args.seconds)
     for message in found.messages():
         tell(message)
     if args.json:
@@ -72,10 +67,27 @@ def fill(args: argparse.Namespace) -> int:
     return status_of(found, args.only)
 
 
+def check_use(found: FilledBooks, args: argparse.Namespace) -> None:
+    """Whether the titles are there, and standard output takes what comes out: before any work is done."""
+    titles = [item.title for item in found.library.own_items(found.book)]
+    for title in args.only:
+        if title not in titles:
+            raise WrongUse(f"no theorem here has the title `{title}`{close_to(title, titles)}")
+    count = len(found.asked_files())
+    if args.write or args.json or count == 1:
+        return
+    files = [path for path in args.paths if not path.is_dir()]
+    if len(files) != 1 or len(args.paths) == 1:
+        raise WrongUse(f"standard output takes one book, and here are {count}: use --write")
+    name = files[0].with_suffix(".book").name
+    raise WrongUse(f"standard output takes one book, and here are {count}: put {name} into a folder with a book.toml "
+                   f"that names it and needs the library, and fill FOLDER/{name}")
+
+
 def list_ways(args: argparse.Namespace) -> int:
     """Lists ways to what a step lacks."""
-    paths, overlay = sketched(args.paths or [Path(".")])
-    library = load(paths, overlay)
+    paths, pieces = sketched(args.paths or [Path(".")])
+    library = load(paths, texts_in(pieces))
     here = Opened(library, library.book())
     theorem, number = here.theorem(args.at[0]), number_of(args.at[1])
     step = next((each for each in theorem.steps() if each.number == number), None)
@@ -147,11 +159,11 @@ def tell_as_json(found: FilledBooks) -> None:
     """One object for each theorem that was filled."""
     verdicts = {item.title: each.verdict for item, each in zip(found.book.items, found.outcomes.items)}
     for title, each in found.filled.items():
-        place = found.library.place(each.theorem.first)
+        place = found.place(each.theorem.first)
         put_json({
             "title": title, "file": str(place.path), "line": place.line, "verdict": verdicts[title].value,
-            "put": [{"before": found.library.place(before).line, "lines": lines} for before, lines in each.under().items()],
+            "put": [{"before": found.place(before).line, "lines": lines} for before, lines in each.under().items()],
             "applied": each.applied,
-            "missing": [{"line": found.library.place(one.line).line, "step": one.step, "wanted": one.wanted,
+            "missing": [{"line": found.place(one.line).line, "step": one.step, "wanted": one.wanted,
                          "nearest": one.why} for one in each.missing],
             "stopped": each.stopped})

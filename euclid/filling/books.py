@@ -8,12 +8,13 @@ from pathlib import Path
 
 from ..answers import check
 from ..checking import Checker, Outcomes, Verdict
-from ..library import Library, load, shown
+from ..library import Library, Place, SourceFile, load, read_text, shown
 from ..messages import Message
 from ..script import Book, Item, Theorem
 from ..statements import Known
 from .engine import fill_theorem
-from .sketches import SUFFIX, overlay_of, sketch_of
+from .pieces import Pieced, pieced, whole
+from .sketches import SUFFIX, sketch_of
 from .theorems import Catalogue
 from .walk import FilledTheorem, Missing
 
@@ -25,14 +26,21 @@ TRIED = "tried: `by` lines, one transfer rule, arithmetic, two cases, a chain of
 class FilledBooks:
     """Books with what was put in, and what `elements` says of them then."""
 
+    paths: list[Path]
+    only: Collection[str]  # titles; none means all
+    pieces: dict[Path, Pieced]  # where a sketch stands for its book, or for theorems of it, by the book's path
     library: Library  # as the author has it, with sketches in the place of their books
     book: Book
-    filled: dict[str, FilledTheorem]  # by title; those that were whole already are not there
-    outcomes: Outcomes
-    most_applied: int
+    most_applied: int = 0
+    filled: dict[str, FilledTheorem] = field(default_factory=dict)  # by title; without those that were whole
+    outcomes: Outcomes = field(default_factory=lambda: Outcomes([]))
     refused: dict[str, str] = field(default_factory=dict)  # filled, and refused all the same: what is wanted
     texts: dict[Path, str] = field(default_factory=dict)  # of the files that were asked for
     taken: dict[tuple[str, int], str] = field(default_factory=dict)  # what `elements` took for blanks: title, line
+
+    def asked_files(self) -> list[SourceFile]:
+        """The files that may change."""
+        return self.library.asked_files(self.book, self.only)
 
     def put_in(self) -> int:
         """How many lines were put in, of those that stay."""
@@ -103,11 +111,16 @@ class FilledBooks:
     def message(self, number: int, text: str, details: Collection[str] = (), kind: str = "error",
                 column: int = 1) -> Message:
         """A message about a line of the joined text."""
+        return Message(self.place(number, column), kind, text, details=list(details))
+
+    def place(self, number: int, column: int = 1) -> Place:
+        """The place of a line of the joined text: in the sketch, where it is of one."""
         place = self.library.place(number, column)
-        full = (Path.cwd() / place.path).resolve()
-        if sketch_of(full) is not None:
-            place = type(place)(shown(full.with_suffix(SUFFIX)), place.line, place.column)
-        return Message(place, kind, text, details=list(details))
+        piece = self.pieces.get((Path.cwd() / place.path).resolve())
+        if piece is None or place.line > len(piece.origins):
+            return place
+        path, line = piece.origins[place.line - 1]
+        return Place(shown(path), line, column)
 
 
 def place_of(filled: FilledTheorem, text: str) -> int:
@@ -122,35 +135,53 @@ def wanted(words: str) -> str:
     return "a contradiction between facts" if words == "contradiction" else f"`{words}`"
 
 
-def fill_books(paths: list[Path], *, only: Collection[str] = (), seconds: float | None = None,
-               most_applied: int = 0) -> FilledBooks:
-    """The books and libraries of a command line, filled; a sketch stands for the book beside it."""
-    paths, overlay = sketched(paths)
-    library = load(paths, overlay)
-    book = library.book()
-    filled = fill_items(library, book, only, seconds, most_applied)
-    result = FilledBooks(library, book, filled, Outcomes([]), most_applied)
+def open_books(paths: list[Path], only: Collection[str] = (), most_applied: int = 0) -> FilledBooks:
+    """The books and libraries of a command line, still to be filled; a sketch stands for the book beside
+    it, and where titles are given, for these theorems alone."""
+    books, pieces = sketched(paths, only)
+    library = load(books, texts_in(pieces))
+    return FilledBooks(books, only, pieces, library, library.book(), most_applied)
+
+
+def fill_books(result: FilledBooks, seconds: float | None = None) -> None:
+    """Fills the books."""
+    result.filled = fill_items(result.library, result.book, result.only, seconds, result.most_applied)
     while True:
         result.texts = texts_of(result)
-        after = load(paths, overlay | result.texts).book()
+        after = load(result.paths, texts_in(result.pieces) | result.texts).book()
         result.outcomes = Checker().check(after)
         refused = newly_refused(result, after)
         if not refused:
             result.taken = taken_for_blanks(result, after)
-            return result
+            return
         result.refused |= refused
 
 
-def sketched(paths: list[Path]) -> tuple[list[Path], dict[Path, str]]:
-    """The books of a command line, and the texts of the sketches that stand for some of them."""
+def sketched(paths: list[Path], only: Collection[str] = ()) -> tuple[list[Path], dict[Path, Pieced]]:
+    """The books of a command line, and the texts that stand for some of them: their sketches, or where
+    titles are given, the books with what their sketches have for these."""
     books = [path.with_suffix(".book") if path.suffix == SUFFIX else path for path in paths]
-    found: list[Path] = []
+    pieces = {}
     for path in books:
-        if path.is_dir():
-            found += sorted(each.with_suffix(".book") for each in path.rglob("*" + SUFFIX))
-        else:
-            found.append(path)
-    return books, overlay_of(found)
+        there = [each.with_suffix(".book") for each in sorted(path.rglob("*" + SUFFIX))] if path.is_dir() else [path]
+        for book in there:
+            sketch = sketch_of(book)
+            if sketch is not None:
+                pieces[book.resolve()] = piece_of(book.resolve(), sketch.resolve(), only)
+    return books, pieces
+
+
+def piece_of(book: Path, sketch: Path, only: Collection[str]) -> Pieced:
+    """What stands for a book that has a sketch."""
+    said = SourceFile(sketch, read_text(sketch))
+    if not only or not book.is_file():
+        return whole(said)
+    return pieced(SourceFile(book, read_text(book)), said, only)
+
+
+def texts_in(pieces: dict[Path, Pieced]) -> dict[Path, str]:
+    """The texts that stand for books."""
+    return {path: piece.text for path, piece in pieces.items()}
 
 
 def fill_items(library: Library, book: Book, only: Collection[str], seconds: float | None,
@@ -215,11 +246,7 @@ def texts_of(result: FilledBooks) -> dict[Path, str]:
     for item in result.book.items:
         if item.title in result.filled and result.filled[item.title].theorem is item and result.stays(item.title):
             items[item.lines[0].number] = item
-    texts = {}
-    for file in result.library.files:
-        if file.path in result.library.own:
-            texts[file.path] = text_of(file.text, file.start, items, result.filled)
-    return texts
+    return {file.path: text_of(file, items, result.filled) for file in result.asked_files()}
 
 
 def sketches_of(result: FilledBooks) -> dict[Path, str]:
@@ -230,28 +257,32 @@ def sketches_of(result: FilledBooks) -> dict[Path, str]:
             for number, lines in each.under().items():
                 put[number] = [line for line in lines if line.strip() in each.applied]
     texts = {}
-    for file in result.library.files:
-        sketch = sketch_of(file.path) if file.path in result.library.own else None
-        if sketch is not None and any(put.get(file.start + at) for at in range(len(file.lines))):
-            raw = file.text.split("\n")
+    for file in result.asked_files():
+        piece, sketch = result.pieces.get(file.path), sketch_of(file.path)
+        if piece is None or sketch is None:
+            continue
+        under = {line: put[file.start + at] for at, (path, line) in enumerate(piece.origins)
+                 if path == sketch.resolve() and put.get(file.start + at)}
+        if under:
+            raw = read_text(sketch).split("\n")
             end = "\r" if raw[0].endswith("\r") else ""
-            texts[sketch] = "\n".join(part for at, line in enumerate(raw)
-                                      for part in [*(each + end for each in put.get(file.start + at, [])), line])
+            texts[sketch] = "\n".join(part for number, line in enumerate(raw, 1)
+                                      for part in [*(each + end for each in under.get(number, [])), line])
     return texts
 
 
-def text_of(text: str, start: int, items: dict[int, Item], filled: dict[str, FilledTheorem]) -> str:
+def text_of(file: SourceFile, items: dict[int, Item], filled: dict[str, FilledTheorem]) -> str:
     """A file with lines put in; the lines of the author keep their bytes."""
-    raw = text.split("\n")
+    raw = file.text.split("\n")
     end = "\r" if raw[0].endswith("\r") else ""
     found: list[str] = []
     at = 0
     while at < len(raw):
-        item = items.get(start + at)
+        item = items.get(file.start + at) if at < file.count else None  # behind the last line the next file begins
         if item is None:
             found.append(raw[at])
             at += 1
             continue
-        found += [raw[line.own - start] if line.own else line.text + end for line in filled[item.title].lines]
+        found += [raw[line.own - file.start] if line.own else line.text + end for line in filled[item.title].lines]
         at += len(item.lines)
     return "\n".join(found)

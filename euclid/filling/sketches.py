@@ -7,7 +7,6 @@ diagram: `fill` may put the lines that give it in its place.
 
 from __future__ import annotations
 
-from collections.abc import Iterable
 from dataclasses import dataclass
 from pathlib import Path
 
@@ -181,8 +180,3 @@ def message_of(parting: Parting, sketch: Path, book: Path) -> Message:
     if parting.book_line:
         message.related.append(Message(Place(shown(book), parting.book_line), "note", "the book is here"))
     return message
-
-
-def overlay_of(paths: Iterable[Path]) -> dict[Path, str]:
-    """The texts of sketches, for the books beside them."""
-    return {path.resolve(): read_text(sketch) for path in paths if (sketch := sketch_of(path)) is not None}

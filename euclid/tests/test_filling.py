@@ -5,6 +5,7 @@ from __future__ import annotations
 import io
 import tempfile
 import unittest
+import unittest.mock
 from contextlib import redirect_stderr, redirect_stdout
 from pathlib import Path
 
@@ -318,6 +319,96 @@ class CommandTest(unittest.TestCase):
         status, out, err = self.run_main("strip", self.file("W.book", PARTS.format("")))
         self.assertEqual((status, out), (1, PARTS.format("")))
         self.assertIn("W stays as it is", err)
+
+    def shelf(self) -> dict[str, str]:
+        """A library of two files, of which each book and each sketch has lines of its own; the texts by name."""
+        texts = {}
+        for name in "AB":
+            first, second = (I_1.replace("I.1", f"{name}.{number}") for number in (1, 2))
+            full = "".join(filled(text)[0].text() for text in (first, second))
+            texts[f"{name}.book"] = full.replace("# where they cross", f"# book {name}")
+            texts[f"{name}.sketch"] = "# of the sketch\n\n" + (first + "\n" + second).replace("# where they cross", f"# sketch {name}")
+        for name, text in texts.items():
+            self.file(name, text)
+        self.file("book.toml", 'title = "Two"\nfiles = ["A.book", "B.book"]\n')
+        return texts
+
+    def test_strip_of_one_theorem_leaves_the_sketches_of_others(self) -> None:
+        texts = self.shelf()
+        status, out, err = self.run_main("strip", "--write", "--only", "B.1", str(self.folder))
+        self.assertEqual((status, err), (0, "9 steps, 4 of them kept\n"))
+        texts["B.sketch"] = texts["B.sketch"].replace("# sketch B", "# book B", 1)
+        self.assertEqual({name: (self.folder / name).read_text() for name in texts}, texts)
+        self.assertIn("B.sketch", out)
+
+    def test_strip_of_one_theorem_beside_no_sketch(self) -> None:
+        texts = self.shelf()
+        (self.folder / "A.sketch").unlink()
+        self.assertEqual(self.run_main("strip", "--write", "--only", "A.2", str(self.folder))[0], 0)
+        sketch = (self.folder / "A.sketch").read_text()
+        full = texts["A.book"].index("# the first", 1)
+        self.assertEqual(sketch, texts["A.book"][:full] + I_1.replace("I.1", "A.2").replace("# where they cross", "# book A"))
+        self.assertEqual((self.folder / "B.sketch").read_text(), texts["B.sketch"])
+
+    def test_strip_of_one_theorem_that_the_sketch_lacks(self) -> None:
+        texts = self.shelf()
+        first, second = texts["A.sketch"].split("\n\n# the first", 1)[0], texts["A.sketch"].rsplit("# the first", 1)[1]
+        self.file("A.sketch", f"{first}\n\n# the first{second}")
+        self.assertEqual(self.run_main("strip", "--write", "--only", "A.1", str(self.folder))[0], 0)
+        sketch = (self.folder / "A.sketch").read_text()
+        self.assertEqual(sketch.split("\n\n", 1)[1], I_1.replace("I.1", "A.1").replace("# where they cross", "# book A")
+                         + I_1.replace("I.1", "A.2").replace("# where they cross", "# sketch A"))
+
+    def test_fill_of_one_theorem_leaves_the_books_of_others(self) -> None:
+        texts = self.shelf()
+        status, out, err = self.run_main("fill", "--write", "--only", "B.2", str(self.folder))
+        self.assertEqual((status, err), (0, ""))
+        head, tail = texts["B.book"].rsplit("# book B", 1)
+        texts["B.book"] = f"{head}# sketch B{tail}"
+        self.assertEqual({name: (self.folder / name).read_text() for name in texts}, texts)
+        self.assertIn("5 lines put in; 1 of 1 accepted", out)
+
+    def test_fill_of_one_theorem_puts_a_use_into_its_sketch_alone(self) -> None:
+        head = "points v x b c\ngiven v != x ; between v b c\nshow ang x v b = ang x v c\nproof\n"
+        first = f"theorem T\n{head}let L line v b\nlet M line v x\nqed\nend\n"
+        text = f"# mine\n{first}\ntheorem U\n{head}qed\nend\n"
+        self.file("X.sketch", text)
+        book = self.file("X.book", "".join(each.text() for each in filled(first)) + text.split("\n\n")[1])
+        status, _, err = self.run_main("fill", "--apply", "--write", "--only", "U", book)
+        self.assertEqual(status, 0, err)
+        self.assertEqual((self.folder / "X.sketch").read_text(), "apply T v x b c\nqed".join(text.rsplit("qed", 1)))
+        self.assertTrue(check(Path(book).read_text()).is_accepted())
+
+    def test_what_one_theorem_lacks_is_told_where_the_sketch_has_it(self) -> None:
+        texts = self.shelf()
+        self.file("B.sketch", "let c meet A A".join(texts["B.sketch"].rsplit("let c meet A B", 1)))
+        status, _, err = self.run_main("fill", "--write", "--only", "B.2", str(self.folder))
+        self.assertEqual(status, 1)
+        self.assertIn("B.sketch:29:1: error: B.2, step 3 lacks `meets A A`", err)
+
+    def test_two_books_of_which_the_second_lacks_a_line(self) -> None:
+        first, short = filled(I_1)[0].text(), BETWEEN.format("")
+        paths = [self.file("A.book", first), self.file("B.book", short)]
+        self.file("book.toml", 'title = "Two"\nfiles = ["A.book", "B.book"]\n')
+        wanted = filled(short)[0].text()
+        self.assertEqual(wanted.count("\n"), short.count("\n") + 4)
+        for words in (paths, [str(self.folder)]):
+            self.file("B.book", short)
+            self.assertEqual(self.run_main("fill", "--json", *words)[0], 0)
+            status, out, err = self.run_main("fill", "--write", *words)
+            self.assertEqual((status, err), (0, ""))
+            self.assertIn("4 lines put in; 2 of 2 accepted", out)
+            self.assertEqual([Path(path).read_text() for path in paths], [first, wanted])
+
+    def test_one_book_for_standard_output_is_said_before_any_work(self) -> None:
+        self.shelf()
+        mine = self.file("mine.book", BETWEEN.format(""))
+        with unittest.mock.patch("euclid.commands.fill.fill_books", side_effect=AssertionError("it worked")):
+            for words, wanted in (([str(self.folder)], "here are 2: use --write\n"),
+                                  ([str(self.folder), mine], "needs the library, and fill FOLDER/mine.book\n")):
+                status, _, err = self.run_main("fill", *words)
+                self.assertEqual(status, 3)
+                self.assertTrue(err.endswith(wanted), err)
 
     def test_ways_at_a_step(self) -> None:
         status, out, _ = self.run_main("fill", "--at", "T", "1", self.file("T.book", BETWEEN.format("")))
