@@ -94,7 +94,11 @@ def main(words: list[str]) -> int:
         return 0
     except KeyboardInterrupt:
         return 130
-    except (MemoryError, RecursionError, OSError) as error:
+    except OSError as error:
+        said = f"{error.filename}: {error.strerror}" if error.filename and error.strerror else f"{type(error).__name__}: {error}"
+        print(f"euclid: {said}", file=sys.stderr)
+        return FAILED
+    except (MemoryError, RecursionError) as error:
         print(f"euclid: {type(error).__name__}: {error}", file=sys.stderr)
         return FAILED
 

@@ -21,6 +21,11 @@ BYTE_ORDER_MARK = "\xef\xbb\xbf"
 WRITTEN = {"≠": "!=", "≤": "<=", "=": "=", "∠": "ang", "≥": "<=, with the lesser side first"}
 CAUSE = "cause: "  # begins a hint that says by itself what is wrong
 AFTER = "after: "  # begins one that does not belong into the first line
+STEP_WORDS = {  # first words that proofs in prose have, and the steps that say it
+    "let": ["draw", "construct", "join", "produce", "take"],
+    "cases` or `claim": ["suppose", "assume", "if"],
+    "hence": ["therefore", "thus", "so", "then", "have", "since"],
+}
 KIND_WORDS = {
     "malformed": "this line may not stand here as it is", "unknown-name": "a name that nothing before it has",
     "name-taken": "a name that is taken", "wrong-sort": "an object or a term of another sort than belongs here",
@@ -80,8 +85,8 @@ class FaultLooker:
     def hints(self, kind: str) -> list[str]:
         """What may be meant, the likeliest first."""
         if kind == FaultKind.MALFORMED:
-            found = list(self.bytes()) or [*self.signs(), *self.first_word(), *self.misspelled(), *self.title(),
-                                           *self.shapes(), *self.statement()]
+            found = list(self.bytes()) or [*self.closed(), *self.signs(), *self.first_word(), *self.misspelled(),
+                                           *self.title(), *self.shapes(), *self.statement()]
         elif kind == FaultKind.UNKNOWN_NAME:
             found = [*self.later_title(), *self.close_rule(), *self.segment(), *self.later_object(), *self.close_object()]
         elif kind == FaultKind.WRONG_SORT:
@@ -111,6 +116,12 @@ class FaultLooker:
         else:
             yield f"{CAUSE}a book is ASCII text, and the byte 0x{rest[0]:02x} in column {place + 1} is not"
 
+    def closed(self) -> Iterator[str]:
+        """The line that closed the last block."""
+        before = [line for line in self.lines() if line.number < self.line.number]
+        if before and "the block is closed" in self.said:
+            yield f"it was closed at {self.where(before[-1].number)}: `{' '.join(before[-1].words)}`"
+
     def signs(self) -> Iterator[str]:
         """Signs that are glued to words, or that do not exist."""
         comment = next((at for at, word in enumerate(self.words) if at and word.startswith("#")), None)
@@ -134,7 +145,10 @@ class FaultLooker:
     def first_word(self) -> Iterator[str]:
         """What begins the line."""
         word = self.words[0]
-        if self.at == 0 and word not in STEPS and word not in BEFORE_PROOF:
+        step = next((step for step, words in STEP_WORDS.items() if word.lower() in words), None)
+        if step is not None and "no step begins" in self.said:
+            yield f"did you mean `{step}`?"
+        elif self.at == 0 and word not in STEPS and word not in BEFORE_PROOF:
             yield from meant(word, [*STEPS, *BEFORE_PROOF, "end", "else", "theorem", "define"])
         if word == "by" and ":" not in self.words:
             rule = tables().rule(self.words[1]) if len(self.words) > 1 else None

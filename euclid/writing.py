@@ -17,11 +17,14 @@ def exchange(path: Path, text: str) -> None:
 
 def exchange_bytes(path: Path, data: bytes, is_synced: bool = True) -> None:
     """Puts bytes in the place of what a file has; what is no plain file is written as it is."""
-    path = path.resolve()
+    given, path = path, path.resolve()
     if path.exists() and not path.is_file():
         path.write_bytes(data)
         return
-    handle, name = tempfile.mkstemp(prefix=f".{path.name}.", dir=path.parent)
+    try:
+        handle, name = tempfile.mkstemp(prefix=f".{path.name}.", dir=path.parent)
+    except OSError as error:  # it names the other name
+        raise OSError(error.errno, error.strerror, str(given)) from None
     try:
         with os.fdopen(handle, "wb") as file:
             file.write(data)

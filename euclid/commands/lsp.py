@@ -12,7 +12,7 @@ HELP = """A language server for editors, over standard input and output.
 
 It speaks the Language Server Protocol 3.17: docs/editors.md says how an editor starts it.
 
-example: nvim --cmd 'luafile editors/nvim/elements.lua' library/book-1/I.05.book
+example: nvim --cmd 'set rtp+=editors/vim' --cmd 'luafile editors/nvim/elements.lua' library/book-1/I.05.book
 """
 
 

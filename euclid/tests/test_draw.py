@@ -148,6 +148,10 @@ class Command(unittest.TestCase):
             self.assertEqual(run.returncode, 3, run.stderr)
             self.assertTrue(run.stderr.startswith("euclid: "), run.stderr)
 
+    def test_a_folder_that_is_not_there(self) -> None:
+        run = euclid("draw", "I.1", "-o", "nowhere/I.1.svg", str(LIBRARY / "book-1"))
+        self.assertEqual((run.returncode, run.stderr), (4, "euclid: nowhere/I.1.svg: No such file or directory\n"))
+
 
 if __name__ == "__main__":
     unittest.main()
