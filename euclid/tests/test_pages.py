@@ -310,6 +310,21 @@ class InBrowser(Site):
         self.assertEqual(found[0][1], "")
         self.assertIn("CD < AB", {held for _, held in found})
 
+    def test_a_point_is_held_back_where_it_would_leave_the_order(self) -> None:
+        _, text, *_ = theorem_file(Work(site_of([TOP / "library" / "book-1"]), Keeper(None)), "I.16")
+        (self.site / "theorem" / "order.html").write_text(text, encoding="utf-8")
+        self.open("theorem/order.html")
+        found = self.browser.run("""
+            const figure = Proof.figures[0], at = figure.move.at, [, , c, d] = figure.move.drag, said = []
+            for (let step = 0; step < 30; step++) {
+              figure.moveTo(d, [0, 1].map(n => figure.x[at[d] + n] + .1 * (n ? 0 : figure.x[at[c]] - figure.x[at[d]] - .5)))
+              const { holds, held } = document.querySelector('#figure').dataset
+              said.push([holds, held])
+            }
+            return said""")
+        self.assertEqual({holds for holds, _ in found}, {"true"})
+        self.assertEqual([found[0][1], found[-1][1]], ["", "C is between B and D"])
+
     def test_a_point_moves_by_keys_and_another_figure_is_shown(self) -> None:
         self.open("theorem/I.5.html")
         self.browser.run("document.querySelector('.handle').focus()")
