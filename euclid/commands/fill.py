@@ -46,12 +46,16 @@ def arguments(parser: argparse.ArgumentParser) -> None:
 
 def run(args: argparse.Namespace) -> int:
     """Fills, and asks `elements` of the outcome."""
-    resource.setrlimit(resource.RLIMIT_AS, (MEGABYTES << 20, resource.RLIM_INFINITY))
+    before = resource.getrlimit(resource.RLIMIT_AS)
+    most = MEGABYTES << 20 if before[1] == resource.RLIM_INFINITY else min(MEGABYTES << 20, before[1])
+    resource.setrlimit(resource.RLIMIT_AS, (most, before[1]))
     try:
         return list_ways(args) if args.at else fill(args)
     except MemoryError:
         print(f"euclid: out of memory, at {MEGABYTES} MB", file=sys.stderr)
         return FAILED
+    finally:
+        resource.setrlimit(resource.RLIMIT_AS, before)
 
 
 def fill(args: argparse.Namespace) -> int:

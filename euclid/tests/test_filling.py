@@ -3,6 +3,7 @@
 from __future__ import annotations
 
 import io
+import resource
 import tempfile
 import unittest
 import unittest.mock
@@ -429,6 +430,19 @@ class CommandTest(unittest.TestCase):
         path = self.file("I.1.book", I_1)
         for words in (["--only", "X", path], ["--at", "I.1", "99", path], ["--at", "I.1", "x", path], [path, path[:-5] + "x"]):
             self.assertIn(self.run_main("fill", *words)[0], (2, 3), words)
+
+
+class Memory(unittest.TestCase):
+    def test_the_limit_is_said_and_given_back(self) -> None:
+        before = resource.getrlimit(resource.RLIMIT_AS)
+        with tempfile.TemporaryDirectory() as folder:
+            book = Path(folder) / "one.book"
+            book.write_text(I_1, encoding="ascii")
+            said = io.StringIO()
+            with unittest.mock.patch("euclid.commands.fill.fill", side_effect=MemoryError), redirect_stderr(said):
+                status = main(["fill", str(book)])
+        self.assertEqual((status, said.getvalue()), (4, "euclid: out of memory, at 2048 MB\n"))
+        self.assertEqual(resource.getrlimit(resource.RLIMIT_AS), before)
 
 
 if __name__ == "__main__":
