@@ -131,10 +131,13 @@ def number_of(word: str) -> int:
 
 def put(found: FilledBooks, args: argparse.Namespace) -> None:
     """Writes the books, and sketches into which a use of a theorem was put."""
+    unfinished = found.unfinished()
     for path, text in [*found.texts.items(), *(sketches_of(found).items() if args.write else [])]:
         if path == STREAM or not args.write:
             if not args.json:
                 sys.stdout.buffer.write(text.encode("latin-1"))
+        elif path in unfinished and path.is_file():
+            print(f"euclid: {shown(path)} stays as it is: its sketch is not filled whole", file=sys.stderr)
         elif not path.is_file() or path.read_bytes() != text.encode("latin-1"):
             exchange(path, text)
             if not args.json:

@@ -50,12 +50,16 @@ def run(args: argparse.Namespace) -> int:
 
 
 def put(found: StrippedBooks, is_write: bool) -> None:
-    """Writes the books or their sketches."""
+    """Writes the books or their sketches; a sketch of a book that is not accepted whole stays as it is."""
+    unstripped = {found.library.place(item.first).path.resolve() for item in found.left}
     for path, text in found.texts.items():
         if path == STREAM or not is_write:
             sys.stdout.buffer.write(text.encode("latin-1"))
             continue
         sketch = path.with_suffix(SUFFIX)
+        if sketch.is_file() and path.resolve() in unstripped:
+            print(f"euclid: {shown(sketch)} stays as it is: its book is not accepted whole", file=sys.stderr)
+            continue
         if not sketch.is_file() or sketch.read_bytes() != text.encode("latin-1"):
             exchange(sketch, text)
             print(shown(sketch))

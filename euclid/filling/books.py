@@ -50,6 +50,13 @@ class FilledBooks:
         """Whether what was put into a theorem stays."""
         return self.filled[title].is_whole() and title not in self.refused
 
+    def unfinished(self) -> set[Path]:
+        """The books whose sketches could not be filled whole: they are better than what would be written."""
+        starts = [(file.start, file.path) for file in self.library.files]
+        lacking = [each.theorem.first for title, each in self.filled.items() if not self.stays(title)]
+        homes = {max(start for start in starts if start[0] <= first)[1] for first in lacking}
+        return homes & set(self.pieces)
+
     def messages(self) -> list[Message]:
         """What does not read, what was not found, and what is refused all the same."""
         found = self.faults()

@@ -2,11 +2,15 @@
 
 from __future__ import annotations
 
+import io
 import re
+import tempfile
 import unittest
+from contextlib import redirect_stderr, redirect_stdout
 from pathlib import Path
 
 from euclid.answers import check
+from euclid.cli import main
 from euclid.filling.engine import fill_theorem
 from euclid.filling.sketches import partings
 from euclid.library import load
@@ -67,6 +71,36 @@ class PartingTest(unittest.TestCase):
         self.assertEqual([each.text for each in partings(SKETCH, BOOK + other)], ["`U` is not in the sketch"])
         both = [each.text for each in partings(SKETCH + other, other + SKETCH)]
         self.assertEqual(both, ["the theorems come in another order"])
+
+
+class KeepingTest(unittest.TestCase):
+    """What cannot be filled or stripped is never written over what there is."""
+
+    def run_command(self, *words: str) -> str:
+        """What a command says of what is wrong."""
+        said = io.StringIO()
+        with redirect_stdout(io.StringIO()), redirect_stderr(said):
+            main(list(words))
+        return said.getvalue()
+
+    def test_a_book_whose_sketch_cannot_be_filled_stays(self) -> None:
+        with tempfile.TemporaryDirectory() as folder:
+            book, sketch = Path(folder) / "t.book", Path(folder) / "t.sketch"
+            book.write_text(BOOK, encoding="ascii")
+            sketch.write_text(SKETCH.replace("seg a b < seg a c\nproof", "seg a c < seg a b\nproof"), encoding="ascii")
+            self.assertIn("t.book stays as it is", self.run_command("fill", "--write", str(book)))
+            self.assertEqual(book.read_text(encoding="ascii"), BOOK)
+            sketch.write_text(SKETCH, encoding="ascii")
+            self.assertNotIn("stays as it is", self.run_command("fill", "--write", str(book)))
+            self.assertNotEqual(book.read_text(encoding="ascii"), BOOK)
+
+    def test_a_sketch_whose_book_is_not_accepted_stays(self) -> None:
+        with tempfile.TemporaryDirectory() as folder:
+            book, sketch = Path(folder) / "t.book", Path(folder) / "t.sketch"
+            book.write_text(BOOK.replace("  by b1b a b c : a != b\n", ""), encoding="ascii")
+            sketch.write_text(SKETCH, encoding="ascii")
+            self.assertIn("t.sketch stays as it is", self.run_command("strip", "--write", str(book)))
+            self.assertEqual(sketch.read_text(encoding="ascii"), SKETCH)
 
 
 class PageTest(unittest.TestCase):
