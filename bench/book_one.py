@@ -1,9 +1,10 @@
-"""Writes Book I of library/ in another form, to standard output: `lean` or `blanks`.
+"""Writes Book I of library/ in another form, to standard output: `lean`, `blanks` or `most-blanks`.
 
 `lean` leaves out the steps that idle.txt names: without them the program finds by itself what the later lines need. `blanks` leaves an
 argument of `apply` that is a line or a circle blank, at most six on a line from the last on, but at the steps of KEPT, where the least
-choice is another. `idle PROGRAM` writes idle.txt anew, in some minutes: going back through each theorem it tries to leave each `by` and
-`hence` out.
+choice is another. `most-blanks` leaves each argument blank that found.txt names, points too: from the last on, at most six on a line,
+those for which the program finds the same choice within a second. `idle PROGRAM` writes idle.txt anew, in some minutes: going back through
+each theorem it tries to leave each `by` and `hence` out. `found PROGRAM` writes found.txt anew.
 """
 
 import os
@@ -17,6 +18,7 @@ import join  # noqa: E402
 HERE = os.path.dirname(os.path.abspath(__file__))
 BOOK = f"{HERE}/../library/book-1"
 IDLE = f"{HERE}/idle.txt"
+FOUND = f"{HERE}/found.txt"
 STEPS = {"by", "hence", "let", "apply", "claim", "superpose", "qed", "contradiction", "cases"}
 KEPT = {("I.30.pts", 16), ("I.47", 8), ("meets.parallel", 6)}
 MOST_BLANKS = 6
@@ -68,20 +70,39 @@ def blanks():
             yield line
 
 
-def is_accepted(program, parts):
+def most_blanks():
+    with open(FOUND, encoding="ascii") as found:
+        blank = {(title, int(step)): set(map(int, places)) for title, step, *places in map(str.split, found)}
+    for title, lines in theorems():
+        for line, words, step in lines:
+            places = blank.get((title, step), set()) if words[0] == "apply" else set()
+            yield " ".join("_" if i in places else word for i, word in enumerate(words)) + "\n" if places else line
+
+
+def checked(program, parts, seconds=None):
+    """The lines that the program answers of these theorems."""
     text = "".join(line for part in parts for line, _, _ in part).encode()
-    out = subprocess.run([program, "check"], input=text, stdout=subprocess.PIPE, check=False).stdout
-    return out.splitlines()[-1].startswith(b"accepted")
+    out = subprocess.run([program, "check"], input=text, stdout=subprocess.PIPE, check=False, timeout=seconds).stdout
+    return out.decode("ascii").splitlines()
 
 
-def idle(program):
-    """Lines of a title and the steps that can be left out, all at once. Before a theorem stand those that it stands on, as they are."""
+def is_accepted(program, parts):
+    return checked(program, parts)[-1].startswith("accepted")
+
+
+def with_those_below():
+    """Each theorem's title and lines, and the theorems that it stands on."""
     whole, below = {}, {}
     for title, lines in theorems():
         used = [words[1] for _, words, step in lines if step and words[0] == "apply"]
         wanted = set(used).union(*(below[name] for name in used))
         whole[title], below[title] = lines, wanted
-        before = [whole[name] for name in whole if name in wanted]
+        yield title, lines, [whole[name] for name in whole if name in wanted]
+
+
+def idle(program):
+    """Lines of a title and the steps that can be left out, all at once. Before a theorem stand those that it stands on, as they are."""
+    for title, lines, before in with_those_below():
         kept, gone = lines, []
         for line in reversed(lines):
             if line[2] and line[1][0] in ("by", "hence"):
@@ -93,7 +114,32 @@ def idle(program):
             yield " ".join([title, *map(str, reversed(gone))]) + "\n"
 
 
-FORMS = {"lean": lean, "blanks": blanks, "idle": idle}
+def found(program):
+    """Lines of a title, a step and the places of its words that can be blank together: the derivation of the theorem stays."""
+    for title, lines, before in with_those_below():
+        theorem = list(lines)
+        wanted = checked(program, [*before, theorem])[:-1]
+        for at, (line, words, step) in enumerate(lines):
+            if not step or words[0] != "apply":
+                continue
+            end = words.index("as") if "as" in words else len(words)
+            places = []
+            for place in range(end - 1, 1, -1):
+                if len(places) == MOST_BLANKS:
+                    break
+                tried = ["_" if i in (*places, place) else word for i, word in enumerate(words)]
+                theorem[at] = (" ".join(tried) + "\n", tried, step)
+                try:
+                    if checked(program, [*before, theorem], 1.0)[:-1] == wanted:
+                        places.append(place)
+                except subprocess.TimeoutExpired:
+                    pass
+            theorem[at] = (line, words, step)
+            if places:
+                yield " ".join([title, str(step), *map(str, sorted(places))]) + "\n"
+
+
+FORMS = {"lean": lean, "blanks": blanks, "most-blanks": most_blanks, "idle": idle, "found": found}
 
 
 if __name__ == "__main__":

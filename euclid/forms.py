@@ -97,9 +97,22 @@ def parse_let(words: list[str], sorts: Sorts) -> LetParts:
     if "avoid" in words:
         fitting = [each for each in fitting if each.takes_avoid]
     if not fitting:
-        raise malformed("no construction has this form: `let p on L`, `let L line a b`, "
-                        "`let A circle a b`, `let p meet L M` and others", 1)
+        raise malformed(f"no construction has this form: there are {', '.join(near_forms(body))} and others", 1)
     return fit(fitting, words, body, avoided, sorts)
+
+
+def near_forms(words: list[str]) -> list[str]:
+    """The forms of `let` that have most of the words of a line, of these the ones of about its length; else plain ones."""
+    def shared(construction: Construction) -> int:
+        return sum(len(word) > 1 and word in words for word in construction.pattern)
+
+    all_of_them = tables().constructions
+    most = max(map(shared, all_of_them))
+    if most == 0:
+        return ["`let p on L`", "`let L line a b`", "`let A circle a b`", "`let p meet L M`"]
+    found = [each for each in all_of_them if shared(each) == most]
+    found.sort(key=lambda each: abs(len(each.new) + len(each.pattern) + 1 - len(words)))
+    return [f"`{each.line}`" for each in found[:3]]
 
 
 def fits_words(construction: Construction, words: list[str]) -> bool:

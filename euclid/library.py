@@ -221,6 +221,8 @@ class Loader:
         unknown = set(data) - {"title", "needs", "files"}
         if unknown:
             raise Faulty(shown(page), f"no entry is named {min(unknown)}", line_with(text, min(unknown)))
+        if not any(found.values()):
+            raise Faulty(shown(page), "a library has `files`, or `needs` other libraries")
         title = data.get("title", folder.name)
         if (folder, str(title)) not in self.library.titles:
             self.library.titles.append((folder, str(title)))

@@ -41,7 +41,8 @@ def ground_lines(ground: Ground, found: Explained, with_words: bool) -> list[str
         return lines + ["  " + text for part in ground.parts for text in ground_lines(part, found, with_words)]
     lines = [beside(said, "by arithmetic")]
     for added in ground.sums:
-        lines.append(f"  {f'where {added.case}, ' if added.case else ''}{added.says} is the sum of")
+        end = "is the sum of" if added.addends else "holds of itself"
+        lines.append(f"  {f'where {added.case}, ' if added.case else ''}{added.says} {end}")
         lines += [f"    {beside(addend.says, addend_words(addend, found))}" for addend in added.addends]
     return lines
 

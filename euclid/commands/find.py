@@ -12,7 +12,7 @@ from ..script import Theorem
 from ..syntax import Fault
 from ..targets import Opened, add_json, add_paths, opened
 
-HELP = """Finds theorems by what they show.
+HELP = """Finds theorems by what they show, or one by its title.
 
 A pattern is a literal: `_` in it is any object, and another name is one object wherever it comes.
 With `;` between two a theorem has to show all of them. What says the same is found too: terms in
@@ -20,20 +20,25 @@ another order, equations with their sides exchanged, `b != a` for `a != b`.
 
 example: euclid find 'ang a b c = ang a c b' library/book-1
 example: euclid find 'meets _ _' library
+example: euclid find I.47 library/book-1
 """
 
 
 def arguments(parser: argparse.ArgumentParser) -> None:
     """The words of the command."""
-    parser.add_argument("pattern", metavar="PATTERN", help="a literal, or several with `;` between them")
+    parser.add_argument("pattern", metavar="PATTERN", help="a literal, or several with `;` between them; or a title")
     add_json(parser)
     add_paths(parser)
 
 
 def run(args: argparse.Namespace) -> int:
     """Looks through all theorems of the books, and of those that they need."""
-    patterns = patterns_of(args.pattern)
     here = opened(args.paths)
+    theorem = here.book.theorem(args.pattern)
+    if theorem is not None:
+        tell_one(here, theorem, theorem.statement.shown, args.json)
+        return ACCEPTED
+    patterns = patterns_of(args.pattern)
     count = 0
     for theorem in here.book.theorems():
         found = all_match(patterns, theorem.statement.shown)
@@ -50,7 +55,7 @@ def patterns_of(text: str) -> list[Literal]:
     try:
         return parse_patterns(text)
     except Fault as fault:
-        raise WrongUse(f"`{text}` is no pattern: {fault.message}") from None
+        raise WrongUse(f"`{text}` is neither a title nor a pattern: {fault.message}") from None
 
 
 def tell_one(here: Opened, theorem: Theorem, found: list[Literal], is_json: bool) -> None:

@@ -87,7 +87,7 @@ class BadInput(unittest.TestCase):
 
     def test_unreadable_bytes_of_config(self) -> None:
         for data in (b"\xff\xfe", b"files = [\n", b"files = 1\n", b'files = ["a.book"]\n', b'needs = ["nowhere"]\n',
-                     b'colour = "red"\n', b"files = [1]\n"):
+                     b'colour = "red"\n', b"files = [1]\n", b"", b'title = "None"\n'):
             self.put("lib/book.toml", data)
             self.each(self.folder / "lib", {FAULTY})
 

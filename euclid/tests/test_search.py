@@ -94,7 +94,13 @@ class Find(BookOne):
         for pattern in ("on a", "", "a b", "seg a b", "not", "; ;", "on on on", "seg a b = ang a b c"):
             done = inside("find", pattern, BOOK)
             self.assertEqual(done.status, 3, pattern)
-            self.assertIn("is no pattern", done.stderr)
+            self.assertIn("is neither a title nor a pattern", done.stderr)
+
+    def test_a_title(self) -> None:
+        done = inside("find", "I.5.base", BOOK)
+        self.assertEqual((done.status, done.stdout.count("\n")), (0, 3))
+        self.assertIn(": I.5.base a b c L\n", done.stdout)
+        self.assertEqual(inside("find", "I.5.bases", BOOK).status, 3)
 
     def test_blanks_are_different(self) -> None:
         first, = parse_patterns("between _ _ _")
