@@ -44,7 +44,7 @@ def rows():
         for size in (10, 20, 30, 40):
             yield grown(shape, size, "unlicensed T 1")
     yield Row("Book I", 93, ["check"], BOOK, "accepted 93", True)
-    for form in ("lean", "blanks"):
+    for form in ("lean", "blanks", "most-blanks"):
         yield Row(f"Book I, {form}", 93, ["check"], script("book_one.py", form), "accepted 93")
     yield Row("Books I to IV", THEOREMS, ["check"], BOOKS, f"accepted {THEOREMS}")
     for kind in range(REFUSED):
