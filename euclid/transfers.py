@@ -129,37 +129,68 @@ def joined(bound: Bound, places: Sequence[int], objects: Sequence[int]) -> Bound
     return new
 
 
+class Variable(NamedTuple):
+    """An open variable of a rule, and the literals that restrict it: of each the predicate, the place
+    of the variable in it, and the variables at its other places."""
+
+    place: int
+    sort: Sort
+    sets: tuple[tuple[int, int, tuple[int, ...]], ...]
+
+
+class Plan:
+    """The order in which the variables of some literals of diagrams are bound."""
+
+    def __init__(self, sorts: tuple[Sort, ...], patterns: tuple[Pattern, ...]) -> None:
+        self.sorts, self.patterns = sorts, patterns
+        self.known: dict[int, tuple[Variable, ...]] = {}
+
+    def open(self, bound: int) -> tuple[Variable, ...]:
+        """The open variables, where some are bound (a set: one bit for each)."""
+        if bound not in self.known:
+            self.known[bound] = tuple(self.variable(place, bound) for place in range(len(self.sorts))
+                                      if not bound >> place & 1)
+        return self.known[bound]
+
+    def variable(self, place: int, bound: int) -> Variable:
+        """One of them."""
+        ready = [each for each in self.patterns if place in each.places
+                 and all(other == place or bound >> other & 1 for other in each.places)]
+        sets = [(each.predicate ^ 1, each.places.index(place), tuple(other for other in each.places if other != place))
+                for each in ready]
+        return Variable(place, self.sorts[place], tuple(sets))
+
+    def rest(self, bound: int, objects: list[int], closure: Closure) -> Iterator[list[int]]:
+        """All ways to bind the open variables, the one with the fewest objects first."""
+        variables = self.open(bound)
+        if not variables:
+            yield list(objects)
+            return
+        best, chosen, fewest, tables = variables[0], 0, -1, closure.places
+        for variable in variables:
+            left = closure.objects[variable.sort]
+            for predicate, at, others in variable.sets:
+                index = objects[others[0]]
+                left &= tables[predicate][at][index if len(others) == 1 else index << 6 | objects[others[1]]]
+            if fewest < 0 or left.bit_count() < fewest:
+                best, chosen, fewest = variable, left, left.bit_count()
+        while chosen:
+            objects[best.place] = (chosen & -chosen).bit_length() - 1
+            chosen &= chosen - 1
+            yield from self.rest(bound | 1 << best.place, objects, closure)
+
+
+plan = lru_cache(maxsize=None)(Plan)
+
+
 def solutions(rule: Transfer, bound: Bound, skipped: Pattern | SumPattern, closure: Closure) -> Iterator[list[int]]:
     """All ways to bind the other variables so that the other literals of diagrams are false."""
     patterns = [pattern for pattern in rule.patterns if pattern is not skipped]
     done = [pattern for pattern in patterns if bound.keys() >= set(pattern.places)]
     if not all(closure.knows(coded(pattern, bound) ^ SIGN) for pattern in done):
         return
-    if len(bound) == len(rule.sorts):
-        yield [bound[place] for place in range(len(rule.sorts))]
-        return
-    place, objects = narrowest(rule, patterns, bound, closure)
-    while objects:
-        number = (objects & -objects).bit_length() - 1
-        objects &= objects - 1
-        yield from solutions(rule, {**bound, place: number}, skipped, closure)
-
-
-def narrowest(rule: Transfer, patterns: list[Pattern], bound: Bound, closure: Closure) -> tuple[int, int]:
-    """The open variable with the fewest objects left, and the set of these."""
-    best, best_objects = -1, 0
-    for place, sort in enumerate(rule.sorts):
-        if place in bound:
-            continue
-        objects = closure.objects[sort]
-        for pattern in patterns:
-            if place in pattern.places and bound.keys() >= set(pattern.places) - {place}:
-                at = pattern.places.index(place)
-                others = [bound[other] for i, other in enumerate(pattern.places) if i != at]
-                objects &= closure.beside(pattern.predicate ^ 1, at, others)
-        if best < 0 or objects.bit_count() < best_objects.bit_count():
-            best, best_objects = place, objects
-    return best, best_objects
+    objects = [bound.get(place, 0) for place in range(len(rule.sorts))]
+    yield from plan(rule.sorts, tuple(patterns)).rest(sum(1 << place for place in bound), objects, closure)
 
 
 def instance(rule: Transfer, objects: Sequence[int], item: Coded, skipped: Pattern | SumPattern) -> Instance | None:

@@ -6,7 +6,7 @@ theorem. A use stands before the outermost block that it can.
 
 from __future__ import annotations
 
-from collections.abc import Callable
+from collections.abc import Callable, Iterable
 from dataclasses import dataclass
 from functools import partial
 
@@ -14,7 +14,7 @@ from ..codes import Coded, Comparison, coded, encode, sum_at
 from ..magnitudes import follows
 from ..reach import POINTS_EQUAL, Reach
 from ..statements import Known
-from .candidates import EFFORTS, SIMPLEX, Candidates, TooMuch
+from .candidates import EFFORTS, Candidates, TooMuch, mirrored
 from .page import Page
 from .supply import Supplier
 from .theorems import Catalogue, Use
@@ -22,6 +22,7 @@ from .theorems import Catalogue, Use
 MOST_TRIED, MOST_GOOD = 12, 5  # uses that are tried, and good ones among which one is chosen
 MOST_TRIED_OPEN = 4
 Reached = Callable[[], bool]
+Place = tuple[int, Coded | None]  # a step, and what it needs
 
 
 @dataclass(frozen=True)
@@ -45,25 +46,34 @@ class Applier:
         self.closure = reach.closure
         self.candidates = Candidates(catalogue, known, reach, supplier)
         self.written: list[str] = []  # the lines that were put in
-        self.first: Use | None = None  # the use to put in where one is needed first
-        self.others: list[Use] | None = None  # those that would have done there
+        self.at: Place | None = None  # where one was needed first
+        self.first: Use | None = None  # the use to put in there
+        self.others: list[Use] = []  # those that would have done there
         self.good: list[Good] = []  # what was found at the last place
         self.ways = 3  # how many ways are tried
         self.way = self.from_way = 0  # the way that was successful; the first one to be tried
 
-    def need(self, item: Coded | None, as_fact: bool = False) -> bool:
+    def need(self, place: Place, as_fact: bool = False) -> bool:
         """Makes a literal allowed, or for None the facts absurd, by one theorem."""
-        reached = partial(self.reached, item, as_fact)
-        if self.first and not self.written:
-            return self.put(self.first) and reached()
-        good = [each.use for each in self.best(item, reached, MOST_GOOD)]
-        if not good:
-            return False
-        if not self.written:
-            self.others = good[1:]
-            self.from_way = 0
-        self.put(good[0])
-        return reached()
+        reached = partial(self.reached, place[1], as_fact)
+        if self.written:
+            uses = self.uses(place[1], reached)[:1]
+        elif self.first is None:
+            uses = self.uses(place[1], reached)
+            self.at, self.from_way = place, 0
+            self.first, self.others = (uses[0], uses[1:]) if uses else (None, [])
+        else:
+            uses = [self.first]
+        return bool(uses) and self.put(uses[0]) and reached()
+
+    def uses(self, item: Coded | None, reached: Reached, most: int = MOST_GOOD, all_ways: bool = False) -> list[Use]:
+        """The best uses, found with all that magnitudes may say of the diagram."""
+        def find() -> bool:
+            self.supplier.harvest_all()
+            return bool(self.best(item, reached, most, all_ways))
+
+        self.supplier.tried(find)
+        return [each.use for each in self.good]
 
     def reached(self, item: Coded | None, as_fact: bool) -> bool:
         """Makes it allowed without a theorem."""
@@ -77,16 +87,16 @@ class Applier:
         found = self.candidates
         found.start()
         self.good = []
-        late: list[Use] = []
+        seen: dict[Use, None] = {}
         try:
             for found.nodes, found.share in EFFORTS:
-                found.cut = False
+                found.is_first, found.cut = found.nodes == EFFORTS[0][0], False
                 for number in range(self.from_way, self.ways):
-                    uses = self.by_way(number, item)
-                    late += [use for use in uses if use.open]
-                    known = {each.use for each in self.good}
-                    ready = [use for use in uses if not use.open and use not in known]
-                    self.try_all(ready, reached, most)
+                    uses = [use for use in self.by_way(number, item) if use not in seen]
+                    seen |= dict.fromkeys(uses)
+                    self.supplier.is_deep = False
+                    self.try_all((use for use in uses if not use.open), reached, most)
+                    self.supplier.is_deep = True
                     if len(self.good) >= (most if all_ways else 1):
                         self.way = number
                         return self.good
@@ -94,8 +104,11 @@ class Applier:
                     break
         except TooMuch:
             found.gave_up = True
-        if not self.good:
-            self.try_all(late, reached, 1, MOST_TRIED_OPEN)
+        finally:
+            self.supplier.is_deep = True
+        for is_open in (True, False):
+            if not self.good:
+                self.try_all((use for use in seen if bool(use.open) == is_open), reached, 1, MOST_TRIED_OPEN)
         return self.good
 
     def by_way(self, number: int, item: Coded | None) -> list[Use]:
@@ -104,28 +117,19 @@ class Applier:
             return self.candidates.showing(item)
         if number == 1:
             return self.candidates.tied(item)
-        return self.candidates.drawing(item, self.draws)
+        return self.candidates.drawing(item)
 
-    def try_all(self, uses: list[Use], reached: Reached, most: int, most_tried: int = MOST_TRIED) -> None:
-        """Adds those of some candidates with which it is reached, up to so many in all."""
+    def try_all(self, uses: Iterable[Use], reached: Reached, most: int, most_tried: int = MOST_TRIED) -> None:
+        """Adds those of some candidates with which it is reached, up to so many in all. Of those that
+        show the same by one theorem only the plainest is tried."""
         start = len(self.good)
-        for use in sorted(set(uses), key=Use.key)[: max(most_tried, 2 * (most - start))]:
+        for use in ideas(uses)[: max(most_tried, 2 * (most - start))]:
             lines = self.attempt(lambda: self.put(use) and reached())
             if lines is not None:
                 self.good.append(Good(use, lines))
                 if len(self.good) >= most:
                     break
         self.good[start:] = sorted(self.good[start:], key=Good.key)
-
-    def draws(self, use: Use, code: int) -> bool:
-        """Whether the diagram shows a literal with what a use shows of it."""
-        def is_known() -> bool:
-            for pattern in use.shape.shown:
-                self.reach.add(coded(pattern, use.objects))
-            return self.closure.reach(code)
-
-        self.candidates.spend(SIMPLEX)
-        return self.attempt(is_known) is not None
 
     def put(self, use: Use) -> bool:
         """Writes the use with the lines that it needs."""
@@ -176,18 +180,24 @@ class Applier:
                                             in zip(use.shape.sorts, use.objects))])
 
     def attempt(self, action: Callable[[], bool]) -> list[str] | None:
-        """The lines that an action writes, or None where it fails; all is undone. Where blocks are
-        open only the number of the lines counts."""
-        closure, page = self.closure, self.page
-        mark = self.reach.mark()
-        closure.level -= 1
-        facts, sums, written = dict(closure.facts), dict(self.reach.metric), len(self.written)
-        lines, openings = list(page.lines), list(page.openings)
+        """The lines that an action writes, or None where it fails; all is undone."""
+        written = len(self.written)
         try:
-            return [line.text for line in page.lines[len(lines) :]] if action() else None
+            return self.supplier.tried(action)
         finally:
-            closure.facts = facts
-            self.reach.back_to(mark)
-            self.reach.metric = sums
-            page.lines[:], page.openings[:] = lines, openings
             del self.written[written:]
+
+
+def ideas(uses: Iterable[Use]) -> list[Use]:
+    """The plainest of the uses that show the same by one theorem, the plainest of all first."""
+    found: dict[tuple[object, ...], Use] = {}
+    for use in sorted(set(uses), key=Use.key):
+        found.setdefault(idea(use), use)
+    return list(found.values())
+
+
+def idea(use: Use) -> tuple[object, ...]:
+    """A theorem and what it shows: the same for its objects in another order."""
+    shape = use.shape
+    diagram = {min(mirrored(coded(pattern, use.objects))) for pattern in shape.shown}
+    return shape.title, frozenset(diagram), frozenset(sum_at(pattern, use.objects) for pattern in shape.shown_sums)

@@ -9,21 +9,21 @@ All limits count work, not time, so what is found does not depend on the machine
 
 from __future__ import annotations
 
-from collections.abc import Callable, Iterable, Iterator
+from collections.abc import Iterable, Iterator
 
-from ..codes import KINDS, RIGHT, SIGN, Coded, Comparison, Pattern, Quantity, coded, decode, negated, sum_at
-from ..literals import POINT, Sort
-from ..magnitudes import System, follows
+from ..codes import KINDS, RIGHT, SIGN, Coded, Comparison, Quantity, SumPattern, coded, decode, negated, sum_at
 from ..reach import Reach
 from ..statements import Known
 from ..transfers import Bound, instances, matches, placed, placed_at
-from .joining import Join
+from .deciding import Decider
+from .joining import Join, Lead
+from .nearest import near_ways
 from .supply import Supplier
 from .theorems import Catalogue, Shape, Use
-from .ties import Ties, are_multiples
+from .ties import Ties
 
-EFFORTS = ((800, 8000), (8000, 30000))  # the work for one join, and for one theorem
-MOST_WORK = 300000  # for one literal: an object put at a place is one, and the simplex
+EFFORTS = ((400, 2500), (4000, 16000))  # the work for one join, and for one theorem
+MOST_WORK = 150000  # for one literal: an object put at a place is one, and the simplex
 SIMPLEX = 40
 MOST_FOUND, MOST_OPEN = 60, 1  # uses of one join; and their sums that may still be missing
 MOST_TERMS = 24  # of the last facts, where they are to be made absurd
@@ -55,17 +55,18 @@ class Candidates:
     def __init__(self, catalogue: Catalogue, known: Known, reach: Reach, supplier: Supplier) -> None:
         self.catalogue, self.known, self.reach, self.supplier = catalogue, known, reach, supplier
         self.closure = reach.closure
-        self.state: tuple[int, int, int] = (-1, -1, -1)
+        self.state: tuple[object, ...] = ()
         self.ties = Ties(reach)
         self.answers: dict[Comparison, bool] = {}
         self.nodes, self.share = EFFORTS[0]
         self.work = 0  # what is left of it
+        self.is_first = True  # whether more work may be put in later
         self.gave_up = self.cut = False  # the work was used up; a join was cut short
 
     def start(self) -> None:
         """Begins with a literal."""
         self.closure.saturate()
-        state = len(self.reach.metric), len(self.closure.trail), self.reach.scope.size()
+        state = tuple(self.reach.metric), tuple(self.closure.trail)
         if state != self.state:
             self.state, self.ties, self.answers = state, Ties(self.reach), {}
         self.work = MOST_WORK
@@ -122,25 +123,46 @@ class Candidates:
         return list(found)
 
     def tied_to(self, sought: Comparison | None, found: dict[Use, None]) -> None:
-        """Adds those for one sum."""
+        """Adds those for one sum: where it is an equation, first those that give it by one equation."""
         parts = self.tied_terms(sought)
+        if sought is not None and sought.says == "=":
+            before = len(found)
+            self.led_to(sought, parts, found)
+            self.cut |= self.is_first
+            if len(found) > before or self.is_first:
+                return
+        self.decided(sought, parts, found)
+
+    def led_to(self, sought: Comparison, parts: list[Quantity], found: dict[Use, None]) -> None:
+        """The theorems that show an equation which is true if the wanted one is, and only then."""
+        supposed = self.ties.supposing(sought)
+        lead = Lead(lambda item: supposed.equal(item) and not self.ties.equal(item), supposed)
+        for shape in self.shapes():
+            for pattern, led in zip(shape.shown_sums, shape.leads):
+                if pattern.says == "=":
+                    found.update(dict.fromkeys(self.uses(shape, touched([pattern], parts), MOST_OPEN, led, lead)))
+
+    def decided(self, sought: Comparison | None, parts: list[Quantity], found: dict[Use, None]) -> None:
+        """The theorems from all whose sums together it follows, by arithmetic."""
+        tying = [Comparison("=", frozenset({**row, part: -p}.items())) for part, (p, row) in self.ties.system.solved.items()]
+        orders = [fact for fact in self.reach.metric if fact.says != "="]
+        decider = Decider(sought, [*tying, *orders], self.reach.will_be_apart)
+        lead = Lead(decider.may_give)
         later: dict[Use, None] = {}
         try:
             for shape in self.shapes():
-                for use in self.uses(shape, touched(shape, parts)):
-                    if sought is None or not is_quick(use, sought):
-                        later[use] = None
-                    elif use not in found and self.gives_quickly(use, sought):
-                        found[use] = None
+                starts = touched(shape.shown_sums, parts)
+                led = (shape.leads[0], lead) if len(shape.leads) == 1 else (None, None)
+                later.update(dict.fromkeys(self.uses(shape, starts, MOST_OPEN, *led)))
         except TooMuch:
             if not (later or found):
                 raise
             self.gave_up = True
         self.work = max(self.work, MOST_WORK // 4)
-        verdicts: dict[frozenset[object], bool] = {}
         for use in sorted(later, key=Use.key):
-            if self.gives(use, sought, verdicts):
+            if decider.gives([sum_at(pattern, use.objects) for pattern in use.shape.shown_sums]):
                 found[use] = None
+            self.spend(1)
 
     def tied_terms(self, sought: Comparison | None) -> list[Quantity]:
         """The terms of which a sum has one if the wanted one follows by it."""
@@ -155,52 +177,37 @@ class Candidates:
             return sorted({part for parts in by_key.values() for part in parts})
         return min(by_key.values(), key=len, default=[])
 
-    def gives_quickly(self, use: Use, sought: Comparison) -> bool:
-        """Whether an equation follows from the equations that a use shows."""
-        shown = [sum_at(pattern, use.objects) for pattern in use.shape.shown_sums]
-        equations = [residue for residue in (self.ties.residue(item.form) for item in shown) if residue]
-        wanted = self.ties.residue(sought.form)
-        if any(are_multiples(residue, wanted) for residue in equations):
-            return True
-        if len(equations) < 2 or not wanted.keys() <= {part for residue in equations for part in residue}:
-            return False
-        system = System()
-        for residue in equations:
-            system.equate(residue)
-        return not system.reduced(wanted)
-
-    def gives(self, use: Use, sought: Comparison | None, verdicts: dict[frozenset[object], bool]) -> bool:
-        """Whether the wanted literal follows from the facts with what a use shows."""
-        shown = [sum_at(pattern, use.objects) for pattern in use.shape.shown_sums]
-        residues = [(item, self.ties.residue(item.form)) for item in shown]
-        new = [(item, residue) for item, residue in residues if item.says != "=" or residue]
-        key = frozenset((item.says, frozenset(residue.items())) for item, residue in new)
-        if not key:
-            return False
-        if key not in verdicts and len(verdicts) < MOST_VERDICTS:
-            tying = [Comparison("=", frozenset({**row, part: -p}.items()))
-                     for part, (p, row) in self.ties.system.solved.items()]
-            facts = [*self.reach.metric, *tying, *(item for item, _ in new)]
-            verdicts[key] = follows(sought, facts, self.reach.will_be_apart)
-            self.spend(SIMPLEX)
-        return verdicts.get(key, False)
-
     # What shows something of the diagram
 
-    def drawing(self, item: Coded | None, draws: Callable[[Use, int], bool]) -> list[Use]:
-        """The theorems that show something new of the diagram, from which it may follow."""
-        near = objects_of(item)
+    def drawing(self, item: Coded | None) -> list[Use]:
+        """The theorems that show something of the diagram from which it follows."""
         found: dict[Use, None] = {}
+        if item is None:
+            for shape in self.shapes():
+                for denial in shape.denials:
+                    found.update(dict.fromkeys(self.uses(shape, [{}], 0, denial)))
+            return list(found)
+        wanted = self.givers_of(item) if isinstance(item, int) else self.lacking_of(item)
         for shape in self.shapes():
-            for pattern in shape.shown:
-                for use in self.uses(shape, near_places(shape, pattern, near), 0):
-                    if not self.closure.knows(coded(pattern, use.objects)):
-                        found[use] = None
-        uses = sorted(found, key=Use.key)
-        if isinstance(item, int):
-            code = item
-            return [use for use in uses[:MOST_DRAWN] if draws(use, code)]
-        return uses
+            starts = [bound for code in wanted for bound in shown_as(shape, code)]
+            found.update(dict.fromkeys(self.uses(shape, starts, 0)))
+        return list(found)
+
+    def givers_of(self, code: int) -> list[int]:
+        """The literals of diagrams from each of which one follows, the nearest first: the negations of
+        all that follows from its negation."""
+        closure = self.closure
+        mark = closure.mark()
+        closure.add_fact(code ^ SIGN)
+        closure.saturate()
+        found = [each ^ SIGN for each in closure.trail[mark.known :]]
+        closure.back_to(mark)
+        return found[:MOST_DRAWN]
+
+    def lacking_of(self, item: Comparison) -> list[int]:
+        """The literals of diagrams with one of which a transfer gives a sum."""
+        lacking = dict.fromkeys(near.lacks for near in near_ways(item, self.reach, self.supplier.clock))
+        return [code for code in lacking if isinstance(code, int)][:MOST_DRAWN]
 
     # The join
 
@@ -223,12 +230,14 @@ class Candidates:
             self.answers[item] = will(item) or self.supplier.cheapest(item, will) is not None
         return self.answers[item]
 
-    def uses(self, shape: Shape, starts: Iterable[Bound], most_open: int = MOST_OPEN) -> Iterator[Use]:
-        """The uses with these objects whose given literals hold, but for some of magnitudes."""
+    def uses(self, shape: Shape, starts: Iterable[Bound], most_open: int = MOST_OPEN, narrow: Shape | None = None,
+             lead: Lead | None = None) -> Iterator[Use]:
+        """The uses with these objects whose given literals hold, but for some of magnitudes. The shape
+        of which they are may be made narrower for the join."""
         enough = self.work - self.share
         for bound in starts:
             self.spend(1)
-            join = Join(shape, self.closure, self.ties, self.holds, self.nodes, most_open)
+            join = Join(narrow or shape, self.closure, self.ties, self.holds, self.nodes, most_open, lead)
             found = 0
             for objects, still_open in join.solutions(bound):
                 found += 1
@@ -261,38 +270,13 @@ def shown_as(shape: Shape, wanted: Coded) -> Iterator[Bound]:
             yield bound
 
 
-def touched(shape: Shape, parts: list[Quantity]) -> Iterator[Bound]:
-    """Objects with which a sum that a theorem shows has one of the terms."""
+def touched(patterns: Iterable[SumPattern], parts: list[Quantity]) -> Iterator[Bound]:
+    """Objects with which one of the sums that a theorem shows has one of the terms."""
     seen = set()
-    for pattern in shape.shown_sums:
+    for pattern in patterns:
         for part in parts:
             for bound in placed(pattern, part):
                 key = tuple(sorted(bound.items()))
                 if key not in seen:
                     seen.add(key)
                     yield bound
-
-
-def is_quick(use: Use, sought: Comparison) -> bool:
-    """Whether equations are to give an equation."""
-    return sought.says == "=" and all(pattern.says == "=" for pattern in use.shape.shown_sums)
-
-
-def objects_of(item: Coded | None) -> list[tuple[Sort, int]]:
-    """The objects of a literal, with their sorts."""
-    if item is None:
-        return []
-    if isinstance(item, Comparison):
-        return sorted({(POINT, point) for part in item.quantities() for point in part[1:]})
-    kind, _, objects = decode(item)
-    return sorted(set(zip(KINDS[kind][1], objects)))
-
-
-def near_places(shape: Shape, pattern: Pattern, near: list[tuple[Sort, int]]) -> Iterator[Bound]:
-    """One of the objects put for each object of a literal that is shown."""
-    if not near:
-        yield {}
-    for place in sorted(set(pattern.places)):
-        for sort, number in near:
-            if sort == shape.sorts[place]:
-                yield {place: number}

@@ -8,7 +8,8 @@ from __future__ import annotations
 from ..clock import Clock
 from ..script import Theorem
 from ..statements import Known
-from .theorems import Catalogue
+from .applying import Applier
+from .theorems import Catalogue, Use
 from .walk import FilledTheorem, ProofFiller
 
 SECONDS = 30.0  # for one theorem
@@ -27,21 +28,29 @@ def fill_theorem(theorem: Theorem, known: Known, *, seconds: float | None = SECO
     theorem to the next. Whether the text is accepted is not said here: ask `elements`.
     """
     clock, catalogue = Clock(seconds), catalogue or Catalogue()
-    filler = ProofFiller(theorem, known, clock, catalogue, most_applied)
-    best = filler.run()
-    while best.missing and not best.stopped and filler.applier.others is not None:
-        applier = filler.applier
-        for use in applier.others or []:
-            other = ProofFiller(theorem, known, clock, catalogue, most_applied)
-            other.applier.first = use
-            result = other.run()
-            if result.is_whole():
+
+    def filler(applier: Applier | None = None, use: Use | None = None, way: int = 0) -> ProofFiller:
+        """A walk that puts in a use, or one of the ways from one on, where an earlier walk found that it has to."""
+        made = ProofFiller(theorem, known, clock, catalogue, most_applied)
+        made.is_short, made.is_again = True, applier is not None
+        if applier is not None:
+            made.applier.at, made.applier.first, made.applier.from_way = applier.at, use, way
+        return made
+
+    start = filler()
+    result = start.run()
+    applier = start.applier
+    while result.missing and not result.stopped and applier.first is not None:
+        for use in applier.others:
+            result = filler(applier, use).run()
+            if result.is_whole() or result.stopped:
                 return result
-        filler = ProofFiller(theorem, known, clock, catalogue, most_applied)
-        filler.applier.from_way = applier.way + 1
-        result = filler.run()
+        again = filler(applier, way=applier.way + 1)
+        result, applier = again.run(), again.applier
         if result.is_whole():
             return result
-        if result.stopped:
-            break
-    return best
+    if start.applier.first is None or result.is_whole():
+        return result
+    last = filler(start.applier, start.applier.first)
+    last.is_short = last.is_again = False
+    return last.run()

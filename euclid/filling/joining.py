@@ -3,11 +3,12 @@
 from __future__ import annotations
 
 from collections.abc import Callable, Iterator
+from dataclasses import dataclass
 
 from ..closure import Closure
 from ..codes import Comparison, coded, quantity, sum_at
 from ..transfers import Bound
-from .theorems import Shape, places_of
+from .theorems import Shape
 from .ties import Ties
 
 NOBODY = 64  # stands at no place
@@ -24,18 +25,28 @@ class Undo:
         self.domains: list[tuple[int, int]] = []
 
 
+@dataclass
+class Lead:
+    """What is asked of the last given sum of a shape, which is one that the theorem shows: whether it
+    may give what is wanted; and the terms that are equal where it is true, if it has to be an equation."""
+
+    may_give: Callable[[Comparison], bool]
+    ties: Ties | None = None
+
+
 class Join:
     """The objects of a theorem with which its given literals hold. Where all places but one of a
     literal of diagrams are bound, the objects that may stand there are cut down at once."""
 
     def __init__(self, shape: Shape, closure: Closure, ties: Ties, holds: Callable[[Comparison], bool], nodes: int,
-                 most_open: int) -> None:
+                 most_open: int, lead: Lead | None = None) -> None:
         self.shape, self.closure, self.ties, self.holds = shape, closure, ties, holds
+        self.lead = lead
+        self.led = len(shape.given_sums) - 1 if lead else -1
         self.nodes, self.most_open, self.open = nodes, most_open, 0
         self.bound = [FREE] * len(shape.sorts)
         self.domains = [self.closure.objects[sort] for sort in shape.sorts]
-        self.left = [len(set(pattern.places)) for pattern in shape.given]
-        self.left_sums = [len(places_of(pattern)) for pattern in shape.given_sums]
+        self.left, self.left_sums = list(shape.counts[0]), list(shape.counts[1])
 
     def solutions(self, bound: Bound) -> Iterator[tuple[tuple[int, ...], int]]:
         """All objects with these at their places; and how many given sums do not hold."""
@@ -74,25 +85,26 @@ class Join:
         fewer than so many for each place."""
         best: list[Choice] = []
         for index, pattern in enumerate(self.shape.given_sums):
-            if self.left_sums[index] < 2 or pattern.says != "=" or len(pattern.monomials) != 2:
+            ties = self.ties if index != self.led or not self.lead else self.lead.ties
+            if ties is None or self.left_sums[index] < 2 or pattern.says != "=" or len(pattern.monomials) != 2:
                 continue
             for one, other in (pattern.monomials, pattern.monomials[::-1]):
                 free = {place for place in other[2] if self.bound[place] == FREE}
                 if len(free) < 2 or any(self.bound[place] == FREE for place in one[2]):
                     continue
-                ways = self.ways(one, other)
+                ways = self.ways(one, other, ties)
                 if len(ways) < most ** len(free) and (not best or len(ways) < len(best)):
                     best = ways or [[(other[2][0], NOBODY)]]
         return best
 
-    def ways(self, one: Monomial, other: Monomial) -> list[Choice]:
+    def ways(self, one: Monomial, other: Monomial, ties: Ties) -> list[Choice]:
         """The ways to put an equal term at the second monomial."""
         if one[0] != -other[0]:
             return []
         part = quantity(one[1], [self.bound[place] for place in one[2]])
         places, ways = other[2], []
         fixed = [(n, self.bound[place]) for n, place in enumerate(places) if self.bound[place] != FREE]
-        for points in self.ties.equal_points(part, other[1]):
+        for points in ties.equal_points(part, other[1]):
             if all(points[n] == number for n, number in fixed):
                 ways.append(list(zip(places, points)))
         return ways
@@ -110,36 +122,45 @@ class Join:
             self.left_sums[index] -= 1
         if number == NOBODY or not self.domains[place] >> number & 1:
             return False
-        return all(self.may_hold(index, undo) for index in given) and all(map(self.may_be, sums))
+        for index in given:
+            if self.left[index] < 2 and not self.may_hold(index, undo):
+                return False
+        for index in sums:
+            if self.left_sums[index] == 0 and not self.may_be(index):
+                return False
+        return True
 
     def may_hold(self, index: int, undo: Undo) -> bool:
-        """Whether a given literal of the diagram may still hold; cuts down what its last open place
-        may have."""
+        """Whether a given literal of the diagram, with at most one open place, may still hold; cuts
+        down what that place may have."""
         pattern, bound = self.shape.given[index], self.bound
         if self.left[index] == 0:
             return self.closure.knows(coded(pattern, bound))
-        if self.left[index] > 1:
-            return True
-        free = [n for n, other in enumerate(pattern.places) if bound[other] == FREE]
-        if len(free) > 1:
-            return True
-        target = pattern.places[free[0]]
-        others = [bound[other] for other in pattern.places if other != target]
+        target = at = -1
+        key = 0
+        for n, place in enumerate(pattern.places):
+            if bound[place] != FREE:
+                key = key << 6 | bound[place]
+            elif at >= 0:
+                return True
+            else:
+                target, at = place, n
         old = self.domains[target]
-        new = old & self.closure.beside(pattern.predicate, free[0], others)
+        new = old & self.closure.places[pattern.predicate][at][key]
         if new != old:
             undo.domains.append((target, old))
             self.domains[target] = new
         return bool(new)
 
     def may_be(self, index: int) -> bool:
-        """Whether a given sum may hold, or not too many do not."""
+        """Whether a given sum holds all of whose places are bound, or not too many do not."""
         pattern = self.shape.given_sums[index]
-        if self.left_sums[index] == 0:
-            if not self.holds(sum_at(pattern, self.bound)):
-                self.open += 1
-                return self.open <= self.most_open
-        return True
+        if index == self.led and self.lead:
+            return self.lead.may_give(sum_at(pattern, self.bound))
+        if self.holds(sum_at(pattern, self.bound)):
+            return True
+        self.open += 1
+        return self.open <= self.most_open
 
     def undo(self, undone: list[Undo]) -> None:
         """Takes back what was bound."""
@@ -161,8 +182,11 @@ class Join:
                 continue
             given, sums = self.shape.at[place]
             cost = float(domain.bit_count())
-            if cost > 2 and any(self.left_sums[index] == 1 for index in sums):
-                cost = 1.5 + cost / 4
+            if cost > 2:
+                for index in sums:
+                    if self.left_sums[index] == 1:
+                        cost = 1.5 + cost / 4
+                        break
             cost -= 0.01 * len(given)
             if cost < best_cost:
                 best, best_cost = place, cost

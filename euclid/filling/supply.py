@@ -43,6 +43,9 @@ class Supplier:
         self.closure = reach.closure
         self.chainer = Chainer(reach)
         self.is_deep = True  # whether all is tried, also what takes long
+        self.is_lax = False  # whether sums that say something of the diagram are taken for written
+        self.kept: list[Instance] = []  # what was carried last, and where
+        self.state: tuple[object, ...] = ()
 
     def need(self, item: Coded) -> bool:
         """Makes the literal allowed."""
@@ -64,12 +67,49 @@ class Supplier:
 
     def with_harvest(self, attempt: Callable[[], bool]) -> bool:
         """Tries, and tries again with what magnitudes say of the diagram."""
-        for _ in range(HARVESTS):
+        for number in range(HARVESTS):
             if attempt():
                 return True
-            if not (self.harvest() or self.is_deep and self.harvest_chained()):
+            if self.harvest():
+                continue
+            if not self.is_deep or not (self.is_lax or self.may_help(attempt, HARVESTS - number)):
+                return False
+            if not self.harvest_chained():
                 return False
         return attempt()
+
+    def may_help(self, attempt: Callable[[], bool], rounds: int) -> bool:
+        """Whether an attempt succeeds where all that magnitudes may say of the diagram is taken for
+        true: that is quickly seen, and the sums that say it are looked for only then."""
+        def succeeds() -> bool:
+            for _ in range(rounds):
+                if not self.harvest_chained() | self.harvest():
+                    return False
+                if attempt():
+                    return True
+            return False
+
+        self.is_lax = True
+        try:
+            return self.tried(succeeds) is not None
+        finally:
+            self.is_lax = False
+
+    def tried(self, action: Callable[[], bool]) -> list[str] | None:
+        """The lines that an action writes, or None where it fails; all is undone. Where blocks are
+        open only the number of the lines counts."""
+        closure, page = self.closure, self.page
+        mark = self.reach.mark()
+        closure.level -= 1
+        facts, sums = dict(closure.facts), dict(self.reach.metric)
+        lines, openings = list(page.lines), list(page.openings)
+        try:
+            return [line.text for line in page.lines[len(lines) :]] if action() else None
+        finally:
+            closure.facts = facts
+            self.reach.back_to(mark)
+            self.reach.metric = sums
+            page.lines[:], page.openings[:] = lines, openings
 
     def harvest(self) -> bool:
         """Learns the literals of diagrams that follow from magnitudes by one transfer."""
@@ -84,8 +124,10 @@ class Supplier:
 
     def harvest_chained(self) -> bool:
         """The same, where the magnitudes follow only with sums that have to be written first."""
+        if self.is_lax:
+            return self.harvest_all()
         found = []
-        for made in islice(self.chainer.into_diagrams(), MOST_HARVESTED):
+        for made in self.carried():
             self.clock.check()
             chains = [self.chainer.chosen(item) for item in made.metric]
             if None not in chains:
@@ -95,6 +137,24 @@ class Supplier:
         for each in found:
             self.closure.add_transfer(each)
         return bool(found)
+
+    def harvest_all(self) -> bool:
+        """The same, where the sums are not looked for before the literal is."""
+        before = len(self.closure.trail), len(self.closure.clashes)
+        for made in self.carried():
+            self.closure.add_transfer(made)
+        return before != (len(self.closure.trail), len(self.closure.clashes))
+
+    def carried(self) -> list[Instance]:
+        """The transfers into the diagram whose magnitudes follow with all sums that may be written."""
+        state = (tuple(self.reach.metric), tuple(self.closure.facts), self.reach.scope.size(),
+                 tuple(made.item for made, _ in self.closure.transfers))
+        if state != self.state:
+            self.state, self.kept = state, []
+            for made in islice(self.chainer.into_diagrams(), MOST_HARVESTED):
+                self.clock.check()
+                self.kept.append(made)
+        return self.kept
 
     def hence(self, item: Coded) -> bool:
         """Writes the literal as a `hence` line."""
@@ -139,10 +199,12 @@ class Supplier:
     def need_premises(self, place: int) -> bool:
         """Makes the metric premises of a transfer into the diagram follow."""
         made = self.closure.transfers[place][0]
+        if self.is_lax:
+            return True
         if isinstance(made, Chained) and not self.write_chain(made.chain):
             return False
         assert isinstance(made, (Instance, Chained))
-        return all(map(self.need_arithmetic, made.metric))
+        return all(self.need_arithmetic(item) or self.need_chain(item) for item in made.metric)
 
     def claim(self, item: int, block: list[str]) -> bool:
         """Writes a claim of one literal with its block."""

@@ -3,7 +3,7 @@
 from __future__ import annotations
 
 from collections.abc import Iterable, Sequence
-from dataclasses import dataclass
+from dataclasses import dataclass, replace
 from functools import cached_property
 
 from ..codes import Pattern, SumPattern, pattern_of, sum_of
@@ -24,11 +24,27 @@ class Shape:
     shown_sums: tuple[SumPattern, ...]
 
     @cached_property
+    def leads(self) -> list[Shape]:
+        """The same with one of the sums that it shows behind its given ones, for each of them."""
+        return [replace(self, given_sums=(*self.given_sums, pattern)) for pattern in self.shown_sums]
+
+    @cached_property
+    def denials(self) -> list[Shape]:
+        """The same with the negation of one of the literals of diagrams that it shows given, for each."""
+        return [replace(self, given=(*self.given, Pattern(pattern.predicate ^ 1, pattern.places)))
+                for pattern in self.shown]
+
+    @cached_property
     def at(self) -> list[tuple[list[int], list[int]]]:
         """For each place the numbers of the given literals that have it, and of the given sums."""
         return [([n for n, pattern in enumerate(self.given) if place in pattern.places],
                  [n for n, pattern in enumerate(self.given_sums) if place in places_of(pattern)])
                 for place in range(len(self.sorts))]
+
+    @cached_property
+    def counts(self) -> tuple[list[int], list[int]]:
+        """How many places each given literal has, and each given sum."""
+        return [len(set(each.places)) for each in self.given], [len(places_of(each)) for each in self.given_sums]
 
 
 @dataclass(frozen=True, slots=True)

@@ -86,6 +86,8 @@ class ProofFiller:
         self.supplier = Supplier(self.reach, self.page, clock)
         self.applier = Applier(catalogue or Catalogue(), known, self.reach, self.page, self.supplier)
         self.most_applied = most_applied  # how many theorems may be put in
+        self.is_short = self.is_again = False  # whether it ends with the first literal that is missing beside
+        # a theorem that was put in; whether with the first one
         self.filled: dict[int, list[str]] = {}  # the arguments of `apply` steps with blanks
         self.others: dict[int, list[str]] = {}  # other arguments, where the blanks may mean these as well
         self.place = 0  # of the author's next line
@@ -148,20 +150,28 @@ class ProofFiller:
         """Writes the lines that literals need, or notes that they are missing."""
         for literal in literals:
             item = self.reach.code(literal)
-            found = self.supplier.fact(item) if as_fact else self.supplier.need(item)
-            if not found and not self.applied(item, as_fact):
+            if not self.had(step, item, as_fact):
                 self.miss(step, self.reach.spell(item), item)
 
-    def applied(self, item: Coded | None, as_fact: bool = False) -> bool:
-        """Finds a literal, or for None a contradiction, by an earlier theorem."""
+    def had(self, step: Step, item: Coded | None, as_fact: bool = False) -> bool:
+        """Makes a literal allowed, or for None the facts absurd; where it is known that this takes
+        a theorem, nothing else is tried."""
+        place = step.number, item
+        if place == self.applier.at and not self.applier.written:
+            self.supplier.harvest()
+        elif self.applier.reached(item, as_fact):
+            return True
         if len(self.applier.written) >= self.most_applied or self.missing:
             return False
-        return self.applier.need(item, as_fact)
+        return self.applier.need(place, as_fact)
 
     def miss(self, step: Step, wanted: str, item: Coded | None = None) -> None:
         """Notes what is missing, and at the first place what comes nearest."""
-        why = [] if self.missing else nearest(item, self.reach, self.clock)
+        is_last = self.is_again or self.is_short and bool(self.applier.written)
+        why = [] if self.missing or is_last else nearest(item, self.reach, self.clock)
         self.missing.append(Missing(step.line.number, step.number, wanted, why))
+        if is_last:
+            raise Stopped("")
 
     def give(self, step: Step) -> None:
         """Writes the line of a step; what it brings is in scope, what it gives are facts."""
@@ -203,7 +213,7 @@ class ProofFiller:
         elif isinstance(step, Cases):
             self.cases(step, goal)
         elif isinstance(step, Contradiction):
-            if not self.supplier.contradiction() and not self.applied(None):
+            if not self.had(step, None):
                 self.miss(step, "contradiction")
             self.keep(step)
         else:
@@ -248,7 +258,7 @@ class ProofFiller:
         text = "hence " + self.reach.spell(item)
         if self.reach.has(item):
             self.keep(step)
-        elif not self.supplier.fact(item) and not self.applied(item, True):
+        elif not self.had(step, item, True):
             self.miss(step, self.reach.spell(item), item)
             self.give(step)
         elif self.page.take_back(text):  # the line itself is what is needed
