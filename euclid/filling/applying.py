@@ -14,13 +14,13 @@ from ..codes import Coded, Comparison, coded, encode, sum_at
 from ..magnitudes import follows
 from ..reach import POINTS_EQUAL, Reach
 from ..statements import Known
-from .candidates import EFFORTS, Candidates, TooMuch, mirrored
+from .candidates import EFFORTS, Candidates, mirrored
 from .page import Page
 from .supply import Supplier
 from .theorems import Catalogue, Use
 
 MOST_TRIED, MOST_GOOD = 12, 5  # uses that are tried, and good ones among which one is chosen
-MOST_TRIED_OPEN = 4
+MOST_TRIED_OPEN, MOST_LISTED = 4, 30
 Reached = Callable[[], bool]
 Place = tuple[int, Coded | None]  # a step, and what it needs
 
@@ -66,14 +66,25 @@ class Applier:
             uses = [self.first]
         return bool(uses) and self.put(uses[0]) and reached()
 
-    def uses(self, item: Coded | None, reached: Reached, most: int = MOST_GOOD, all_ways: bool = False) -> list[Use]:
+    def uses(self, item: Coded | None, reached: Reached) -> list[Use]:
         """The best uses, found with all that magnitudes may say of the diagram."""
-        def find() -> bool:
-            self.supplier.harvest_all()
-            return bool(self.best(item, reached, most, all_ways))
-
-        self.supplier.tried(find)
+        self.with_all(lambda: self.find(item, reached))
         return [each.use for each in self.good]
+
+    def with_all(self, find: Callable[[], None]) -> None:
+        """Looks for uses with all that magnitudes may say of the diagram; they are not put in."""
+        def action() -> bool:
+            self.supplier.harvest_all()
+            self.candidates.start()
+            self.supplier.is_deep = False
+            find()
+            return False
+
+        self.good = []
+        try:
+            self.supplier.tried(action)
+        finally:
+            self.supplier.is_deep = True
 
     def reached(self, item: Coded | None, as_fact: bool) -> bool:
         """Makes it allowed without a theorem."""
@@ -81,43 +92,59 @@ class Applier:
             return self.supplier.contradiction()
         return self.supplier.fact(item) if as_fact else self.supplier.need(item)
 
-    def best(self, item: Coded | None, reached: Reached, most: int, all_ways: bool = False) -> list[Good]:
-        """The uses with which it is reached, those of the fewest lines first: all of the first way
-        that has any, or of all ways."""
+    def find(self, item: Coded | None, reached: Reached) -> None:
+        """The uses with which it is reached, those of the fewest lines first: all of the first way that
+        has any."""
         found = self.candidates
-        found.start()
-        self.good = []
         seen: dict[Use, None] = {}
-        try:
-            for found.nodes, found.share in EFFORTS:
-                found.is_first, found.cut = found.nodes == EFFORTS[0][0], False
-                for number in range(self.from_way, self.ways):
-                    uses = [use for use in self.by_way(number, item) if use not in seen]
-                    seen |= dict.fromkeys(uses)
-                    self.supplier.is_deep = False
-                    self.try_all((use for use in uses if not use.open), reached, most)
-                    self.supplier.is_deep = True
-                    if len(self.good) >= (most if all_ways else 1):
-                        self.way = number
-                        return self.good
-                if not found.cut:
-                    break
-        except TooMuch:
-            found.gave_up = True
-        finally:
-            self.supplier.is_deep = True
+        for effort in range(len(EFFORTS)):
+            found.begin(effort)
+            for number in range(self.from_way, self.ways):
+                uses = [use for use in found.by_way(number, item) if use not in seen]
+                seen |= dict.fromkeys(uses)
+                self.try_all((use for use in uses if not use.open), reached, MOST_GOOD)
+                if self.good:
+                    self.way = number
+                    return
+            if found.gave_up or not found.cut:
+                break
+        self.supplier.is_deep = True
         for is_open in (True, False):
             if not self.good:
                 self.try_all((use for use in seen if bool(use.open) == is_open), reached, 1, MOST_TRIED_OPEN)
-        return self.good
 
-    def by_way(self, number: int, item: Coded | None) -> list[Use]:
-        """The candidates of one of the three ways."""
-        if number == 0:
-            return self.candidates.showing(item)
-        if number == 1:
-            return self.candidates.tied(item)
-        return self.candidates.drawing(item)
+    def listed(self, item: Coded | None, reached: Reached, most: int) -> None:
+        """Uses by all ways with which it is reached, up to so many, the plainest first; of those of one
+        theorem at the same objects only the plainest, where there are others."""
+        def find() -> None:
+            found = self.candidates
+            for effort in range(len(EFFORTS)):
+                found.begin(effort)
+                ways = [found.by_way(number, item) for number in range(self.ways)]
+                place = {use: -number for number, uses in enumerate(reversed(ways)) for use in uses}
+                self.try_list(sorted(place, key=lambda use: (use.open, use.lines, place[use], use.key())), reached, most)
+                if self.good or found.gave_up or not found.cut:
+                    break
+
+        self.with_all(find)
+        self.good.sort(key=Good.key)
+
+    def try_list(self, uses: list[Use], reached: Reached, most: int) -> None:
+        """Adds those of some candidates, in this order but for more at the same objects."""
+        firsts: dict[tuple[object, ...], Use] = {}
+        for use in uses:
+            firsts.setdefault((use.shape.title, frozenset(zip(use.shape.sorts, use.objects))), use)
+        others = set(uses) - set(firsts.values())
+        chosen = [*firsts.values(), *(use for use in uses if use in others)]
+        is_sure = [use for use in chosen if not use.open][:MOST_LISTED]
+        for use in is_sure + [use for use in chosen if use.open][:MOST_TRIED_OPEN]:
+            if use.open and self.good:
+                return
+            lines = self.attempt(lambda: self.put(use) and reached())
+            if lines is not None:
+                self.good.append(Good(use, lines))
+                if len(self.good) >= most:
+                    return
 
     def try_all(self, uses: Iterable[Use], reached: Reached, most: int, most_tried: int = MOST_TRIED) -> None:
         """Adds those of some candidates with which it is reached, up to so many in all. Of those that

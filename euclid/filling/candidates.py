@@ -27,6 +27,7 @@ MOST_WORK = 150000  # for one literal: an object put at a place is one, and the 
 SIMPLEX = 40
 MOST_FOUND, MOST_OPEN = 60, 1  # uses of one join; and their sums that may still be missing
 MOST_TERMS = 24  # of the last facts, where they are to be made absurd
+LINKS = 2  # orders between magnitudes, one after another, with which a sum may be tied to the wanted one
 MOST_DERIVED = 6  # transfers whose sums are wanted in place of a literal of diagrams
 MOST_VERDICTS, MOST_DRAWN = 150, 100  # times that the simplex is asked, and that the diagram is
 MIRRORED = {"between": (2, 1, 0), "same-side": (1, 0, 2), "=": (1, 0), "meets": (1, 0)}
@@ -70,22 +71,36 @@ class Candidates:
         if state != self.state:
             self.state, self.ties, self.answers = state, Ties(self.reach), {}
         self.work = MOST_WORK
-        self.gave_up = False
+
+    def begin(self, effort: int) -> None:
+        """Begins with one of the efforts."""
+        self.nodes, self.share = EFFORTS[effort]
+        self.is_first = effort == 0
+        self.gave_up = self.cut = False
 
     def shapes(self) -> list[Shape]:
         """The theorems that may be used, the latest first."""
         return self.catalogue.shapes(self.known)
 
+    def by_way(self, number: int, item: Coded | None) -> list[Use]:
+        """The uses of one of the three ways; fewer where the work is used up."""
+        found: dict[Use, None] = {}
+        self.work = max(self.work, MOST_WORK // 4) if self.is_first else self.work
+        try:
+            for use in (self.showing, self.tied, self.drawing)[number](item):
+                found[use] = None
+        except TooMuch:
+            self.gave_up = True
+        return list(found)
+
     # What shows it
 
-    def showing(self, item: Coded | None) -> list[Use]:
+    def showing(self, item: Coded | None) -> Iterator[Use]:
         """The theorems that show it, or the sum with which a transfer gives it; of None, those that
         show the negation of a fact."""
-        found: dict[Use, None] = {}
         for wanted in self.targets(item):
             for shape in self.shapes():
-                found.update(dict.fromkeys(self.uses(shape, shown_as(shape, wanted))))
-        return list(found)
+                yield from self.uses(shape, shown_as(shape, wanted))
 
     def targets(self, item: Coded | None) -> list[Coded]:
         """What may be shown in place of a literal."""
@@ -110,39 +125,37 @@ class Candidates:
 
     # What is tied to it
 
-    def tied(self, item: Coded | None) -> list[Use]:
+    def tied(self, item: Coded | None) -> Iterator[Use]:
         """The theorems that show a sum from which the wanted one follows by facts."""
-        found: dict[Use, None] = {}
-        wanted: list[Comparison | None] = [None]
-        if item is not None:
-            wanted = [item] if isinstance(item, Comparison) else [*self.derived(item)]
-        for sought in wanted:
-            if sought is not None:
-                self.ties.know(sought.quantities())
-            self.tied_to(sought, found)
-        return list(found)
+        if item is None:
+            yield from self.decided(None, self.tied_terms(None))
+            return
+        for sought in [item] if isinstance(item, Comparison) else self.derived(item):
+            self.ties.know(sought.quantities())
+            yield from self.tied_to(sought)
 
-    def tied_to(self, sought: Comparison | None, found: dict[Use, None]) -> None:
-        """Adds those for one sum: where it is an equation, first those that give it by one equation."""
-        parts = self.tied_terms(sought)
-        if sought is not None and sought.says == "=":
-            before = len(found)
-            self.led_to(sought, parts, found)
+    def tied_to(self, sought: Comparison) -> Iterator[Use]:
+        """Those for one sum: where it is an equation, first those that give it by one equation."""
+        parts, is_found = self.tied_terms(sought), False
+        if sought.says == "=":
+            for use in self.led_to(sought, parts):
+                is_found = True
+                yield use
             self.cut |= self.is_first
-            if len(found) > before or self.is_first:
+            if is_found or self.is_first:
                 return
-        self.decided(sought, parts, found)
+        yield from self.decided(sought, parts)
 
-    def led_to(self, sought: Comparison, parts: list[Quantity], found: dict[Use, None]) -> None:
+    def led_to(self, sought: Comparison, parts: list[Quantity]) -> Iterator[Use]:
         """The theorems that show an equation which is true if the wanted one is, and only then."""
         supposed = self.ties.supposing(sought)
         lead = Lead(lambda item: supposed.equal(item) and not self.ties.equal(item), supposed)
         for shape in self.shapes():
             for pattern, led in zip(shape.shown_sums, shape.leads):
                 if pattern.says == "=":
-                    found.update(dict.fromkeys(self.uses(shape, touched([pattern], parts), MOST_OPEN, led, lead)))
+                    yield from self.uses(shape, touched([pattern], parts), MOST_OPEN, led, lead)
 
-    def decided(self, sought: Comparison | None, parts: list[Quantity], found: dict[Use, None]) -> None:
+    def decided(self, sought: Comparison | None, parts: list[Quantity]) -> Iterator[Use]:
         """The theorems from all whose sums together it follows, by arithmetic."""
         tying = [Comparison("=", frozenset({**row, part: -p}.items())) for part, (p, row) in self.ties.system.solved.items()]
         orders = [fact for fact in self.reach.metric if fact.says != "="]
@@ -151,18 +164,14 @@ class Candidates:
         later: dict[Use, None] = {}
         try:
             for shape in self.shapes():
-                starts = touched(shape.shown_sums, parts)
                 led = (shape.leads[0], lead) if len(shape.leads) == 1 else (None, None)
-                later.update(dict.fromkeys(self.uses(shape, starts, MOST_OPEN, *led)))
+                for use in self.uses(shape, touched(shape.shown_sums, parts), MOST_OPEN, *led):
+                    later[use] = None
         except TooMuch:
-            if not (later or found):
-                raise
             self.gave_up = True
-        self.work = max(self.work, MOST_WORK // 4)
         for use in sorted(later, key=Use.key):
-            if decider.gives([sum_at(pattern, use.objects) for pattern in use.shape.shown_sums]):
-                found[use] = None
-            self.spend(1)
+            if decider.asked < MOST_VERDICTS and decider.gives([sum_at(each, use.objects) for each in use.shape.shown_sums]):
+                yield use
 
     def tied_terms(self, sought: Comparison | None) -> list[Quantity]:
         """The terms of which a sum has one if the wanted one follows by it."""
@@ -170,28 +179,33 @@ class Candidates:
             recent = {part: None for fact in list(self.reach.metric)[::-1]
                       for part in sorted(fact.quantities()) if part != RIGHT}
             return list(recent)[:MOST_TERMS]
-        residue = self.ties.residue(sought.form)
-        by_key = {key: sorted(part for part in self.ties.terms if key in self.ties.residue([(part, 1)]))
-                  for key in sorted(residue) if key != RIGHT}
-        if sought.says != "=":
-            return sorted({part for parts in by_key.values() for part in parts})
-        return min(by_key.values(), key=len, default=[])
+        keys = sorted(self.ties.residue(sought.form))
+        if sought.says == "=":
+            by_key = [self.terms_with([key]) for key in keys if key != RIGHT]
+            return min(by_key, key=len, default=[])
+        orders = [self.ties.residue(fact.form) for fact in self.reach.metric if fact.says != "="]
+        for _ in range(LINKS):
+            linked = {key for residue in orders if not residue.keys().isdisjoint(keys) for key in residue}
+            keys += sorted(linked.difference(keys))
+        return list(dict.fromkeys(part for key in keys if key != RIGHT for part in self.terms_with([key])))
+
+    def terms_with(self, keys: list[Quantity]) -> list[Quantity]:
+        """The terms that have one of these where terms are put for each other."""
+        return sorted(part for part in self.ties.terms if not self.ties.residue([(part, 1)]).keys().isdisjoint(keys))
 
     # What shows something of the diagram
 
-    def drawing(self, item: Coded | None) -> list[Use]:
-        """The theorems that show something of the diagram from which it follows."""
-        found: dict[Use, None] = {}
+    def drawing(self, item: Coded | None) -> Iterator[Use]:
+        """The theorems that show something of the diagram from which it follows; for None, something
+        that is known to be false."""
         if item is None:
             for shape in self.shapes():
                 for denial in shape.denials:
-                    found.update(dict.fromkeys(self.uses(shape, [{}], 0, denial)))
-            return list(found)
+                    yield from self.uses(shape, [{}], 0, denial)
+            return
         wanted = self.givers_of(item) if isinstance(item, int) else self.lacking_of(item)
         for shape in self.shapes():
-            starts = [bound for code in wanted for bound in shown_as(shape, code)]
-            found.update(dict.fromkeys(self.uses(shape, starts, 0)))
-        return list(found)
+            yield from self.uses(shape, (bound for code in wanted for bound in shown_as(shape, code)), 0)
 
     def givers_of(self, code: int) -> list[int]:
         """The literals of diagrams from each of which one follows, the nearest first: the negations of

@@ -30,6 +30,7 @@ class Chainer:
 
     def __init__(self, reach: Reach) -> None:
         self.reach = reach
+        self.tester: Tester | None = None  # the last one
 
     def chosen(self, wanted: Comparison | None) -> list[Instance] | None:
         """Transfers with which the literal follows, in an order in which they may be written."""
@@ -63,7 +64,7 @@ class Chainer:
         """Transfers into the diagram whose magnitudes follow from all facts with all sums that may
         be written."""
         facts = [*self.reach.metric, *map(given, self.usable(self.candidates(None, LESS_OBVIOUS)))]
-        tester = Tester(facts, self.reach.will_be_apart)
+        self.tester = tester = Tester(facts, self.reach.will_be_apart, self.tester)
         for made in into_diagrams(tester.parts, self.reach.closure, FURTHER):
             if all(map(tester.follows, made.metric)):
                 yield made

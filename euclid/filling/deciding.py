@@ -7,12 +7,9 @@ what is shown, and the wanted sum is not. These numbers refute other uses withou
 from __future__ import annotations
 
 from collections.abc import Iterable
-from fractions import Fraction
 
 from ..codes import Comparison, Quantity
-from ..magnitudes import Apart, Form, System, is_true, negations
-
-Model = dict[Quantity, Fraction]  # numbers for terms; others are 0
+from ..magnitudes import Apart, Numbers, System, is_true, negations, value_of
 
 
 class Branch:
@@ -20,12 +17,12 @@ class Branch:
 
     def __init__(self, system: System, parts: set[Quantity], apart: Apart) -> None:
         self.system, self.parts, self.apart = system, parts, apart
-        self.models: list[Model] = []
+        self.models: list[Numbers] = []
 
     def allows(self, shown: Iterable[Comparison]) -> bool:
         """Whether a model has all of this."""
         forms = [(item.says, self.system.reduced(dict(item.form))) for item in shown]
-        return any(all(is_true(says, sign_of(form, model)) for says, form in forms) for model in self.models)
+        return any(all(is_true(says, value_of(form, model)) for says, form in forms) for model in self.models)
 
     def refutes(self, shown: list[Comparison]) -> bool:
         """Whether all of this is absurd here; else there is a new model."""
@@ -37,10 +34,7 @@ class Branch:
         numbers = None if system.broken else system.numbers()
         if numbers is None:
             return True
-        model = {part: Fraction(value) for part, value in numbers.items()}
-        for part in reversed([part for part in system.solved if part not in self.system.solved]):
-            factor, row = system.solved[part]
-            model[part] = sum((c * model.get(name, Fraction(0)) for name, c in row.items()), Fraction(0)) / factor
+        model = system.whole(numbers)
         self.models.append(model)
         return False
 
@@ -54,6 +48,7 @@ class Decider:
         base = System(facts, parts, apart)
         systems = [base.with_row(row.says, dict(row.form)) for row in negations(sought)] if sought else [base]
         self.branches = [Branch(system, parts, apart) for system in systems]
+        self.asked = 0  # how often arithmetic was
         for branch in self.branches:
             branch.refutes([])
 
@@ -63,11 +58,7 @@ class Decider:
 
     def gives(self, shown: list[Comparison]) -> bool:
         """Whether the sum follows."""
-        return (not any(branch.allows(shown) for branch in self.branches)
-                and all(branch.refutes(shown) for branch in self.branches))
-
-
-def sign_of(form: Form, model: Model) -> int:
-    """1, 0 or -1: the sign of the form in a model."""
-    value = sum((c * model.get(part, 0) for part, c in form.items()), Fraction(0))
-    return (value > 0) - (value < 0)
+        if any(branch.allows(shown) for branch in self.branches):
+            return False
+        self.asked += 1
+        return all(branch.refutes(shown) for branch in self.branches)

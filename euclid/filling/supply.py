@@ -23,7 +23,7 @@ from .page import INDENT, Page
 
 # The transfers into diagrams that have few instances: they are looked at before lines are written.
 QUICK = ("ms1", "ms2", "mr1", "ds3a", "ds4a", "da1b", "dr1a", "dr1b")
-MOST_INSTANCES, MOST_CHAINED, MOST_HARVESTED, HARVESTS = 5000, 40, 400, 3
+MOST_INSTANCES, MOST_CHAINED, MOST_HARVESTED, HARVESTS, MOST_KEPT = 5000, 40, 400, 3, 8
 
 
 class Chained(NamedTuple):
@@ -44,8 +44,7 @@ class Supplier:
         self.chainer = Chainer(reach)
         self.is_deep = True  # whether all is tried, also what takes long
         self.is_lax = False  # whether sums that say something of the diagram are taken for written
-        self.kept: list[Instance] = []  # what was carried last, and where
-        self.state: tuple[object, ...] = ()
+        self.kept: dict[tuple[object, ...], list[Instance]] = {}  # what was carried, by the facts
 
     def need(self, item: Coded) -> bool:
         """Makes the literal allowed."""
@@ -149,12 +148,15 @@ class Supplier:
         """The transfers into the diagram whose magnitudes follow with all sums that may be written."""
         state = (tuple(self.reach.metric), tuple(self.closure.facts), self.reach.scope.size(),
                  tuple(made.item for made, _ in self.closure.transfers))
-        if state != self.state:
-            self.state, self.kept = state, []
+        if state not in self.kept:
+            found = []
             for made in islice(self.chainer.into_diagrams(), MOST_HARVESTED):
                 self.clock.check()
-                self.kept.append(made)
-        return self.kept
+                found.append(made)
+            if len(self.kept) >= MOST_KEPT:
+                del self.kept[next(iter(self.kept))]
+            self.kept[state] = found
+        return self.kept[state]
 
     def hence(self, item: Coded) -> bool:
         """Writes the literal as a `hence` line."""

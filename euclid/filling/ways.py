@@ -124,7 +124,7 @@ class Finder:
                 found.ways.append(Way(plain))
                 self.applier.ways = 2  # any theorem would do for the third
             left = most - len(found.ways)
-            self.applier.best(item, lambda: self.applier.reached(item, as_fact), left, True)
+            self.applier.listed(item, lambda: self.applier.reached(item, as_fact), left)
         except OutOfTime as cause:
             found.stopped = str(cause)
         for good in self.applier.good:
