@@ -11,7 +11,8 @@ again, and of all instances that give a literal the cheapest in lines is taken: 
 A line is written before the outermost block that it can stand before (`page`), and once.
 
 `applying` puts in one use of an earlier theorem, of those that `candidates` finds with the joins of
-`joining` over `theorems`, and what `ties` makes equal; `ways` lists such uses. `strip` is the
+`joining` over `theorems`, what `ties` makes equal, and what `deciding` refutes without arithmetic;
+`ways` lists such uses. `strip` is the
 reverse. `books` and `stripping` do this for the files of a command line, and ask `elements` of the
 outcome; `sketches` compares a sketch with its book. Others use `fill_theorem` (engine.py) and
 `ways_at` (ways.py).
@@ -23,5 +24,6 @@ so it then ends soon. A line before an outer block must not name an object of th
 object has a level. `x = x` has to be known, else transfers are missed where points coincide. What a
 transfer into the diagram rests on is all known before it is added, also the sums that have to be
 written first, so that reasons never go in a circle. Limits count work, and time ends a search only
-as a failure, so the same text always gives the same lines.
+as a failure, so the same text always gives the same lines. What takes long is looked at first as if
+it were true (`Supplier.may_help`): most of it does not help then either.
 """

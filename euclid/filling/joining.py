@@ -7,6 +7,7 @@ from dataclasses import dataclass
 
 from ..closure import Closure
 from ..codes import Comparison, coded, quantity, sum_at
+from ..magnitudes import Form
 from ..transfers import Bound
 from .theorems import Shape
 from .ties import Ties
@@ -81,33 +82,31 @@ class Join:
         return self.bind(place, number, undone)
 
     def tied(self, most: float) -> list[Choice]:
-        """The ways to put a term for one of a given equation whose other term is bound, if they are
+        """The ways to put a term for the only one of a given equation that is not bound, if they are
         fewer than so many for each place."""
         best: list[Choice] = []
         for index, pattern in enumerate(self.shape.given_sums):
             ties = self.ties if index != self.led or not self.lead else self.lead.ties
-            if ties is None or self.left_sums[index] < 2 or pattern.says != "=" or len(pattern.monomials) != 2:
+            if ties is None or self.left_sums[index] == 0 or pattern.says != "=":
                 continue
-            for one, other in (pattern.monomials, pattern.monomials[::-1]):
-                free = {place for place in other[2] if self.bound[place] == FREE}
-                if len(free) < 2 or any(self.bound[place] == FREE for place in one[2]):
-                    continue
-                ways = self.ways(one, other, ties)
+            opened = [each for each in pattern.monomials if any(self.bound[place] == FREE for place in each[2])]
+            if len(opened) == 1:
+                free = {place for place in opened[0][2] if self.bound[place] == FREE}
+                ways = self.ways(opened[0], [each for each in pattern.monomials if each is not opened[0]], ties)
                 if len(ways) < most ** len(free) and (not best or len(ways) < len(best)):
-                    best = ways or [[(other[2][0], NOBODY)]]
+                    best = ways or [[(opened[0][2][0], NOBODY)]]
         return best
 
-    def ways(self, one: Monomial, other: Monomial, ties: Ties) -> list[Choice]:
-        """The ways to put an equal term at the second monomial."""
-        if one[0] != -other[0]:
-            return []
-        part = quantity(one[1], [self.bound[place] for place in one[2]])
-        places, ways = other[2], []
+    def ways(self, other: Monomial, bound: list[Monomial], ties: Ties) -> list[Choice]:
+        """The ways to put a term at one monomial, where the others are bound."""
+        form: Form = {}
+        for c, word, places in bound:
+            part = quantity(word, [self.bound[place] for place in places])
+            form[part] = form.get(part, 0) + (c if other[0] < 0 else -c)
+        places = other[2]
         fixed = [(n, self.bound[place]) for n, place in enumerate(places) if self.bound[place] != FREE]
-        for points in ties.equal_points(part, other[1]):
-            if all(points[n] == number for n, number in fixed):
-                ways.append(list(zip(places, points)))
-        return ways
+        return [list(zip(places, points)) for points in ties.points_of(form, other[1])
+                if all(points[n] == number for n, number in fixed)]
 
     def bind(self, place: int, number: int, undone: list[Undo]) -> bool:
         """Puts an object at a place; false where a given literal fails then."""
