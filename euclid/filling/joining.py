@@ -103,7 +103,7 @@ class Join:
         for c, word, places in bound:
             part = quantity(word, [self.bound[place] for place in places])
             form[part] = form.get(part, 0) + (c if other[0] < 0 else -c)
-        places = other[2]
+        form, places = {part: c for part, c in form.items() if c}, other[2]
         fixed = [(n, self.bound[place]) for n, place in enumerate(places) if self.bound[place] != FREE]
         return [list(zip(places, points)) for points in ties.points_of(form, other[1])
                 if all(points[n] == number for n, number in fixed)]
