@@ -12,8 +12,9 @@ from collections.abc import Callable, Collection, Iterator
 from .. import magnitudes
 from ..codes import KIND, SEG, Comparison, Quantity, quantity
 from ..literals import CIRCLE, POINT
-from ..magnitudes import System, Tester
+from ..magnitudes import System
 from ..reach import Reach
+from ..tester import Tester
 from ..transfers import FURTHER, Instance, into_diagrams, touching
 
 # What an author is likely to leave out, the plainest first.
