@@ -16,11 +16,12 @@ from ..reach import POINTS_EQUAL, Reach
 from ..statements import Known
 from .candidates import EFFORTS, Candidates, mirrored
 from .page import Page
-from .supply import Supplier
+from .supply import HARVESTS, Supplier
 from .theorems import Catalogue, Use
 
 MOST_TRIED, MOST_GOOD = 12, 5  # uses that are tried, and good ones among which one is chosen
 MOST_TRIED_OPEN, MOST_LISTED = 4, 30
+MOST_CHAINS = 4  # chains of sums for what uses need, where one was good already
 Reached = Callable[[], bool]
 Place = tuple[int, Coded | None]  # a step, and what it needs
 
@@ -74,7 +75,9 @@ class Applier:
     def with_all(self, find: Callable[[], None]) -> None:
         """Looks for uses with all that magnitudes may say of the diagram; they are not put in."""
         def action() -> bool:
-            self.supplier.harvest_all()
+            for _ in range(HARVESTS):
+                if not self.supplier.harvest_all() | self.supplier.harvest():
+                    break
             self.candidates.start()
             self.supplier.is_deep = False
             find()
@@ -134,11 +137,11 @@ class Applier:
         firsts: dict[tuple[object, ...], Use] = {}
         for use in uses:
             firsts.setdefault((use.shape.title, frozenset(zip(use.shape.sorts, use.objects))), use)
-        others = set(uses) - set(firsts.values())
+        others, chains = set(uses) - set(firsts.values()), self.supplier.chains
         chosen = [*firsts.values(), *(use for use in uses if use in others)]
         is_sure = [use for use in chosen if not use.open][:MOST_LISTED]
         for use in is_sure + [use for use in chosen if use.open][:MOST_TRIED_OPEN]:
-            if use.open and self.good:
+            if self.good and (use.open or self.supplier.chains - chains > 2 * MOST_CHAINS):
                 return
             lines = self.attempt(lambda: self.put(use) and reached())
             if lines is not None:
@@ -149,8 +152,10 @@ class Applier:
     def try_all(self, uses: Iterable[Use], reached: Reached, most: int, most_tried: int = MOST_TRIED) -> None:
         """Adds those of some candidates with which it is reached, up to so many in all. Of those that
         show the same by one theorem only the plainest is tried."""
-        start = len(self.good)
+        start, chains = len(self.good), self.supplier.chains
         for use in ideas(uses)[: max(most_tried, 2 * (most - start))]:
+            if self.good and self.supplier.chains - chains > MOST_CHAINS:
+                break
             lines = self.attempt(lambda: self.put(use) and reached())
             if lines is not None:
                 self.good.append(Good(use, lines))

@@ -12,6 +12,7 @@ from __future__ import annotations
 from collections.abc import Iterable, Iterator
 
 from ..codes import KINDS, RIGHT, SIGN, Coded, Comparison, Quantity, SumPattern, coded, decode, negated, sum_at
+from ..magnitudes import System
 from ..reach import Reach
 from ..statements import Known
 from ..transfers import Bound, instances, matches, placed, placed_at
@@ -22,9 +23,10 @@ from .supply import Supplier
 from .theorems import Catalogue, Shape, Use
 from .ties import Ties
 
-EFFORTS = ((400, 2500), (4000, 16000))  # the work for one join, and for one theorem
-MOST_WORK = 150000  # for one literal: an object put at a place is one, and the simplex
+EFFORTS = ((300, 1200), (3000, 10000))  # the work for one join, and for one theorem
+MOST_WORK = 100000  # for one literal: an object put at a place is one, and the simplex
 SIMPLEX = 40
+LINES_OF_SUM = 2  # about so many lines one takes that is tied to the facts
 MOST_FOUND, MOST_OPEN = 60, 1  # uses of one join; and their sums that may still be missing
 MOST_TERMS = 24  # of the last facts, where they are to be made absurd
 LINKS = 2  # orders between magnitudes, one after another, with which a sum may be tied to the wanted one
@@ -57,7 +59,7 @@ class Candidates:
         self.catalogue, self.known, self.reach, self.supplier = catalogue, known, reach, supplier
         self.closure = reach.closure
         self.state: tuple[object, ...] = ()
-        self.ties = Ties(reach)
+        self.ties, self.facts = Ties(reach), System()
         self.answers: dict[Comparison, bool] = {}
         self.nodes, self.share = EFFORTS[0]
         self.work = 0  # what is left of it
@@ -70,6 +72,7 @@ class Candidates:
         state = tuple(self.reach.metric), tuple(self.closure.trail)
         if state != self.state:
             self.state, self.ties, self.answers = state, Ties(self.reach), {}
+            self.facts = System(fact for fact in self.reach.metric if fact.says == "=")
         self.work = MOST_WORK
 
     def begin(self, effort: int) -> None:
@@ -244,6 +247,10 @@ class Candidates:
             self.answers[item] = will(item) or self.supplier.cheapest(item, will) is not None
         return self.answers[item]
 
+    def is_there(self, item: Comparison) -> bool:
+        """Whether a sum is a fact, or an equation that follows from facts alone."""
+        return item in self.reach.metric or item.says == "=" and self.facts.holds(item, True)
+
     def uses(self, shape: Shape, starts: Iterable[Bound], most_open: int = MOST_OPEN, narrow: Shape | None = None,
              lead: Lead | None = None) -> Iterator[Use]:
         """The uses with these objects whose given literals hold, but for some of magnitudes. The shape
@@ -268,6 +275,7 @@ class Candidates:
     def use(self, shape: Shape, objects: tuple[int, ...], still_open: int) -> Use:
         """The theorem at these objects."""
         lines = 1 + self.closure.lines_of(coded(pattern, objects) for pattern in shape.given)
+        lines += LINES_OF_SUM * sum(not self.is_there(sum_at(pattern, objects)) for pattern in shape.given_sums)
         pairs = list(zip(shape.sorts, objects))
         return Use(lines, still_open, len(pairs) - len(set(pairs)), shape, objects)
 

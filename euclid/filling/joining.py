@@ -14,6 +14,7 @@ from .ties import Ties
 
 NOBODY = 64  # stands at no place
 FREE = -1  # at a place that is not bound
+MOST_POINTS = 3  # of one term
 Choice = list[tuple[int, int]]  # places, each with an object
 Monomial = tuple[int, int, tuple[int, ...]]
 
@@ -87,7 +88,7 @@ class Join:
         best: list[Choice] = []
         for index, pattern in enumerate(self.shape.given_sums):
             ties = self.ties if index != self.led or not self.lead else self.lead.ties
-            if ties is None or self.left_sums[index] == 0 or pattern.says != "=":
+            if ties is None or not 0 < self.left_sums[index] <= MOST_POINTS or pattern.says != "=":
                 continue
             opened = [each for each in pattern.monomials if any(self.bound[place] == FREE for place in each[2])]
             if len(opened) == 1:

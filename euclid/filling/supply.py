@@ -44,6 +44,7 @@ class Supplier:
         self.chainer = Chainer(reach)
         self.is_deep = True  # whether all is tried, also what takes long
         self.is_lax = False  # whether sums that say something of the diagram are taken for written
+        self.chains = 0  # how often a chain of sums was looked for, which takes long
         self.kept: dict[tuple[object, ...], list[Instance]] = {}  # what was carried, by the facts
 
     def need(self, item: Coded) -> bool:
@@ -298,6 +299,7 @@ class Supplier:
     def need_chain(self, item: Comparison | None) -> bool:
         """Makes a literal follow by transfers that are written as `hence` lines."""
         self.closure.saturate()
+        self.chains += 1
         chosen = self.chainer.chosen(item)
         return chosen is not None and self.write_chain(chosen) and self.need_arithmetic(item)
 
