@@ -51,7 +51,7 @@ class Tester:
         self.parts = {part for fact in self.parted.facts for part in fact.quantities()}
         self.systems: dict[frozenset[Quantity], tuple[System, list[Numbers]]] = {}
         self.answers: dict[Comparison, bool] = {}
-        self.kept: dict[Quantity, tuple[System, Numbers]] = {}
+        self.kept: dict[Quantity, tuple[System, list[Numbers]]] = {}
 
     def follows(self, wanted: Comparison) -> bool:
         """Whether a literal follows, all of whose terms are in the facts."""
@@ -76,27 +76,35 @@ class Tester:
         return True
 
 
-    def of_part(self, part: Quantity) -> tuple[System, Numbers]:
-        """The facts of one part, and numbers with which nothing is 0 and few things are equal, if there are some."""
+    def of_part(self, part: Quantity) -> tuple[System, list[Numbers]]:
+        """The facts of one part, with two kinds of numbers that refute much: where nothing is 0 and few
+        things are equal, if there are such; and where many are."""
         if part not in self.kept:
             facts = self.parted.related(frozenset([part]))
             system = System(facts, (), self.apart)
-            self.kept[part] = system, system.plain_numbers(facts)
+            few = system.numbers()
+            many = system.plain_numbers(facts)
+            self.kept[part] = system, [] if few is None else [many or few, few]
         return self.kept[part]
 
-    def together(self, parts: list[tuple[System, Numbers]]) -> tuple[System, list[Numbers]]:
+    def together(self, parts: list[tuple[System, list[Numbers]]]) -> tuple[System, list[Numbers]]:
         """The facts of some parts, and numbers for all terms of these."""
         system = System()
-        plain: Numbers = {}
-        for each, found in parts:
+        for each, _ in parts:
             system.solved |= each.solved
             system.least += each.least
             system.more += each.more
             system.differ += each.differ
             system.broken |= each.broken
-            plain |= found
-        return system, system.allowed(self.earlier) + [plain] * all(found for _, found in parts)
+        found = [joined(models) for models in zip(*(models for _, models in parts))]
+        system.hint = found[0] if found else {}
+        return system, system.allowed(self.earlier) + found
 
     def models(self) -> list[Numbers]:
         """The numbers that were found, for all terms."""
         return [system.whole(model) for system, models in self.systems.values() for model in models][-MOST_MODELS:]
+
+
+def joined(models: Iterable[Numbers]) -> Numbers:
+    """Numbers for the terms of several parts."""
+    return {part: value for model in models for part, value in model.items()}
