@@ -65,45 +65,66 @@ class BadRows(Exception):
 
 
 @dataclass
+class Section:
+    """A text, or an answer: its lines, and the place of the first among the lines of the file."""
+
+    kind: str
+    start: int
+    lines: list[str] = field(default_factory=list)
+
+
+@dataclass
 class Row:
-    """A block: its head, its sections, and the lines of its file that its answers take."""
+    """A block: its file, its name, the lines before its first section by their words, and its sections."""
 
     path: Path
     name: str
     head: dict[str, str] = field(default_factory=dict)
-    sections: list[tuple[str, list[str], int, int]] = field(default_factory=list)
+    sections: list[Section] = field(default_factory=list)
+
+    def of_kind(self, kind):
+        return [section for section in self.sections if section.kind == kind]
 
     def parts(self, kind):
-        return [lines for what, lines, *_ in self.sections if what == kind]
+        return [section.lines for section in self.of_kind(kind)]
+
+    def take(self, number, line):
+        """Whether the line, which has this place in the file, is one of the block; if so, it is kept."""
+        mark = MARK.fullmatch(line)
+        last = self.sections[-1] if self.sections else None
+        if mark:
+            self.sections.append(Section(mark.group(1), number + 1))
+        elif last and (last.kind != "answer" or line):
+            last.lines.append(line)
+        elif not last and line.startswith("  ") and self.head:
+            self.head[list(self.head)[-1]] += " " + line.strip()
+        elif not last and line:
+            key, _, value = line.partition(":")
+            self.head[key] = unescaped(value.removeprefix(" "))
+        else:
+            return False
+        return True
+
+    def is_whole(self):
+        """Whether the block has the head and the sections that a block has."""
+        kinds = " ".join(section.kind for section in self.sections)
+        if "call" in self.head:
+            return list(self.head) == ["call"] and kinds == "answer"
+        known = self.head.keys() <= {"run", "source", "sink"} and "run" in self.head
+        return known and re.fullmatch(r"text( with answer)+|text answer", kinds) is not None
 
 
 def read_rows(path):
     """The rows of a file."""
-    rows, row, section = [], None, None
-    lines = path.read_bytes().decode("utf-8").split("\n")
-    for number, line in enumerate(lines[:-1]):
-        mark = MARK.fullmatch(line)
-        if section and section[0] != "answer" and not mark:
-            section[1].append(line)
-            section[3] = number + 1
-        elif line.startswith("== "):
-            row, section = Row(path, line[3:]), None
+    rows, row = [], None
+    for number, line in enumerate(path.read_bytes().decode("utf-8").removesuffix("\n").split("\n")):
+        if row and row.take(number, line):
+            continue
+        row = Row(path, line[3:]) if line.startswith("== ") else None
+        if row:
             rows.append(row)
-        elif row is None or not line:
-            if line and not line.startswith("#"):
-                raise BadRows(f"{path}:{number + 1}: no block begins so: {line}")
-            row = section = None
-        elif mark:
-            section = [mark.group(1), [], number + 1, number + 1]
-            row.sections.append(section)
-        elif section:
-            section[1].append(line)
-            section[3] = number + 1
-        elif line.startswith("  ") and row.head:
-            row.head[key] += " " + line.strip()
-        else:
-            key, _, value = line.partition(":")
-            row.head[key] = unescaped(value.removeprefix(" "))
+        elif line and not line.startswith("#"):
+            raise BadRows(f"{path}:{number + 1}: no block begins so: {line}")
     return rows
 
 
@@ -113,8 +134,10 @@ def rows_of(top, crate):
     rows = [row for path in paths for row in read_rows(path)]
     seen = set()
     for row in rows:
-        if row.name in seen or "\n" in row.name:
+        if row.name in seen:
             raise BadRows(f"{row.path}: two rows have the name: {row.name}")
+        if not row.is_whole():
+            raise BadRows(f"{row.path}: a block of another form: {row.name}")
         seen.add(row.name)
     return rows
 
@@ -243,13 +266,12 @@ def unfolded(text):
     return "".join(pieces).replace("/", "\n").encode("utf-8").replace(b"~", b"\x80")
 
 
-def ran(words, text, most):
+def ran(words, text, in_turn):
     """The answer of the native program, as run_rows prints it."""
     program = os.environ.get("ELEMENTS", TOP / "release" / "elements")
     done = subprocess.run([program, *words.split()], input=unfolded(text), capture_output=True, check=False)
-    limit = 0 if most and done.returncode == 0 else PRINTED
-    lines = done.stdout.decode("utf-8").split("\n")
-    lines = [line for line in lines[:-1]] + ([lines[-1]] if lines[-1] else [])
+    limit = 0 if in_turn and done.returncode == 0 else PRINTED
+    lines = done.stdout.decode("utf-8").removesuffix("\n").split("\n") if done.stdout else []
     if len(done.stdout) > limit:
         lines = [f".. {lines[-1]}"]
     return [*lines, f"exit {done.returncode}"]
@@ -300,12 +322,12 @@ def store(crate, rows):
     """Writes the answers that the program gives into the blocks of these rows."""
     changed = {}
     for row, answers in new_answers(crate, rows):
-        places = [section for section in row.sections if section[0] == "answer"]
+        places = row.of_kind("answer")
         if len(places) != len(answers):
             sys.exit(f"rows: {len(answers)} answers for {len(places)} sections: {row.name}")
-        for (_, kept, start, end), answer in zip(places, answers):
-            if kept != answer:
-                changed.setdefault(row.path, []).append((start, end, answer))
+        for place, answer in zip(places, answers):
+            if place.lines != answer:
+                changed.setdefault(row.path, []).append((place.start, place.start + len(place.lines), answer))
     for path, edits in changed.items():
         lines = path.read_bytes().decode("utf-8").split("\n")
         for start, end, answer in sorted(edits, reverse=True):
