@@ -241,16 +241,18 @@ def pages(top):
 
 
 def check(top):
-    """What of the files that are made from the blocks is not what is made of them, as findings of the lint."""
-    for path, made in pages(top).items():
-        kept = (top / path).read_bytes().decode("utf-8").split("\n")
-        for number, (one, other) in enumerate(zip([*kept, ""], [*made.split("\n"), ""]), 1):
-            if one != other:
-                yield top / path, number, "not what tools/rows.py --write makes"
-                break
-        else:
-            if len(kept) != len(made.split("\n")):
-                yield top / path, len(kept), "not what tools/rows.py --write makes"
+    """Findings of the lint: blocks that cannot be read, and the first line of a file that is not what is made of them."""
+    try:
+        made_pages = pages(top)
+    except BadRows as error:
+        yield top / "tools/rows.py", 1, str(error)
+        return
+    for path, made in made_pages.items():
+        kept = (top / path).read_bytes().decode("utf-8")
+        if kept != made:
+            lines = zip((kept + "\n").split("\n"), (made + "\n").split("\n"))
+            number = next((number for number, (one, other) in enumerate(lines, 1) if one != other), 1)
+            yield top / path, number, "not what tools/rows.py --write makes"
 
 
 # ---- answers
@@ -363,7 +365,7 @@ def main():
         if asked.write or asked.store is not None or asked.all:
             write()
         findings = list(check(TOP))
-    except (BadRows, KeyError, IndexError) as error:
+    except BadRows as error:
         sys.exit(f"rows: {error}")
     for page, number, what in findings:
         print(f"{page.relative_to(TOP)}:{number}: {what}")
