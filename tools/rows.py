@@ -39,7 +39,7 @@ A block of language_rows has a call and its answer; both may be wrapped, and wha
     true none true
 
 --store runs release/elements, or the program that ELEMENTS names; and for language_rows, and where calls fail, the program of the
-crate: the one in its out/, or else `rt try`, which needs the kit and a minute or two.
+crate: the one that `rt ci` built in its out/, or else, for one row, `rt try`, which needs the kit and a minute or two.
 """
 
 import argparse
@@ -280,8 +280,11 @@ def ran(words, text, in_turn):
 
 
 def answers_of_program(crate, rows):
-    """The answers to these rows by the crate's own program, as lines of its stdout."""
+    """The answers to these rows by the crate's own program, as lines of its stdout; none where it is not built and has many."""
     built = TOP / "crates" / crate / "out" / crate
+    if not built.exists() and len(rows) > 1:
+        print(f"rows: {len(rows)} rows of {crate} are not run: its program is not built; rt ci {crate} builds it")
+        return []
     command = [built] if built.exists() else ["rt", "try"]
     given = "".join(line_of(crate, row) + "\n" for row in rows).encode("utf-8")
     with tempfile.TemporaryFile() as source:
