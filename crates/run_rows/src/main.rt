@@ -52,10 +52,10 @@ fn calls_of(part: &str, piece: usize) -> Calls {
     }
 }
 
-/// The words of a command, with one space between two.
+/// The words of a command, with one space between two; none of an empty one.
 fn words_of(alloc: Global, command: &str) -> Result<Vec<String>, AllocError> {
     let mut words = Vec::new(alloc);
-    for word in command.split(' ') {
+    for word in command.split_terminator(' ') {
         words.push(String::from_str(alloc, word)?)?;
     }
     Ok(words)
