@@ -14,6 +14,7 @@ What it looks for:
 - docs/claim-proofs.md and docs/claim-run.md, where they are not what tools/claim.py makes of the definitions.
 - docs/proved.md and docs/refusals.md, where they are not what tools/contracts.py makes of the crates.
 - A fact that a document tells otherwise than the tree has it: tools/facts.py says which.
+- The stdin and stdout of run_rows and language_rows, where they are not what tools/rows.py makes of the blocks.
 - What a command of the companion prints, where a page shows it otherwise: tools/manual.py says how.
 - A line of prose with more than 100 columns. Rows of tables in docs/ are exempt, and so are lines
   of code, and links that cannot be broken.
@@ -33,6 +34,7 @@ import claim_pages  # noqa: E402
 import contracts  # noqa: E402
 import facts  # noqa: E402
 import manual  # noqa: E402
+import rows  # noqa: E402
 
 TOP = Path(sys.argv[1] if sys.argv[1:] else Path(__file__).resolve().parent.parent).resolve()
 COLUMNS = 100
@@ -41,7 +43,7 @@ PAGES += ["SECURITY.md", "editors/*.md", "bench/*.md", "release/*.md", ".github/
 WRAPPED = re.compile(r"[^/]*|(docs|editors|release)/[^/]*")  # pages whose lines are counted
 
 # The suffixes of files that a document may name.
-SUFFIXES = "rt antt md book txt edit sh py text out json ebnf vim text".split()
+SUFFIXES = "rt antt md book txt edit sh py text out json ebnf vim text rows".split()
 # Made by a build, a reader or a run, or standing for any name: not in the tree.
 NOT_KEPT = re.compile(r"(^|/)(out|target)(/|$)|\.\.|[*<>{}]|NAME|\b[A-Z]+\.(text|book|out)$|e_x|^[/~]")
 NOT_KEPT_FILES = {"I.1.text", "thing.rt", "Thing.antt", "Topic.antt", "X.book", "FILE", "mine.book", "whole.book"}
@@ -250,6 +252,7 @@ def main():
         check(findings)
     for check in facts.CHECKS:
         findings.extend(check(TOP))
+    findings.extend(rows.check(TOP))
     findings.extend(manual.check(TOP))
     for page, number, what in sorted(findings, key=lambda finding: (str(finding[0]), finding[1])):
         print(f"{page.relative_to(TOP)}:{number}: {what}")

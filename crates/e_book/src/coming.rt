@@ -178,7 +178,7 @@ impl Coming {
         if self.defines {
             return self.define(alloc, raw_line);
         }
-        self.parser.step(alloc, &known.theorems, raw_line)
+        self.parser.take(alloc, &known.theorems, raw_line)
     }
 
     /// A line of a definition.

@@ -232,30 +232,10 @@ impl TheoremParser {
         }
     }
 
-    /// The parser with the next line.
-    pub fn taking(
-        mut self,
-        alloc: Global,
-        known: &Theorems,
-        raw_line: &RawLine,
-    ) -> Result<TheoremParser, LineError>
-        requires parser { FitsScope self }
-        requires known { length known.now ≤ most_theorems }
-        ensures value { Gives (λ d. d) result (step known.now self raw_line.now) }
-        ensures fits { IfOk result FitsScope }
-    {
-        match self.step(alloc, known, raw_line) {
-            Ok(()) => Ok(self),
-            Err(error) => {
-                mem::drop(self);
-                Err(error)
-            }
-        }
-    }
-
-    /// The next line: its form at this place, its names from left to right, then the limits.
+    /// Takes the next line: its form at this place, its names from left to right, then the limits.
+    /// After a fault it is not used again.
     #[tactic(auto, unfolding(crate::specs::Steps::step))]
-    pub(crate) fn step(
+    pub fn take(
         &mut self,
         alloc: Global,
         known: &Theorems,

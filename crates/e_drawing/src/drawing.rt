@@ -1,5 +1,5 @@
 //! What the program writes of a figure text.
-ghost use Rattle.std.specs.Prelude.{◌≡◌, ◌<◌, ◌^◌, length, IfOk};
+ghost use Rattle.std.specs.Prelude.{◌≡◌, ◌<◌, ◌≤◌, ◌^◌, length, take, IfOk};
 ghost use Rattle.e_drawing.specs.Plans.{no_plan, FitsPlan};
 ghost use Rattle.e_drawing.specs.Answers.{answered, Draws};
 ghost use Rattle.e_drawing.specs.Texts.{plan_of, PlanIs};
@@ -20,7 +20,7 @@ pub struct Drawing {
 }
 
 /// The most bytes of a figure text.
-const MOST_BYTES: u64 = 4_194_304;
+const MOST_BYTES: usize = 4_194_304;
 
 /// The most bytes of one of its lines.
 const LONGEST_LINE: usize = 1600;
@@ -32,7 +32,7 @@ fn read_text(alloc: Global, text: &[u8], plan: &mut Plan) -> Result<(), BookFaul
     requires fits { FitsPlan plan.old }
     ensures { PlanIs result plan.new (plan_of text.now) }
 {
-    let mut lines = Lines::new(text, LONGEST_LINE, MOST_BYTES);
+    let mut lines = Lines::new(text, LONGEST_LINE, MOST_BYTES as u64);
     read_plan(alloc, &mut lines, plan)
 }
 
@@ -59,14 +59,21 @@ fn drawn(alloc: Global, text: &[u8], plan: &mut Plan) -> Result<Drawing, BookFau
     Ok(drawing)
 }
 
+/// The bytes of a text that count, and one more, where it has more.
+fn counted(text: &[u8]) -> &[u8]
+    ensures value { result.now ≡ take 4194305 text.now }
+    ensures few { length result.now ≤ 4194305 }
+{
+    &text[..(MOST_BYTES + 1).min(text.len())]
+}
+
 /// What is written of a figure text, with the number of its shown literals; or the first fault of
 /// the text.
 pub fn draw(alloc: Global, text: &[u8]) -> Result<Drawing, BookFault>
-    requires { length text.now < 2 ^ 31 }
     ensures { Draws text.now result }
 {
     let mut plan = Plan::new(alloc);
-    let drawn = drawn(alloc, text, &mut plan);
+    let drawn = drawn(alloc, counted(text), &mut plan);
     mem::drop(plan);
     drawn
 }

@@ -20,7 +20,6 @@ ghost use Rattle.e_licence.specs.FilledBlanks.{FilledIs};
 use crate::context::Context;
 use crate::licensing::allowed_by;
 use crate::ready::{Ready, ready_places};
-use crate::restricted::BlankSearch;
 use crate::verdicts::Verdicts;
 use e_literal::{Items, Lit, Map, NOTHING, Obj, Scope, count, kind, next_objects, renamed};
 use e_metric::{MetricFacts, StepFacts};
@@ -152,12 +151,8 @@ fn matched_by(
         whole,
     };
     let mut memory = Verdicts::new(alloc);
-    let task = BlankSearch {
-        blanks: &blanks,
-        excluded: blanks.excluded(alloc, &mut memory, &spans)?,
-    };
     let mut chosen = Vec::new(alloc);
-    match search(alloc, &task, &mut memory, &spans, &mut chosen)? {
+    match search(alloc, &blanks, &mut memory, &spans, &mut chosen)? {
         Verdict::Yes(()) => {
             let args = arguments(alloc, scope, &blanks.declared, pattern, &chosen)?;
             Ok(Filled::Found(Items::new(args)))

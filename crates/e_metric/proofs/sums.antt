@@ -5,5 +5,5 @@ pub mod Multipliers
 pub mod RowNames
 pub mod ScopeOfSums
 pub mod WrittenSums
-pub mod UsedRows
+pub mod TermTotals
 pub mod ZippedRows

@@ -4,3 +4,4 @@ pub mod Certificate
 pub mod AssignedValues
 pub mod FurtherRows
 pub mod ByKind
+pub mod TermTotals

@@ -10,13 +10,16 @@ ghost use Rattle.e_clause.specs.declared.cert.RowName.TheVariants as name;
 ghost use Rattle.e_clause.specs.declared.cert.Sums.TheVariants.{Two as TwoSums};
 ghost use Rattle.e_metric.specs.inner.Certificate;
 ghost use Rattle.e_metric.specs.inner.Certificate.{leasts, IsWeighable};
+ghost use Rattle.e_metric.specs.inner.TermTotals.{kept_total};
+ghost use Rattle.e_literal.specs.declared.object.Term.{Term as ATerm};
 
-use crate::solved_system::copied_row;
+use crate::totals::{total_of_term, totals_of};
 use e_clause::{MetricCert, RowName, Sum, Sums};
-use e_fraction::{Row, total};
+use e_fraction::Row;
 use e_literal::{Term, canonical, copy};
 use e_simplex::Absurdity;
 use std::alloc::{AllocError, Global};
+use std::collections::BTreeMap;
 use std::mem;
 
 /// An equal name.
@@ -69,56 +72,19 @@ fn kept(
     Ok(sum)
 }
 
-// Adds a row and its weight, unless the weight is 0.
-fn use_row(
-    rows: &mut Vec<Row>,
-    weights: &mut Vec<i128>,
-    alloc: Global,
-    row: &Row,
-    weight: i128,
-) -> Result<(), AllocError>
-    ensures { OnOk result
-        ((rows.new.items ≡ rows.old.items ++ Certificate.used_rows (row.now ∷ []) (weight ∷ []))
-        × (weights.new.items ≡ weights.old.items
-        ++ Certificate.used_weights (row.now ∷ []) (weight ∷ []))) }
-{
-    if weight != 0 {
-        rows.push(copied_row(alloc, row)?)?;
-        weights.push(weight)?;
-    }
-    Ok(())
-}
-
-// The rows whose weight is not 0, and these weights: mostly few of many, and only these count for
-// what is left of a term.
-#[tactic(auto, using(crate::proofs::sums::ZippedRows::ending))]
-fn used(alloc: Global, rows: &[Row], weights: &[i128]) -> Result<(Vec<Row>, Vec<i128>), AllocError>
-    requires { length weights.now ≡ length rows.now }
-    ensures { IfOk result (λ u. (u.0.items ≡ Certificate.used_rows rows.now weights.now)
-        × (u.1.items ≡ Certificate.used_weights rows.now weights.now)) }
-{
-    let mut used = Vec::new(alloc);
-    let mut by = Vec::new(alloc);
-    for (row, weight) in rows.iter().zip(weights) {
-        use_row(&mut used, &mut by, alloc, row, *weight)?;
-    }
-    Ok((used, by))
-}
-
 // Where less than nothing is left of a term, adds as many times the row that says that it is at
 // least 0.
 fn add_leasts_of(
     sum: &mut Vec<(i128, RowName)>,
-    rows: &[Row],
-    weights: &[i128],
+    totals: &BTreeMap<Term, i128>,
     terms: &[Term],
 ) -> Result<(), AllocError>
-    requires { IsWeighable rows.now weights.now }
+    requires { (t : ATerm) → unsigned_abs (kept_total totals.now.entries t) ≤ 2 ^ 80 }
     ensures { OnOk result (sum.new.items ≡ sum.old.items
-        ++ leasts (Absurd.total (weighed rows.now weights.now)) terms.now) }
+        ++ leasts (kept_total totals.now.entries) terms.now) }
 {
     for term in terms {
-        let left = total(rows, weights, canonical(*term));
+        let left = total_of_term(totals, canonical(*term));
         if left < 0 {
             sum.push((-left, RowName::Least(*term)))?;
         }
@@ -126,7 +92,7 @@ fn add_leasts_of(
     Ok(())
 }
 
-// The same, by the rows that count.
+// The same, of what the rows leave.
 fn add_leasts(
     sum: &mut Vec<(i128, RowName)>,
     alloc: Global,
@@ -138,8 +104,8 @@ fn add_leasts(
     ensures { OnOk result (sum.new.items ≡ sum.old.items
         ++ leasts (Absurd.total (weighed rows.now weights.now)) terms.now) }
 {
-    let (used, by) = used(alloc, rows, weights)?;
-    add_leasts_of(sum, &used, &by, terms)
+    let totals = totals_of(alloc, rows, weights)?;
+    add_leasts_of(sum, &totals, terms)
 }
 
 // The sum of the rows with these multipliers, and of what brings each term to 0, where it is

@@ -51,8 +51,8 @@ pub fn split(
     ensures names { IfOk result (λ p. p.0.items ≡ map (λ q. q.0) named.items) }
     ensures rows { IfOk result (λ p. p.1.items ≡ map (λ q. q.1) named.items) }
 {
-    let mut names = Vec::new(alloc);
-    let mut rows = Vec::new(alloc);
+    let mut names = Vec::with_capacity(alloc, named.len())?;
+    let mut rows = Vec::with_capacity(alloc, named.len())?;
     for (name, row) in named {
         names.push(name)?;
         rows.push(row)?;

@@ -67,7 +67,7 @@ pub fn joined(alloc: Global, x: &[Mono], y: &[Mono]) -> Result<Vec<(i64, Term)>,
     requires { length x.now + length y.now ≤ 32 }
     ensures { IfOk result (λ v. v.items ≡ difference_form x.now y.now) }
 {
-    let mut form = Vec::new(alloc);
+    let mut form = Vec::with_capacity(alloc, x.len() + y.len())?;
     add_terms(&mut form, x, y, x)?;
     add_terms(&mut form, x, y, y)?;
     Ok(form)

@@ -298,7 +298,9 @@ fn joined_system(
             Ok(KindSystem::TooWide(width))
         }
         Prepared::Absurd(absurdity) => {
-            let cert = solved_system.certified(alloc, which, facts, None, names, rows, &absurdity);
+            let cert = solved_system.certified(
+                alloc, which, facts, None, fresh, names, rows, &absurdity,
+            );
             mem::drop(absurdity);
             Ok(KindSystem::Absurd(cert?))
         }

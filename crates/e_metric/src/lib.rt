@@ -16,6 +16,7 @@ mod metric_facts;
 mod solved_system;
 mod step_facts;
 mod systems;
+mod totals;
 
 pub use consequence::{Metric, absurd, follows};
 pub use limits::{are_few_facts, is_metric_goal, is_well_formed};

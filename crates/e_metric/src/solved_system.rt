@@ -1,6 +1,6 @@
 //! The facts of one kind, whose rows have a solution, and the answers on goals from there.
 
-ghost use Rattle.std.specs.Prelude.{◌≡◌, ◌≤◌, ◌++◌, length, option_copied};
+ghost use Rattle.std.specs.Prelude.{◌≡◌, ◌≤◌, ◌++◌, ◌∷◌, [], length, option_copied};
 ghost use Rattle.std.specs.Prelude.{IsTrue, IfOk, OnOk, Some};
 ghost use Rattle.std.specs.List.{list_all};
 ghost use Rattle.e_literal.specs.WellFormed.{is_well_formed};
@@ -14,13 +14,13 @@ ghost use Rattle.e_fraction.specs.Views.{views_of_rows};
 ghost use Rattle.e_simplex.specs.Answer.{AreValuesOf, IsRefuted};
 ghost use Rattle.e_metric.specs.inner.FurtherRows.{values_extended};
 ghost use Rattle.e_metric.specs.SolvedSystems.{AreTogether, IsSolvedSystem};
-ghost use Rattle.e_metric.specs.ListedTerms;
+ghost use Rattle.e_metric.specs.ListedTerms.{distinct_terms, with_listed};
 ghost use Rattle.e_metric.specs.MetricAnswers.{IsMetricCertificate, IsKindAnswer};
 
-use crate::certificates::copied;
-use crate::consequence::{Metric, certificate_of, split};
+use crate::certificates::{copied, sums_of};
+use crate::consequence::{Metric, split};
 use crate::evaluating::{are_so, extended};
-use crate::listing::fresh_terms;
+use crate::listing::{fresh_terms, has_term};
 use crate::systems::{rows_of_goal, system};
 use e_clause::{MetricCert, RowName};
 use e_facts::Facts;
@@ -41,8 +41,8 @@ pub struct SolvedSystem {
     pub solved_rows: SolvedRows,
 }
 
-/// An equal row.
-pub fn copied_row(alloc: Global, row: &Row) -> Result<Row, AllocError>
+// An equal row.
+fn copied_row(alloc: Global, row: &Row) -> Result<Row, AllocError>
     ensures { IfOk result (λ r. r ≡ row.now) }
 {
     let summands = Vec::from_slice(alloc, row.form.summands())?;
@@ -151,13 +151,34 @@ impl SolvedSystem {
         Ok(rows)
     }
 
-    /// The certificate that multipliers of the rows, and of more after them, make.
+    // The terms, and these, and right.
+    fn summed_terms_with(&self, alloc: Global, fresh: &[Term]) -> Result<Vec<Term>, AllocError>
+        ensures { IfOk result
+            (λ v. v.items ≡ with_listed (self.now.terms.items ++ fresh.now) (Term.Right ∷ [])) }
+    {
+        let room = self
+            .terms
+            .len()
+            .saturating_add(fresh.len())
+            .saturating_add(1);
+        let mut terms = Vec::with_capacity(alloc, room)?;
+        terms.extend_from_slice(&self.terms)?;
+        terms.extend_from_slice(fresh)?;
+        if !has_term(&terms, Term::Right) {
+            terms.push(Term::Right)?;
+        }
+        Ok(terms)
+    }
+
+    /// The certificate that multipliers of the rows, and of more after them, make, where `fresh`
+    /// are the terms of those that no row before has.
     pub fn certified(
         &self,
         alloc: Global,
         which: Kind,
         facts: &Facts,
         wanted: Option<&Lit>,
+        fresh: &[Term],
         names: &[RowName],
         rows: &[Row],
         absurdity: &Absurdity,
@@ -167,14 +188,17 @@ impl SolvedSystem {
         requires wanted { IsTrue (is_well_formed_metric (option_copied wanted)) }
         requires together { AreTogether which facts.now (option_copied wanted) self.now names.now
             rows.now }
+        requires terms { self.now.terms.items ++ fresh.now
+            ≡ distinct_terms which facts.now (option_copied wanted) }
         requires refuted { IsRefuted
             (views_of_rows (self.now.solved_rows ++ rows.now)) absurdity.now }
         ensures { IfOk result (IsMetricCertificate facts.now (option_copied wanted.entry)) }
     {
         let names = self.names_with(alloc, names)?;
         let rows = self.rows_with(alloc, rows)?;
-        let cert = certificate_of(alloc, which, facts, wanted, names, &rows, absurdity)?;
-        Ok(cert)
+        let terms = self.summed_terms_with(alloc, fresh)?;
+        let sums = sums_of(alloc, names, &rows, &terms, absurdity)?;
+        Ok(MetricCert { sums })
     }
 
     // The answer where the goal has these rows, by what is solved.
@@ -184,6 +208,7 @@ impl SolvedSystem {
         which: Kind,
         facts: &Facts,
         goal: &Lit,
+        fresh: &[Term],
         names: &[RowName],
         rows: &[Row],
     ) -> Result<Metric, AllocError>
@@ -192,6 +217,8 @@ impl SolvedSystem {
         requires goal { IsTrue (is_well_formed_metric (Some goal.now)) }
         requires together { AreTogether which facts.now (Some goal.now) self.now names.now
             rows.now }
+        requires terms { self.now.terms.items ++ fresh.now
+            ≡ distinct_terms which facts.now (Some goal.now) }
         ensures { IfOk result (IsKindAnswer which facts.now (Some goal.now)) }
     {
         match self.solved_rows.decide_with(alloc, rows)? {
@@ -202,7 +229,9 @@ impl SolvedSystem {
             }
             Verdict::Absurd(absurdity) => {
                 let wanted = Some(goal);
-                let cert = self.certified(alloc, which, facts, wanted, names, rows, &absurdity);
+                let cert = self.certified(
+                    alloc, which, facts, wanted, fresh, names, rows, &absurdity,
+                );
                 mem::drop(absurdity);
                 Ok(Metric::Yes(cert?))
             }
@@ -231,7 +260,7 @@ impl SolvedSystem {
         if are_so(values.items(), &rows) {
             return Ok(Metric::No(values));
         }
-        self.decided(alloc, which, facts, goal, &names, &rows)
+        self.decided(alloc, which, facts, goal, &fresh, &names, &rows)
     }
 
     /// The values that the facts have.

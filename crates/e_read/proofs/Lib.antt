@@ -12,4 +12,5 @@ pub mod ReadCertificates
 pub mod MadeNames
 pub mod Ends
 pub mod Pieces
+pub mod Settled
 pub mod FirstGarbled

@@ -1,5 +1,5 @@
 //! A block of a derivation text while its lines come.
-ghost use Rattle.std.specs.Prelude.{◌≡◌, ◌≤◌, length, IfOk, OnOk, IfSome, OnSome, IsTrue, Some};
+ghost use Rattle.std.specs.Prelude.{◌≡◌, ◌≤◌, length, IfOk, OnOk, OnSome, IsTrue, None, Some};
 ghost use Rattle.std.specs.List.{list_all};
 ghost use Rattle.e_text.specs.Lines.{view_of_line};
 ghost use Rattle.e_text.specs.Tokens.{tokens_of};
@@ -10,24 +10,23 @@ ghost use Rattle.e_book.specs.TheoremViews.{entry_of};
 ghost use Rattle.e_line.specs.Reading.{texts, Gives, Moves};
 ghost use Rattle.e_names.specs.Scope.{FewNames};
 ghost use Rattle.e_book.specs.Steps.{no_names};
-ghost use Rattle.e_read.specs.inner.Machine.{owes_nothing, at_start, with_cert_line, certified, owed_by};
+ghost use Rattle.e_read.specs.inner.Machine.{owes_nothing, is_settled, at_start, with_cert_line};
+ghost use Rattle.e_read.specs.inner.Machine.{certified, owed_by};
 ghost use Rattle.e_read.specs.inner.Machine.{gone_on, finish_line, with_raw_line, parser_after_exact_line};
 ghost use Rattle.e_read.specs.Text.{is_bar, is_lf_end};
 ghost use Rattle.e_read.specs.inner.Machine.{worded, parser_after_bytes};
 ghost use Rattle.e_read.specs.inner.Machine.{parser_after_line, derived, is_finished, finished, is_end};
 ghost use Rattle.e_read.specs.Text.{last_line_of};
-ghost use Rattle.e_read.specs.inner.Machine.{is_last_line, FitsParser, FitsReading, FitsBegun};
+ghost use Rattle.e_read.specs.inner.Machine.{is_last_line, FitsParser, FitsReading};
 
 use crate::filling::fill;
 use crate::kept::AllCerts;
 use crate::needs::due_of;
 use crate::strict::is_apart;
-use e_book::{Section, Theorem, TheoremParser};
+use e_book::{Section, Theorem, TheoremParser, no_names};
 use e_cert::{Obligation, Pending, cert_line_is_of, exact_cert_line};
 use e_clause::Version;
-use e_deriv::Names;
 use e_line::{FaultKind, LineError, RawLine, collected, exact_line_of};
-use e_literal::Items;
 use e_names::Theorems;
 use e_text::{Line, LineEnd, is, put_number};
 use std::alloc::{AllocError, Global};
@@ -46,115 +45,85 @@ pub struct BlockParser {
     pub kept: AllCerts,
 }
 
-/// A theorem with its next line, and what that line owes.
-struct Begun {
-    parser: TheoremParser,
-    owed: Pending,
-}
-
 fn owes_nothing(alloc: Global) -> Pending
     ensures { result ≡ owes_nothing }
 {
     Pending {
-        names: Names {
-            points: Items::empty(alloc),
-            lines: Items::empty(alloc),
-            circles: Items::empty(alloc),
-        },
+        names: no_names(alloc),
         due: Obligation::Nothing,
         sums: None,
     }
 }
 
-/// A line begins a theorem, or goes on with it, and owes certificates of its own.
+/// Whether no certificate is owed, and none is begun.
+fn is_settled(owed: &Pending) -> bool
+    ensures { result ≡ is_settled owed.now }
+{
+    matches!(owed.due, Obligation::Nothing) && owed.sums.is_none()
+}
+
+/// A line begins a theorem, and owes nothing.
 #[tactic(auto, using(crate::proofs::MadeNames::few_begun))]
-fn gone_on(
+fn first_line(
     alloc: Global,
     known: &Theorems,
-    parser: Option<TheoremParser>,
     raw_line: &RawLine,
-) -> Result<Begun, LineError>
-    requires parser { IfSome parser FitsParser }
-    requires few { OnSome parser (length known.now ≤ most_theorems) }
-    requires known { IsTrue (list_all is_small_statement (stated_by known.now)) }
-    ensures value { Gives (λ b. (b.parser, b.owed)) result (gone_on known.now parser raw_line.now) }
-    ensures fits { IfOk result (λ b. FitsBegun b.parser b.owed) }
+) -> Result<TheoremParser, LineError>
+    ensures value { Gives (λ d. (d, owes_nothing)) result (gone_on known.now None raw_line.now) }
+    ensures fits { IfOk result FitsParser }
     ensures few { OnOk result (length known.now ≤ most_theorems) }
 {
-    match parser {
-        None => {
-            let parser = TheoremParser::begin(alloc, known, raw_line)?;
-            Ok(Begun {
-                parser,
-                owed: owes_nothing(alloc),
-            })
-        }
-        Some(parser) => next_line(alloc, known, parser, raw_line),
-    }
+    let parser = TheoremParser::begin(alloc, known, raw_line)?;
+    Ok(parser)
 }
 
 /// What a line owes, with the names in scope before it.
 #[tactic(auto, unfolding(crate::specs::inner::Machine::owed_by))]
-fn owed_by(
+fn put_owed(
     alloc: Global,
     known: &Theorems,
     parser: &TheoremParser,
     raw_line: &RawLine,
-) -> Result<Pending, LineError>
+    owed: &mut Pending,
+) -> Result<(), LineError>
     requires parser { FitsParser parser.now }
     requires few { length known.now ≤ most_theorems }
     requires known { IsTrue (list_all is_small_statement (stated_by known.now)) }
-    ensures value { Gives (λ o. o) result (owed_by known.now parser.now raw_line.now) }
-    ensures fits { IfOk result (λ o. FewNames o.names) }
+    requires sums { owed.old.sums ≡ None }
+    ensures value { Moves result owed.new (owed_by known.now parser.now raw_line.now) }
+    ensures fits { OnOk result (FewNames owed.new.names) }
 {
+    let due = due_of(alloc, known, parser, raw_line)?;
+    mem::drop(mem::replace(&mut owed.due, due));
     let names = parser.in_scope.copy(alloc)?;
-    match due_of(alloc, known, parser, raw_line) {
-        Ok(due) => Ok(Pending {
-            names,
-            due,
-            sums: None,
-        }),
-        Err(error) => {
-            mem::drop(names);
-            Err(error)
-        }
-    }
+    mem::drop(mem::replace(&mut owed.names, names));
+    Ok(())
 }
 
-/// A line goes on with a theorem.
+/// A line goes on with a theorem, and owes certificates of its own.
 #[tactic(auto, using(crate::proofs::MadeNames::few_after))]
-fn next_line(
+fn take_next(
     alloc: Global,
     known: &Theorems,
-    parser: TheoremParser,
+    parser: &mut TheoremParser,
+    owed: &mut Pending,
     raw_line: &RawLine,
-) -> Result<Begun, LineError>
-    requires parser { FitsParser parser }
+) -> Result<(), LineError>
+    requires parser { FitsParser parser.old }
     requires few { length known.now ≤ most_theorems }
     requires known { IsTrue (list_all is_small_statement (stated_by known.now)) }
-    ensures value { Gives (λ b. (b.parser, b.owed)) result
-        (gone_on known.now (Some parser) raw_line.now) }
-    ensures fits { IfOk result (λ b. FitsBegun b.parser b.owed) }
-    ensures few { OnOk result (length known.now ≤ most_theorems) }
+    requires sums { owed.old.sums ≡ None }
+    ensures value { Moves result (parser.new, owed.new)
+        (gone_on known.now (Some parser.old) raw_line.now) }
+    ensures fits { OnOk result (FitsParser parser.new) }
+    ensures names { OnOk result (FewNames owed.new.names) }
 {
-    if !is_apart(&parser, raw_line) {
-        mem::drop(parser);
+    if !is_apart(parser, raw_line) {
         return Err(LineError::Fault(FaultKind::Malformed));
     }
-    let owed = match owed_by(alloc, known, &parser, raw_line) {
-        Ok(owed) => owed,
-        Err(error) => {
-            mem::drop(parser);
-            return Err(error);
-        }
-    };
-    match parser.taking(alloc, known, raw_line) {
-        Ok(parser) => Ok(Begun { parser, owed }),
-        Err(error) => {
-            mem::drop(owed);
-            Err(error)
-        }
-    }
+    put_owed(alloc, known, parser, raw_line, owed)?;
+    parser.take(alloc, known, raw_line)?;
+    Ok(())
 }
 
 impl BlockParser {
@@ -234,11 +203,17 @@ impl BlockParser {
         ensures few { OnOk result (OnSome self.new.parser (length known.now ≤ most_theorems)) }
     {
         self.finish_line(alloc)?;
-        let parser = self.parser.take();
-        let Begun { parser, owed } = gone_on(alloc, known, parser, raw_line)?;
-        mem::drop(mem::replace(&mut self.parser, Some(parser)));
-        mem::drop(mem::replace(&mut self.owed, owed));
-        Ok(())
+        match &mut self.parser {
+            None => {
+                let parser = first_line(alloc, known, raw_line)?;
+                mem::drop(mem::replace(&mut self.parser, Some(parser)));
+                Ok(())
+            }
+            Some(parser) => {
+                take_next(alloc, known, parser, &mut self.owed, raw_line)?;
+                Ok(())
+            }
+        }
     }
 
     /// Nothing is owed any more, and what was read is kept.
@@ -246,7 +221,12 @@ impl BlockParser {
         requires { FewNames self.old.owed.names }
         ensures value { Moves result self.new (finish_line self.old) }
         ensures parser { OnOk result (self.new.parser ≡ self.old.parser) }
+        ensures owed { OnOk result (self.new.owed ≡ owes_nothing) }
     {
+        if is_settled(&self.owed) {
+            mem::drop(mem::replace(&mut self.owed.names, no_names(alloc)));
+            return Ok(());
+        }
         let owed = mem::replace(&mut self.owed, owes_nothing(alloc));
         let read = owed.finish_certs()?;
         self.kept.push(read)?;

@@ -89,7 +89,7 @@ fn constraint_of_row(alloc: Global, row: &Row, terms: &[Term]) -> Result<Constra
     if summands.len() > MOST_TERMS {
         return Err(AllocError);
     }
-    let mut form = Vec::new(alloc);
+    let mut form = Vec::with_capacity(alloc, summands.len())?;
     for (coefficient, term) in summands {
         form.push(Monomial {
             coefficient: *coefficient,
@@ -126,7 +126,7 @@ fn constraints_where(
         v.items ≡ named_constraints not terms.now (views_of_rows rows.now)) }
     ensures small { IfOk result (λ v. AllSmallConstraints v.items) }
 {
-    let mut constraints = Vec::new(alloc);
+    let mut constraints = Vec::with_capacity(alloc, if not { 0 } else { rows.len() })?;
     for row in rows {
         if is_kept(not, row.sense) {
             constraints.push(constraint_of_row(alloc, row, terms)?)?;

@@ -106,7 +106,11 @@ fn copies_of_constraints(
 }
 
 /// Equal entries, with room for more.
-fn copies_with_room(alloc: Global, entries: &[i128], room: usize) -> Result<Vec<i128>, AllocError>
+fn copies_with_room<T: Copy>(
+    alloc: Global,
+    entries: &[T],
+    room: usize,
+) -> Result<Vec<T>, AllocError>
     ensures { IfOk result (λ v. v.items ≡ entries.now) }
 {
     let mut copies = Vec::with_capacity(alloc, entries.len().saturating_add(room))?;
@@ -135,12 +139,14 @@ impl Table {
     {
         let fixed = fixed_numbers(alloc, &constraints, width)?;
         let columns = count_up(alloc, width)?;
+        let basis = Vec::with_capacity(alloc, constraints.len())?;
+        let entries = Vec::with_capacity(alloc, constraints.len().saturating_mul(width))?;
         Ok(Table {
             constraints,
             fixed,
-            basis: Vec::new(alloc),
+            basis,
             columns,
-            entries: Vec::new(alloc),
+            entries,
             det: 1,
         })
     }
@@ -173,7 +179,7 @@ impl Table {
             (IsBegunTable (columns_of self.now) (constraints_of self.now ++ more.now)) }
     {
         let w = self.columns.len();
-        let basis = Vec::from_slice(alloc, &self.basis)?;
+        let basis = copies_with_room(alloc, &self.basis, more.len())?;
         let columns = Vec::from_slice(alloc, &self.columns)?;
         let entries = copies_with_room(alloc, &self.entries, more.len().saturating_mul(w))?;
         let constraints = constraints_with(alloc, &self.constraints, more)?;

@@ -43,7 +43,7 @@ fn negative(alloc: Global, constraint: &Constraint) -> Result<Constraint, AllocE
     ensures sense { IfOk result (λ l. l.sense ≡ More) }
     ensures form { IfOk result (λ l. l.form ≡ negated constraint.now.form) }
 {
-    let mut form = Vec::new(alloc);
+    let mut form = Vec::with_capacity(alloc, constraint.form.items().len())?;
     for x in constraint.form.items() {
         form.push(negated_monomial(x))?;
     }
@@ -98,7 +98,7 @@ pub fn values_at(
     requires values { AllSmall values.now }
     ensures { IfOk result (λ v. AreValues (length forms.now) forms.now values.now v.items) }
 {
-    let mut all = Vec::new(alloc);
+    let mut all = Vec::with_capacity(alloc, forms.len())?;
     for constraint in forms {
         all.push(value_of(constraint.form.items(), values))?;
     }

@@ -14,5 +14,6 @@ pub mod SearchedPlaces
 pub mod RuleSearches
 pub mod ModelValues
 pub mod MarkedFacts
+pub mod MarkedSums
 pub mod FreeAreas
 pub mod PreparedFacts

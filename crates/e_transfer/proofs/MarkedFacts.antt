@@ -89,7 +89,7 @@ marked_fact marks (f ∷ fs) l all h = elim (or_cases (same_lit f l) (has fs l) 
   | inr later ↦ marked_fact marks fs l (and_right (is_marked marks f) (are_marked marks fs) all) later
 ]
 
-set_keeps : (marks : List Bool) (k n : ℕ) → k < length marks → get_or marks n false ≡ true → get_or (set marks k true) n false ≡ true
+pub set_keeps : (marks : List Bool) (k n : ℕ) → k < length marks → get_or marks n false ≡ true → get_or (set marks k true) n false ≡ true
 set_keeps marks k n less h = elim (cases_eq n k) [
   | inl same ↦ ap (λ i. get_or (set marks k true) i false) same ∙ get_or-set_same marks k true false less
   | inr other ↦ get_or-set_other marks k n true false other ∙ h

@@ -13,6 +13,7 @@ use crate::marks::marks_of;
 use crate::prepared::{Prepared, prepare};
 use crate::query::{Query, Strength};
 use crate::rule_search::search_rules;
+use crate::sum_marks::{SUM_MARKS, sum_marks_of};
 use crate::walk::Verdict;
 use e_clause::TransferCert;
 use e_facts::Facts;
@@ -79,6 +80,7 @@ pub fn find_by_facts<'a>(
         spread_model: false,
         flat_model: false,
         marks: marks_of(facts),
+        sum_marks: sum_marks_of(facts, goal),
         areas: &[],
     };
     match search_rules(alloc, &query)? {
@@ -138,6 +140,7 @@ pub fn find_prepared<'a>(
         spread_model: prepared.spread_model,
         flat_model: prepared.flat_model,
         marks: prepared.marks,
+        sum_marks: [false; SUM_MARKS],
         areas: &prepared.areas,
     };
     match search_rules(alloc, &query)? {
@@ -181,6 +184,7 @@ fn find_narrow(alloc: Global, query: &Query, width: u128) -> Result<Found, Alloc
         spread_model: query.spread_model,
         flat_model: query.flat_model,
         marks: query.marks,
+        sum_marks: query.sum_marks,
         areas: query.areas,
     };
     match search_rules(alloc, &narrow)? {

@@ -1,24 +1,26 @@
 //! The search at one place of a clause.
 
-ghost use Rattle.std.specs.Prelude.{◌≡◌, ◌<◌, List, length, slice_get, true};
+ghost use Rattle.std.specs.Prelude.{◌≡◌, ◌<◌, List, Bool, length, map, slice_get, true};
 ghost use Rattle.std.specs.Prelude.{false, slice_index, IfOk, IsTrue, Some};
+ghost use Rattle.e_literal.specs.declared.literal.Lit.{Lit};
 ghost use Rattle.e_clause.specs.RuleKinds.{is_transfer};
 ghost use Rattle.e_clause.specs.Table.{table};
 ghost use Rattle.e_clause.specs.Views.{row_of};
-ghost use Rattle.e_clause.specs.Instance.{clause_of};
+ghost use Rattle.e_clause.specs.Instance.{clause_of, lit_at};
 ghost use Rattle.e_transfer.specs.GivenGoals.{IsFittingLiteral, IsWideTransfer, Suffices};
 ghost use Rattle.e_transfer.specs.declared.query.Strength.TheVariants as strength;
 ghost use Rattle.e_transfer.specs.Areas;
 ghost use Rattle.e_transfer.specs.Marks.{is_area_term};
+ghost use Rattle.e_transfer.specs.inner.PartsOfChoices.{arguments_by};
 ghost use Rattle.e_transfer.specs.inner.SearchedPlaces.{Wanted, NoneFrom, Shown};
 
 use crate::areas::{equal_areas, is_one_of};
 use crate::clause::{clause_len, pattern_at};
 use crate::instance_check::{check_instance, is_refuted};
-use crate::marks::is_equation;
+use crate::marks::{is_equation, parts};
 use crate::numbers::Numbers;
 use crate::plan::{Plan, last_of_term};
-use crate::query::{Query, Strength};
+use crate::query::{Query, Strength, asks_facts};
 use crate::walk::{Task, Verdict};
 use e_clause::{Rule, TransferCert};
 use e_literal::{Lit, Term, is_degenerate, kind, negate, same};
@@ -122,6 +124,27 @@ impl<'a> InstanceSearch<'a> {
         is_free(&self.query, numbers.term(area))
     }
 
+    /// Whether the literal at a place of the clause is seen by its sums to be neither the goal nor
+    /// the negation of a fact, where it has to be one of them.
+    fn is_unmarked(&self, numbers: &Numbers, j: usize) -> bool
+        requires in_clause { j < length (clause_of (row_of numbers.now.row.now)) }
+        ensures { result ≡ true → (l : Lit)
+            × (slice_get (map (lit_at (row_of numbers.now.row.now) (arguments_by numbers.now))
+            (clause_of (row_of numbers.now.row.now))) j ≡ Some l)
+            × ((here : Bool) → IsFittingLiteral self.now.query.strength self.now.query.facts.now
+            self.now.query.goal.now here l → ⊥) }
+    {
+        if !asks_facts(self.query.strength) {
+            return false;
+        }
+        let (pattern, negated) = pattern_at(numbers.row, j);
+        let (shape, _neg) = parts(&pattern, negated);
+        match numbers.sum_mark(&shape) {
+            Some(mark) => !self.query.sum_marks[mark],
+            None => false,
+        }
+    }
+
     /// Whether the last number of the part completes the literal at a place of the clause, and the
     /// literal is excluded.
     fn is_excluded(&self, alloc: Global, numbers: &Numbers, j: usize) -> Result<bool, AllocError>
@@ -135,6 +158,9 @@ impl<'a> InstanceSearch<'a> {
     {
         if !is_completed(&self.plan.ready_at, j, numbers.part.len()) {
             return Ok(false);
+        }
+        if self.is_unmarked(numbers, j) {
+            return Ok(true);
         }
         let lit = numbers.literal(alloc, j)?;
         Ok(!may_hold(&self.query, j == self.place, lit))

@@ -22,6 +22,7 @@ mod plan;
 mod prepared;
 mod query;
 mod rule_search;
+mod sum_marks;
 mod unify;
 mod walk;
 

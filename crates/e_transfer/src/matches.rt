@@ -17,6 +17,9 @@ use std::alloc::{AllocError, Global};
 /// Matches: each is a list of equations.
 pub type MatchList = Vec<Items<Equation>>;
 
+/// A term may be written in at most so many orders.
+const MOST_ORDERS: usize = 6;
+
 /// The orders in which a term may be written.
 fn orders(alloc: Global, term: Term) -> Result<Vec<Term>, AllocError>
     ensures { IfOk result (λ v. v.items ≡ Matches.term_orders term) }
@@ -73,7 +76,7 @@ fn matches_in_sums(
 ) -> Result<MatchList, AllocError>
     ensures { IfOk result (λ v. v.items ≡ matches_of_sum goal x.now ++ matches_of_sum goal y.now) }
 {
-    let mut matches = Vec::new(alloc);
+    let mut matches = Vec::with_capacity(alloc, MOST_ORDERS)?;
     for m in x {
         add_matches(alloc, &mut matches, m.term, goal)?;
     }
@@ -137,17 +140,17 @@ fn joined(
 ) -> Result<Items<Equation>, AllocError>
     ensures { IfOk result (λ v. v ≡ first.now ++ second.now) }
 {
-    let mut equations = Items::empty(alloc);
-    equations.append(first)?;
-    equations.append(second)?;
-    Ok(equations)
+    let mut equations = Vec::with_capacity(alloc, first.len().saturating_add(second.len()))?;
+    equations.extend_from_slice(first)?;
+    equations.extend_from_slice(second)?;
+    Ok(Items::new(equations))
 }
 
 /// Each match of the first with each of the second.
 fn product(alloc: Global, first: &MatchList, second: &MatchList) -> Result<MatchList, AllocError>
     ensures { IfOk result (λ v. v.items ≡ Matches.match_product first.now.items second.now.items) }
 {
-    let mut matches = Vec::new(alloc);
+    let mut matches = Vec::with_capacity(alloc, first.len().saturating_mul(second.len()))?;
     for a in first {
         add_each(alloc, &mut matches, a.items(), second)?;
     }

@@ -47,16 +47,12 @@ fn spread_value(term: Term) -> u128
 fn listed_value(filling: Filling, values: &[(Term, u128)], term: Term) -> u128
     ensures { result ≡ Models.value_in_list filling values.now term }
 {
-    match values {
-        [] => default_value(filling, term),
-        [(listed, value), rest @ ..] => {
-            if term == *listed {
-                *value
-            } else {
-                listed_value(filling, rest, term)
-            }
+    for pair in values {
+        if term == pair.0 {
+            return pair.1;
         }
     }
+    default_value(filling, term)
 }
 
 /// Whether the term is an area, and all areas are to be 0.

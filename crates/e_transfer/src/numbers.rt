@@ -2,19 +2,22 @@
 //! literals.
 
 ghost use Rattle.std.specs.Prelude.{◌≡◌, ◌<◌, length, map, slice_get, slice_index, IfOk, IfSome, Some};
-ghost use Rattle.e_literal.specs.Rename.{term_at};
+ghost use Rattle.e_literal.specs.Rename.{term_at, mono_at};
 ghost use Rattle.e_clause.specs.Instance;
 ghost use Rattle.e_clause.specs.Instance.{clause_of, lit_at, line_arg, circle_arg};
 ghost use Rattle.e_clause.specs.Rows;
 ghost use Rattle.e_clause.specs.Views.{atom_of, row_of};
+ghost use Rattle.e_transfer.specs.SumMarks;
+ghost use Rattle.e_transfer.specs.SumMarks.{mark_total};
 ghost use Rattle.e_transfer.specs.inner.PartsOfChoices;
 ghost use Rattle.e_transfer.specs.inner.PartsOfChoices.{chosen_arguments, arguments_by, atom_by};
 
 use crate::clause::{literal_at, pattern_at};
 use crate::marks::parts;
 use crate::plan::sort_of;
+use crate::sum_marks::{mark_of_totals, share};
 use e_clause::{Row, Shape};
-use e_literal::{Atom, Items, Lit, Obj, Term};
+use e_literal::{Atom, Items, Lit, Mono, Obj, Term};
 use std::alloc::{AllocError, Global};
 use std::mem;
 
@@ -130,6 +133,32 @@ impl<'a> Numbers<'a> {
             Shape::MagEq(_, _) | Shape::MagLt(_, _) => return None,
         };
         Some(atom)
+    }
+
+    /// The total of a sum over variables, with their numbers.
+    fn total(&self, sum: &[Mono]) -> u128
+        ensures { result ≡ mark_total
+            (map (mono_at (Instance.number (arguments_by self.now))) sum.now) }
+    {
+        let mut total = 0u128;
+        for mono in sum {
+            total += u128::from(share(mono.coeff, self.term(mono.term)));
+        }
+        total
+    }
+
+    /// The mark of the sums of a shape, if it compares sums: it takes no memory.
+    pub fn sum_mark(&self, shape: &Shape) -> Option<usize>
+        ensures is { IfSome result
+            (λ n. n ≡ SumMarks.sum_mark (atom_by self.now (atom_of shape.now))) }
+        ensures below { IfSome result (λ n. n < 256) }
+    {
+        match shape {
+            Shape::MagEq(x, y) | Shape::MagLt(x, y) => {
+                Some(mark_of_totals(self.total(x), self.total(y)))
+            }
+            _ => None,
+        }
     }
 
     /// The literal at a place of the clause. Only one that compares sums takes memory.

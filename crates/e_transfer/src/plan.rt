@@ -12,6 +12,7 @@ ghost use Rattle.e_transfer.specs.inner.Plans;
 ghost use Rattle.e_transfer.specs.inner.Plans.{total_of, has_variable, Grows, RepresentativesAre};
 ghost use Rattle.e_transfer.specs.inner.Plans.{OrderIs, PositionsAre, IsPlanFor};
 
+use crate::clause::clause_len;
 use crate::unify::{Binding, binding_of, representative};
 use crate::walk::Span;
 use e_clause::{Pattern, Row, Shape};
@@ -33,7 +34,7 @@ pub struct Plan {
 fn representatives_of(alloc: Global, bindings: &[Binding]) -> Result<Vec<usize>, AllocError>
     ensures { IfOk result (λ v. RepresentativesAre bindings.now v.items) }
 {
-    let mut representatives = Vec::new(alloc);
+    let mut representatives = Vec::with_capacity(alloc, bindings.len())?;
     for v in 0..bindings.len() {
         representatives.push(representative(bindings, v))?;
     }
@@ -94,7 +95,7 @@ fn order_of(
     requires { RepresentativesAre bindings.now representatives.now }
     ensures { IfOk result (λ v. OrderIs (length bindings.now) representatives.now v.items) }
 {
-    let mut order = Vec::new(alloc);
+    let mut order = Vec::with_capacity(alloc, bindings.len())?;
     add_bound(&mut order, bindings)?;
     add_preferred(&mut order, representatives, bindings.len(), preferred)?;
     for representative in representatives {
@@ -124,7 +125,7 @@ fn positions_of(
         → IsTrue (has_variable order.now (slice_index representatives.now v)) }
     ensures { IfOk result (λ v. PositionsAre representatives.now order.now v.items) }
 {
-    let mut positions = Vec::new(alloc);
+    let mut positions = Vec::with_capacity(alloc, representatives.len())?;
     for representative in representatives {
         positions.push(position_in(order, *representative))?;
     }
@@ -170,7 +171,7 @@ fn spans_of(
     ensures { IfOk result
         (λ v. v.items ≡ Plans.plan_spans (row_of row.now) scope bindings.now order.now) }
 {
-    let mut spans = Vec::new(alloc);
+    let mut spans = Vec::with_capacity(alloc, order.len())?;
     for v in order {
         let count = count(scope, sort_of(row, *v));
         spans.push(span_for(count, binding_of(bindings, *v)))?;
@@ -299,7 +300,7 @@ pub fn make_plan(
     let order = order_of(alloc, bindings, &representatives, preferred)?;
     let positions = positions_of(alloc, &representatives, &order)?;
     let spans = spans_of(alloc, row, scope, bindings, &order)?;
-    let mut ready_at = Vec::new(alloc);
+    let mut ready_at = Vec::with_capacity(alloc, clause_len(row))?;
     add_ready_at(&mut ready_at, row, &positions, row.premises)?;
     add_ready_at(&mut ready_at, row, &positions, row.conclusions)?;
     Ok(Plan {

@@ -7,8 +7,11 @@ ghost use Rattle.e_transfer.specs.declared.models.Filling.TheVariants as filling
 ghost use Rattle.e_transfer.specs.Models.{is_model, value_by};
 ghost use Rattle.e_transfer.specs.Areas.{name_areas_of};
 ghost use Rattle.e_transfer.specs.Marks.{are_marked};
+ghost use Rattle.e_transfer.specs.SumMarks.{have_sum_marks, has_sum_mark};
+ghost use Rattle.e_transfer.specs.declared.query.Strength.TheVariants as strength_is;
 
 use crate::marks::MARKS;
+use crate::sum_marks::SUM_MARKS;
 use e_facts::Facts;
 use e_literal::{Lit, Scope, Term};
 use e_metric::StepFacts;
@@ -22,6 +25,13 @@ pub enum Strength {
     Sums,
     /// A metric one may also follow from the facts, if none of its systems is wide.
     NarrowSums,
+}
+
+/// Whether each needed literal has to be a fact.
+pub fn asks_facts(strength: Strength) -> bool
+    ensures { result ≡ true → strength ≡ strength_is.Facts }
+{
+    matches!(strength, Strength::Facts)
 }
 
 /// The goal, and the facts of a step, which are in scope and well formed, and not too many for a
@@ -44,12 +54,16 @@ pub struct Query<'a> {
     pub flat_model: bool,
     /// Which relations the facts have, and with which sign.
     pub marks: [bool; MARKS],
+    /// Where each literal has to be a fact: the marks of the sums of the goal and of the facts.
+    pub sum_marks: [bool; SUM_MARKS],
     /// The areas that the facts name, each in the one way of writing it, where metric questions may
     /// be asked.
     pub areas: &'a [Term],
     ghost step_facts_of: { ForSome (option_copied step_facts) (λ k. k ≡ facts.now) },
     ghost good: { IsTrue (are_limited_facts scope facts.now) },
     ghost marked: { IsTrue (are_marked marks facts.now) },
+    ghost sum_marked: { strength ≡ strength_is.Facts
+        → IsTrue (have_sum_marks sum_marks facts.now) × IsTrue (has_sum_mark sum_marks goal.now) },
     ghost named: { IsTrue
         (not (plain_model || spread_model) || name_areas_of areas.now facts.now) },
     ghost plain: { IsTrue

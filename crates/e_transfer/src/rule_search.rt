@@ -41,6 +41,7 @@ fn search_with_bindings(
         query.now.goal.now (NoneWithBindings query.now.strength query.now.scope query.now.facts.now
         query.now.goal.now rule place bindings.now)) }
 {
+    let mut chosen = Vec::with_capacity(alloc, bindings.len())?;
     let plan = make_plan(alloc, row, query.scope, bindings, preferred)?;
     let task = InstanceSearch {
         query: *query,
@@ -49,7 +50,6 @@ fn search_with_bindings(
         plan: &plan,
         areas: place_of_areas(row),
     };
-    let mut chosen = Vec::new(alloc);
     let found = search(alloc, &task, &mut (), &plan.spans, &mut chosen);
     mem::drop(plan);
     match found? {

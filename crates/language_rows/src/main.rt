@@ -1,9 +1,10 @@
 //! Calls the crates of outside, text, language, figures, facts, rows and generating on the rows of
 //! standard input, and prints what they answer: their tests as data.
 //!
+//! The rows are made from the blocks in `rows/`, by `tools/rows.py`, which says what these are.
 //! A row is a line: the word for a crate, the word for a call, and what it is called on. It is
-//! printed with its answer after `=>`. A line that begins with a star is printed as it is: it says
-//! what the rows below it show.
+//! printed with its answer after `=>`. A line that begins with a star is printed as it is: it has
+//! the name of the row below it.
 #![tactic(auto)]
 
 mod answer;

@@ -5,7 +5,7 @@ use crate::answer::Answer;
 use crate::literals::literals;
 use crate::rows::{object, objects};
 use e_literal::{Items, Obj, Scope, Sort};
-use e_theorem::{Statement, is_pattern, use_of};
+use e_theorem::{Notion, Statement, expand, is_pattern, use_of};
 use std::alloc::{AllocError, Global};
 
 const SCOPE: Scope = Scope {
@@ -14,10 +14,12 @@ const SCOPE: Scope = Scope {
     circles: 0,
 };
 
-/// Puts the use of the proposition at arguments, or whether they are a pattern.
+/// Puts the use of the proposition at arguments, or whether they are a pattern, or what a notion
+/// says of them.
 pub fn put(alloc: Global, out: &mut Answer, call: &str, letters: &str) -> Result<(), AllocError> {
     match call {
         "use" => put_use(alloc, out, letters),
+        "expand" => put_expanded(alloc, out, letters),
         _ => put_pattern(alloc, out, letters),
     }
 }
@@ -66,5 +68,33 @@ fn put_used(alloc: Global, out: &mut Answer, statement: &Statement, args: &[Obj]
             out.word("gives");
             out.literals(used.gives.items());
         }
+    }
+}
+
+/// Of a point and a line: the point is on the line, and is not itself.
+fn point_of_line(alloc: Global) -> Result<Notion, AllocError> {
+    let declared = Vec::from_slice(alloc, &[Sort::Point, Sort::Line])?;
+    let means = literals(alloc, "On aa; not EqP aa")?;
+    Ok(Notion {
+        declared: Items::new(declared),
+        means: Items::new(means),
+    })
+}
+
+fn put_expanded(alloc: Global, out: &mut Answer, letters: &str) -> Result<(), AllocError> {
+    let args = objects(alloc, letters)?;
+    let notion = point_of_line(alloc)?;
+    put_meant(alloc, out, &notion, &args);
+    Ok(())
+}
+
+// What the notion says of these arguments.
+fn put_meant(alloc: Global, out: &mut Answer, notion: &Notion, args: &[Obj]) {
+    if notion.declared.len() > 2 {
+        return out.word("another notion");
+    }
+    match expand(alloc, notion, args, SCOPE) {
+        Err(fault) => out.show(&fault),
+        Ok(means) => out.literals(means.items()),
     }
 }

@@ -1,12 +1,13 @@
 //! Runs the program over memory on the rows of standard input, and prints what it answers to each:
 //! its tests as data.
 //!
+//! The rows are made from the blocks in `rows/`, by `tools/rows.py`, which says what these are.
 //! A row is a line: the words of a command, the call of the source that fails, the call of the sink
 //! that fails (nothing where none does), and a text, with ` => ` between two. In a text a slash
 //! ends a line, a tilde is a byte that no text may hold, and `{N*TEXT}` is the text N times, with
-//! its number from 0 in the place of `$`. A line that begins with a star is printed as it is. In an
-//! answer a slash ends a line, and the exit status comes last; of a long one only the end is
-//! printed.
+//! its number from 0 in the place of `$`. A line that begins with a star is printed as it is: it has
+//! the name of the row below it. In an answer a slash ends a line, and the exit status comes last;
+//! of a long one only the end is printed.
 //!
 //! A row may go on with further texts, with ` => ` before each: the text is run with each of them in
 //! turn in the place of its `@`, and ` => ` stands between the answers. Of those that end in success
@@ -51,10 +52,10 @@ fn calls_of(part: &str, piece: usize) -> Calls {
     }
 }
 
-/// The words of a command, with one space between two.
+/// The words of a command, with one space between two; none of an empty one.
 fn words_of(alloc: Global, command: &str) -> Result<Vec<String>, AllocError> {
     let mut words = Vec::new(alloc);
-    for word in command.split(' ') {
+    for word in command.split_terminator(' ') {
         words.push(String::from_str(alloc, word)?)?;
     }
     Ok(words)

@@ -32,7 +32,7 @@ use Rattle.e_metric.specs.inner.FurtherRows.{terms_added, rows_added_by_goal, fu
 use Rattle.e_metric.specs.SolvedSystems.{AreNamed, IsSolvedSystem, AreTogether}
 use Rattle.e_metric.specs.ListedTerms.{with_listed, distinct_terms}
 use Rattle.e_metric.specs.MetricAnswers.{IsMetricCertificate}
-use Rattle.e_metric.proofs.rows.GoalRows.{with_further}
+use Rattle.e_metric.proofs.rows.GoalRows.{with_further, all_terms}
 use Rattle.e_metric.proofs.rows.RowOrder.{one_order, reordered_more}
 use Rattle.e_metric.specs.RowOrder.{AreReordered}
 use Rattle.e_metric.proofs.answers.KindAnswers
@@ -183,6 +183,11 @@ module _ (which : Kind) (facts : List Lit) (wanted : Option Lit) (g : SolvedSyst
 -- where its terms are set beside those that are kept
 pub asked : (which : Kind) (facts : List Lit) (l : Lit) (g : SolvedSystem) (fresh : List Term) → IsSolvedSystem which facts g → fresh ≡ terms_added which g.terms.items (l ∷ []) → rows_added_by_goal which facts fresh l ≡ further which facts l
 asked which facts l g fresh solved_system e = ap (λ ts. rows_added_by_goal which facts ts l) (e ∙ ap (λ ts. terms_added which ts (l ∷ [])) solved_system.terms)
+
+-- the terms are those of the facts and the goal
+pub goal_terms : (which : Kind) (facts : List Lit) (l : Lit) (g : SolvedSystem) (fresh : List Term) → IsSolvedSystem which facts g → fresh ≡ terms_added which g.terms.items (l ∷ []) → g.terms.items ++ fresh ≡ distinct_terms which facts (Some l)
+goal_terms which facts l g fresh solved_system e =
+    ap₂ {A = List Term} {B = List Term} (λ x y. x ++ y) solved_system.terms (e ∙ ap (λ ts. terms_added which ts (l ∷ [])) solved_system.terms) ∙ sym (all_terms which facts l)
 
 pub goal_together : (which : Kind) (facts : List Lit) (l : Lit) (g : SolvedSystem) (names : List RowName) (rows : List GivenRow) → IsSolvedSystem which facts g → AreNamed (further which facts l) names rows → AreTogether which facts (Some l) g names rows
 goal_together which facts l g names rows solved_system more = record {

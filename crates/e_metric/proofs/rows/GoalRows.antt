@@ -40,7 +40,7 @@ last_after which terms ls all e =
     take_all (length all - length terms) (drop (length terms) all) (omega (arith, length-drop (length terms) all)) ∙ goal_rows_after which terms ls all e
 
 -- the terms of the facts, and then the fresh ones of a goal
-all_terms : (which : Kind) (facts : List Lit) (l : Lit) → distinct_terms which facts (Some l) ≡ distinct_terms which facts None ++ terms_added which (distinct_terms which facts None) (l ∷ [])
+pub all_terms : (which : Kind) (facts : List Lit) (l : Lit) → distinct_terms which facts (Some l) ≡ distinct_terms which facts None ++ terms_added which (distinct_terms which facts None) (l ∷ [])
 all_terms which facts l =
     (let known = distinct_terms which facts None in
     let new = terms_of_lits (of_kind which (l ∷ [])) in

@@ -122,7 +122,7 @@ same_numbers Right (Ang d e f) h = absurd (cc)
 same_numbers Right (Area d e f) h = absurd (cc)
 same_numbers Right Right h = refl
 
-ties : (a b : Term) → term_eq a b ≡ eq_by_cmp order a b
+pub ties : (a b : Term) → term_eq a b ≡ eq_by_cmp order a b
 ties a b = same_bool (term_eq a b) (is_eq (order a b))
     (λ h. ap (λ t. is_eq (order a t)) (sym (term_eq_is a b h)) ∙ ap is_eq (tied_itself order_total a))
     (λ h. equal_terms a b (same_numbers a b (slice_cmp-IsAntisymmetric nat_cmp-IsAntisymmetric (numbers_of a) (numbers_of b) (equal_of (order a b) h))))

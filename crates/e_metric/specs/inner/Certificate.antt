@@ -29,17 +29,6 @@ named_multipliers (n ∷ ns) (m ∷ ms) =
     if int_eq m (pos 0) then named_multipliers ns ms else (m, n) ∷ named_multipliers ns ms
 named_multipliers _ _ = []
 
--- the rows whose weight is not 0
-abbrev pub used_rows : List GivenRow → List ℤ → List GivenRow
-used_rows (r ∷ rs) (w ∷ ws) = if int_eq w (pos 0) then used_rows rs ws else r ∷ used_rows rs ws
-used_rows _ _ = []
-
--- and these weights
-abbrev pub used_weights : List GivenRow → List ℤ → List ℤ
-used_weights (r ∷ rs) (w ∷ ws) =
-    if int_eq w (pos 0) then used_weights rs ws else w ∷ used_weights rs ws
-used_weights _ _ = []
-
 -- where less than nothing is left of a term, as many times the row that says that it is at least 0
 abbrev pub leasts : (Term → ℤ) → List Term → List (ℤ × RowName)
 leasts left [] = []

@@ -1,6 +1,6 @@
 -- A block of a derivation text while its lines come, by what the parser holds.
-use Rattle.std.specs.Prelude.{◌≡◌, IfSome, IsTrue, ℕ, ◌≤◌, Bool, false, ◌∷◌, ◌++◌, List, []}
-use Rattle.std.specs.Prelude.{length, Option, Some, None, Result, Ok, Err}
+use Rattle.std.specs.Prelude.{◌≡◌, IfSome, IsTrue, ℕ, ◌≤◌, ◌&&◌, Bool, true, false, ◌∷◌, ◌++◌}
+use Rattle.std.specs.Prelude.{List, [], length, is_none, Option, Some, None, Result, Ok, Err}
 use Rattle.std.specs.Prelude.{if◌then◌else◌}
 use Rattle.std.specs.Option.{option_to_list}
 use Rattle.std.specs.Str.{bytes_eq}
@@ -22,6 +22,7 @@ use Rattle.e_book.specs.Steps.{begin, step, no_names, count_names, FitsScope}
 use Rattle.e_book.specs.Grammar.{last_line}
 use Rattle.e_book.specs.Book.{is_done}
 use Rattle.e_cert.specs.declared.cert_line.CertLine.{CertLine}
+use Rattle.e_cert.specs.declared.owed.Obligation.{Obligation}
 use Rattle.e_cert.specs.declared.owed.Obligation.TheVariants as due
 use Rattle.e_cert.specs.declared.owed.Pending.{Pending}
 use Rattle.e_cert.specs.declared.kept.StepCerts.{StepCerts}
@@ -43,6 +44,14 @@ use Rattle.e_read.specs.Text.{TextPiece, Derived, Last, is_bar, is_lf_end, last_
 
 abbrev pub owes_nothing : Pending
 owes_nothing = record { names = no_names; due = due.Nothing; sums = None }
+
+abbrev pub is_nothing : Obligation → Bool
+is_nothing due.Nothing = true
+is_nothing d = false
+
+-- no certificate is owed, and none is begun
+abbrev pub is_settled : Pending → Bool
+is_settled o = is_nothing o.due && is_none o.sums
 
 -- before the first line of a block, in a text of this version
 abbrev pub at_start : Version → BlockParser
@@ -195,7 +204,3 @@ pub record FitsParser (d : TheoremParser) : Type 0 where
 pub record FitsReading (r : BlockParser) : Type 0 where
   pub parser : IfSome r.parser FitsParser
   pub names : FewNames r.owed.names
-
-pub record FitsBegun (d : TheoremParser) (o : Pending) : Type 0 where
-  pub parser : FitsParser d
-  pub names : FewNames o.names

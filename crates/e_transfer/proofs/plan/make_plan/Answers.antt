@@ -15,8 +15,8 @@ returns c =
     let placed = subst (λ (l : List ℕ). PositionsAre l c.deref-3.result.now positions) c.deref-2.ensures.value c.in_ok-positions.ensures in
     let placed' = subst (λ (l : List ℕ). PositionsAre representatives l positions) c.deref-3.ensures.value placed in
     let spans = c.in_ok-spans.ensures ∙ ap (λ (l : List ℕ). plan_spans r c.args.scope c.args.bindings.now l) c.deref-4.ensures.value in
-    let first = c.in_ok-add_ready_at.ensures ∙ ap (λ (l : List ℕ). c.new-ready_at.result.items ++ map (λ m. atom_last r l m.atom) r.premises) c.deref-5.ensures.value
-    ∙ ap (λ (l : List ℕ). l ++ map (λ m. atom_last r positions m.atom) r.premises) c.new-ready_at.ensures.items in
+    let first = c.in_ok-add_ready_at.ensures ∙ ap (λ (l : List ℕ). c.in_ok-ready_at.ready_at.items ++ map (λ m. atom_last r l m.atom) r.premises) c.deref-5.ensures.value
+    ∙ ap (λ (l : List ℕ). l ++ map (λ m. atom_last r positions m.atom) r.premises) c.in_ok-ready_at.ensures.items in
     let second = c.in_ok-add_ready_at-2.ensures ∙ ap (λ (l : List ℕ). c.add_ready_at.new.ready_at.items ++ map (λ m. atom_last r l m.atom) r.conclusions) c.deref-6.ensures.value
     ∙ ap (λ (l : List ℕ). l ++ map (λ m. atom_last r positions m.atom) r.conclusions) first in
     plan_is r c.args.scope c.args.bindings.now representatives order (record { positions = c.in_ok-positions.positions; ready_at = c.add_ready_at-2.new.ready_at; spans = c.in_ok-spans.spans })

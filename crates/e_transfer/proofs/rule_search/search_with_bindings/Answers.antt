@@ -13,8 +13,8 @@ unreachable-requires c =
     let s = c.args.query.now in
     let plan = c.in_ok-plan.plan in
     none_unshown s.scope s.facts.now s.goal.now (λ part. Unit {0}) (Wanted s.strength s.scope s.facts.now s.goal.now c.args.rule c.args.place plan)
-    (λ part w. (s.strength ≡ strength.Sums) × IsWideTransfer s.scope s.facts.now s.goal.now w) plan.spans.items c.deref.result.now c.new-chosen.result.items
-    c.search-found.new.chosen.items c.in_ok-cert.field-0 c.deref.ensures.value c.new-chosen.ensures.items
+    (λ part w. (s.strength ≡ strength.Sums) × IsWideTransfer s.scope s.facts.now s.goal.now w) plan.spans.items c.deref.result.now c.in_ok-chosen.chosen.items
+    c.search-found.new.chosen.items c.in_ok-cert.field-0 c.deref.ensures.value c.in_ok-chosen.ensures.items
     (c.in-Yes-None.is ∙ ap (λ (p : Option TransferCert). verdict.Yes p) c.in-Yes-None.field-0-is) c.in_ok-cert.ensures.outcome
 
 pub returns-in-No : goal.returns-in-No
@@ -24,5 +24,5 @@ returns-in-No c =
     none_tied s.strength s.scope s.facts.now s.goal.now c.args.rule c.args.place (row_of c.args.row.now) c.args.bindings.now plan c.requires.of_table c.in_ok-plan.ensures
     (none_wanted (λ part. Unit {0}) (Wanted s.strength s.scope s.facts.now s.goal.now c.args.rule c.args.place plan)
     (Shown s.scope s.facts.now s.goal.now (length plan.spans.items)) (λ part w. (s.strength ≡ strength.Sums) × IsWideTransfer s.scope s.facts.now s.goal.now w)
-    plan.spans.items c.deref.result.now c.new-chosen.result.items c.search-found.new.chosen.items c.in_ok-cert.field-0 c.deref.ensures.value c.new-chosen.ensures.items
+    plan.spans.items c.deref.result.now c.in_ok-chosen.chosen.items c.search-found.new.chosen.items c.in_ok-cert.field-0 c.deref.ensures.value c.in_ok-chosen.ensures.items
     c.in-No.is c.in_ok-cert.ensures.outcome)

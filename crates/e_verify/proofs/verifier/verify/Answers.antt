@@ -9,6 +9,7 @@ use Rattle.e_literal.specs.Use.{StatementView, scope_of}
 use Rattle.e_theorem.specs.Statements.{stated, all_stated}
 use Rattle.e_deriv.specs.Script.{script_of}
 use Rattle.e_deriv.specs.Goal.{Goal, goal_of_statement}
+use Rattle.e_deriv.proofs.Agreement.{proof_of_certified}
 use Rattle.e_verify.specs.Checking.{verdict_at}
 use Rattle.e_verify.proofs.checking.DerivationsOfStatements.{same_verdict, start_ready, certified_of, few_declared, few_more}
 use Rattle.e_verify.proofs.verifier.verify.Goals as goal
@@ -75,6 +76,6 @@ returns-in-Ok-clause-proof c =
     let d = script_of c.args.deriv.now in
     let g = as_goal c.deref.result.now c.items-3.result.now in
     let made = made_is t c.grown-scope.result c.items.result.now c.items-2.result.now c.deref.result.now c.in_ok-made.made.items c.grown-scope.ensures c.items.ensures c.items-2.ensures c.in_ok-made.ensures c.deref.ensures.value in
-    c.certified_proves.ensures before t d
+    proof_of_certified before t d
     (certified_of before t d (verdict_at before d c.in_ok-state.state g 1) c.in-Ok.field-0
     (same_verdict before t d c.in_ok-state.state g c.in_ok-state.ensures (goal_is t c.deref.result.now c.items-3.result.now made c.items-3.ensures)) c.in-Ok.ensures.ok)

@@ -1,4 +1,4 @@
 use Rattle.e_book.proofs.coming.Coming.go_on.Goals as goal
 
-pub step-requires-clause-known : goal.step-requires-clause-known
-step-requires-clause-known c = c.requires.coming.few c.if-self.false
+pub take-requires-clause-known : goal.take-requires-clause-known
+take-requires-clause-known c = c.requires.coming.few c.if-self.false

@@ -8,4 +8,4 @@ pub returns : goal.returns
 returns c =
     begun c.args.constraints.items c.args.width _ c.requires.some refl
     (subst (λ v. FixedTo (c.args.width + length v) v c.args.width c.in_ok-fixed.fixed.items) c.deref.ensures.value c.in_ok-fixed.ensures)
-    c.new.ensures.items c.in_ok-columns.ensures c.new-2.ensures.items refl
+    c.in_ok-basis.ensures.items c.in_ok-columns.ensures c.in_ok-entries.ensures.items refl
