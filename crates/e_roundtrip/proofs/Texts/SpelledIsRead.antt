@@ -20,7 +20,7 @@ use Rattle.e_book.specs.declared.parser.Section.TheVariants.{Closed, Done}
 use Rattle.e_book.specs.declared.parser.TheoremParser.{TheoremParser}
 use Rattle.e_names.specs.TitledStatements.{TitledStatement, stated_by}
 use Rattle.e_names.specs.Scope.{scope_of_names}
-use Rattle.e_book.specs.Steps.{begin, begun, closed, stepped, step}
+use Rattle.e_book.specs.Steps.{begin, with_title, parser_after_close, after_line, step}
 use Rattle.e_book.specs.TheoremViews.{TheoremView}
 use Rattle.e_line.specs.Limits.{count_monomials}
 use Rattle.e_book.specs.Fits.{few_facts, few_terms}
@@ -105,8 +105,8 @@ stood v known t d c o =
 abbrev shut_parser : TheoremView → Script → Inside → TheoremParser
 shut_parser t d last = record (proving (started t) last) { steps = steps_of (erased d); blocks = []; close = close_of (erased d); section = Closed }
 
-closed_last : (t : TheoremView) (d : Script) (last : Inside) → closed (proving (started t) last) [] (steps_of (erased d)) (close_of (erased d)) ≡ Ok (shut_parser t d last)
-unfolding closed
+closed_last : (t : TheoremView) (d : Script) (last : Inside) → parser_after_close (proving (started t) last) [] (steps_of (erased d)) (close_of (erased d)) ≡ Ok (shut_parser t d last)
+unfolding parser_after_close
 closed_last t d last = refl
 
 -- all lines between the first and the last
@@ -115,17 +115,17 @@ middle known t d = map line_of (stating_forms t) ++ script_lines known (names_of
 
 record Middle (known : List TitledStatement) (t : TheoremView) (d : Script) : Type 0 where
   last : Inside
-  along : Along known (begun t.title) (middle known t d) (shut_parser t d last) (kepts d)
+  along : Along known (with_title t.title) (middle known t d) (shut_parser t d last) (kepts d)
 
 middle_along : (v : Version) (known : List TitledStatement) (t : TheoremView) (d : Script) → CanBeSpelled v known t d → InOrder t.names → Middle known t d
 middle_along v known t d c o =
     let proof = script_spelled known (started t) (begins t) d (facts_of_statement (stated t.statement)) (goal_of_statement (stated t.statement)) (stood v known t d c o) in
     let p = proving (started t) (begins t) in
     let e = shut_parser t d proof.last in
-    let statement = head_along known (begun t.title) p (stating_forms t) (run_statement known (plain_entry t d) c.plain o) (statement_heads t.names t.statement) in
+    let statement = head_along known (with_title t.title) p (stating_forms t) (run_statement known (plain_entry t d) c.plain o) (statement_heads t.names t.statement) in
     record {
       last = proof.last;
-      along = along_append known (begun t.title) p e (map line_of (stating_forms t)) (script_lines known (names_of_proof t) d) [] (kepts d) statement (proof.along e (closed_last t d proof.last) refl);
+      along = along_append known (with_title t.title) p e (map line_of (stating_forms t)) (script_lines known (names_of_proof t) d) [] (kepts d) statement (proof.along e (closed_last t d proof.last) refl);
     }
 
 -- ---- what is kept is of the version
@@ -193,9 +193,9 @@ all_read known number r next (text ∷ texts) more (Ok l ∷ all) rest a sh =
 -- ---- the first line
 
 abbrev titled : Version → TheoremView → BlockParser
-titled v t = record { version = v; parser = Some (begun t.title); owed = owes_nothing; kept = [] }
+titled v t = record { version = v; parser = Some (with_title t.title); owed = owes_nothing; kept = [] }
 
-title_stands : (v : Version) (t : TheoremView) → Stands (titled v t) (begun t.title) []
+title_stands : (v : Version) (t : TheoremView) → Stands (titled v t) (with_title t.title) []
 unfolding finish_certs
 title_stands v t = record { parser = refl; read = None; settles = refl; kept = refl }
 
@@ -204,7 +204,7 @@ unfolding finish_certs with_raw_line line_stepped
 title_leads v known t d h =
     let f = rawlines.Theorem t.title in
     let r = run_title known t.title h.title h.fits.new h.few_theorems in
-    let begins : begin known f ≡ Ok (begun t.title) = r.2 ∙ ap (λ (x : TheoremParser). Ok x) (parser_is r.0 (begun t.title) r.4) in
+    let begins : begin known f ≡ Ok (with_title t.title) = r.2 ∙ ap (λ (x : TheoremParser). Ok x) (parser_is r.0 (with_title t.title) r.4) in
     ap (parser_after_words known (at_start v) (line_of f)) (words_again f h.title) ∙ no_bar known (at_start v) (line_of f) f ∙ rw (strict_form_again f h.title refl, begins) refl
 
 -- a first line of a theorem is no last line of a text
@@ -218,7 +218,7 @@ not_last known l title b = by_end l.end
 -- ---- the last line
 
 step_end : (known : List TitledStatement) (t : TheoremView) (d : Script) (last : Inside) → step known (shut_parser t d last) rawlines.End ≡ Ok (record (shut_parser t d last) { section = Done })
-unfolding step stepped
+unfolding step after_line
 step_end known t d last = refl
 
 -- the certificates at their lines
