@@ -110,9 +110,10 @@ pub fn find_by_sums(
     found
 }
 
-/// The same, where what many searches need is made of the facts. Values with which all metric facts
-/// are true, if such are known, show of most metric literals that they do not follow. What facts
-/// alone give is found by the way; only where a system is wide is it searched for by itself.
+/// The answer of [`find`], where what many searches need is made of the facts already. Values with
+/// which all metric facts are true, if such are known, show of most metric literals that they do
+/// not follow. What facts alone give is found by the way; only where a system is wide is it
+/// searched for by itself.
 pub fn find_prepared<'a>(
     alloc: Global,
     scope: Scope,
@@ -150,7 +151,7 @@ pub fn find_prepared<'a>(
     }
 }
 
-/// The same, where a literal that an instance needs has a wide system, of this width: facts alone
+/// The answer where a literal that an instance needs has a wide system, of this width: facts alone
 /// may give the goal.
 fn find_where_wide(alloc: Global, query: &Query, width: u128) -> Result<Found, AllocError>
     requires wide { IsWideTransfer query.now.scope query.now.facts.now query.now.goal.now width }
@@ -164,8 +165,8 @@ fn find_where_wide(alloc: Global, query: &Query, width: u128) -> Result<Found, A
     }
 }
 
-/// The same, where facts alone do not give the goal either: literals with wide systems are passed
-/// over.
+/// The answer where such a literal has a wide system, and facts alone do not give the goal: another
+/// instance may, and literals with wide systems are passed over.
 fn find_narrow(alloc: Global, query: &Query, width: u128) -> Result<Found, AllocError>
     requires not_plain { ¬ TransferFromFacts query.now.scope query.now.facts.now
         query.now.goal.now }

@@ -1,6 +1,6 @@
 use Rattle.std.proofs.Common.{◌≡◌, [], take, IsTrue}
 use Rattle.e_transfer.specs.inner.Matches.{none_cancels, all_cancel}
-use Rattle.e_transfer.proofs.matches.add_left.Given as goal
+use Rattle.e_transfer.proofs.matches.add_not_cancelling.Given as goal
 
 abbrev pub invariant-loop-m : goal.invariant-loop-m
 invariant-loop-m l = record {
