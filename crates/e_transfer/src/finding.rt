@@ -75,13 +75,9 @@ pub fn find_by_facts<'a>(
         goal,
         strength: Strength::Facts,
         step_facts: None,
-        values: &[],
-        plain_model: false,
-        spread_model: false,
-        flat_model: false,
+        hints: None,
         marks: marks_of(facts),
         sum_marks: sum_marks_of(facts, goal),
-        areas: &[],
     };
     match search_rules(alloc, &query)? {
         Verdict::Yes(cert) => Ok(Some(cert)),
@@ -136,13 +132,9 @@ pub fn find_prepared<'a>(
         goal,
         strength: Strength::Sums,
         step_facts: Some(&step_facts),
-        values: prepared.values.items(),
-        plain_model: prepared.plain_model,
-        spread_model: prepared.spread_model,
-        flat_model: prepared.flat_model,
+        hints: Some(prepared),
         marks: prepared.marks,
         sum_marks: [false; SUM_MARKS],
-        areas: &prepared.areas,
     };
     match search_rules(alloc, &query)? {
         Verdict::Yes(cert) => Ok(Found::Yes(cert)),
@@ -173,21 +165,8 @@ fn find_narrow(alloc: Global, query: &Query, width: u128) -> Result<Found, Alloc
     requires wide { IsWideTransfer query.now.scope query.now.facts.now query.now.goal.now width }
     ensures { IfOk result (IsFound query.now.scope query.now.facts.now query.now.goal.now) }
 {
-    let step_facts = query.step_facts;
-    let narrow = Query {
-        scope: query.scope,
-        facts: query.facts,
-        goal: query.goal,
-        strength: Strength::NarrowSums,
-        step_facts,
-        values: query.values,
-        plain_model: query.plain_model,
-        spread_model: query.spread_model,
-        flat_model: query.flat_model,
-        marks: query.marks,
-        sum_marks: query.sum_marks,
-        areas: query.areas,
-    };
+    let mut narrow = *query;
+    narrow.strength = Strength::NarrowSums;
     match search_rules(alloc, &narrow)? {
         Verdict::Yes(cert) => Ok(Found::Yes(cert)),
         Verdict::No => Ok(Found::TooWide(width)),

@@ -178,7 +178,10 @@ fn may_follow(query: &Query, neg: bool, shape: &Shape) -> bool
     if relation < OF_DIAGRAMS {
         return query.marks[mark(relation, neg)];
     }
-    if !query.flat_model {
+    let Some(hints) = query.hints else {
+        return true;
+    };
+    if !hints.flat_model {
         return true;
     }
     !is_strict_of_areas(neg, shape)
