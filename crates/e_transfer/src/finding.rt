@@ -75,13 +75,9 @@ pub fn find_by_facts<'a>(
         goal,
         strength: Strength::Facts,
         step_facts: None,
-        values: &[],
-        plain_model: false,
-        spread_model: false,
-        flat_model: false,
+        hints: None,
         marks: marks_of(facts),
         sum_marks: sum_marks_of(facts, goal),
-        areas: &[],
     };
     match search_rules(alloc, &query)? {
         Verdict::Yes(cert) => Ok(Some(cert)),
@@ -110,9 +106,10 @@ pub fn find_by_sums(
     found
 }
 
-/// The same, where what many searches need is made of the facts. Values with which all metric facts
-/// are true, if such are known, show of most metric literals that they do not follow. What facts
-/// alone give is found by the way; only where a system is wide is it searched for by itself.
+/// The answer of [`find`], where what many searches need is made of the facts already. Values with
+/// which all metric facts are true, if such are known, show of most metric literals that they do
+/// not follow. What facts alone give is found by the way; only where a system is wide is it
+/// searched for by itself.
 pub fn find_prepared<'a>(
     alloc: Global,
     scope: Scope,
@@ -135,13 +132,9 @@ pub fn find_prepared<'a>(
         goal,
         strength: Strength::Sums,
         step_facts: Some(&step_facts),
-        values: prepared.values.items(),
-        plain_model: prepared.plain_model,
-        spread_model: prepared.spread_model,
-        flat_model: prepared.flat_model,
+        hints: Some(prepared),
         marks: prepared.marks,
         sum_marks: [false; SUM_MARKS],
-        areas: &prepared.areas,
     };
     match search_rules(alloc, &query)? {
         Verdict::Yes(cert) => Ok(Found::Yes(cert)),
@@ -150,7 +143,7 @@ pub fn find_prepared<'a>(
     }
 }
 
-/// The same, where a literal that an instance needs has a wide system, of this width: facts alone
+/// The answer where a literal that an instance needs has a wide system, of this width: facts alone
 /// may give the goal.
 fn find_where_wide(alloc: Global, query: &Query, width: u128) -> Result<Found, AllocError>
     requires wide { IsWideTransfer query.now.scope query.now.facts.now query.now.goal.now width }
@@ -164,29 +157,16 @@ fn find_where_wide(alloc: Global, query: &Query, width: u128) -> Result<Found, A
     }
 }
 
-/// The same, where facts alone do not give the goal either: literals with wide systems are passed
-/// over.
+/// The answer where such a literal has a wide system, and facts alone do not give the goal: another
+/// instance may, and literals with wide systems are passed over.
 fn find_narrow(alloc: Global, query: &Query, width: u128) -> Result<Found, AllocError>
     requires not_plain { ¬ TransferFromFacts query.now.scope query.now.facts.now
         query.now.goal.now }
     requires wide { IsWideTransfer query.now.scope query.now.facts.now query.now.goal.now width }
     ensures { IfOk result (IsFound query.now.scope query.now.facts.now query.now.goal.now) }
 {
-    let step_facts = query.step_facts;
-    let narrow = Query {
-        scope: query.scope,
-        facts: query.facts,
-        goal: query.goal,
-        strength: Strength::NarrowSums,
-        step_facts,
-        values: query.values,
-        plain_model: query.plain_model,
-        spread_model: query.spread_model,
-        flat_model: query.flat_model,
-        marks: query.marks,
-        sum_marks: query.sum_marks,
-        areas: query.areas,
-    };
+    let mut narrow = *query;
+    narrow.strength = Strength::NarrowSums;
     match search_rules(alloc, &narrow)? {
         Verdict::Yes(cert) => Ok(Found::Yes(cert)),
         Verdict::No => Ok(Found::TooWide(width)),

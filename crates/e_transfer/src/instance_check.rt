@@ -12,7 +12,6 @@ ghost use Rattle.e_metric.specs.MetricAnswers.{IsMetricAnswer, IfNo};
 ghost use Rattle.e_transfer.specs.GivenGoals;
 ghost use Rattle.e_transfer.specs.GivenGoals.{PartIs, PartsAre, InstanceIs, passed_over};
 
-use crate::models::{Filling, refutes};
 use crate::query::{Query, Strength};
 use crate::walk::Verdict;
 use e_clause::{InstanceFault, Part, Rule, TransferCert, instance};
@@ -37,9 +36,10 @@ fn too_wide(strength: Strength, width: u128) -> Verdict<Part>
 pub fn is_refuted(query: &Query, need: &Lit) -> bool
     ensures { result ≡ true → ¬ MetricConsequence query.now.facts.now need.now }
 {
-    let facts = query.facts;
-    (query.plain_model && refutes(facts, Filling::Ones, query.values, need))
-        || (query.spread_model && refutes(facts, Filling::Spread, query.values, need))
+    match query.hints {
+        Some(hints) => hints.refutes(query.facts, need),
+        None => false,
+    }
 }
 
 /// Whether the metric literal follows from the facts, by what is known of them.

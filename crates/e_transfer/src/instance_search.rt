@@ -93,10 +93,13 @@ fn is_free(query: &Query, area: Term) -> bool
     requires { IsTrue (is_area_term area) }
     ensures { result ≡ true → Areas.IsFree query.now.facts.now area }
 {
-    if is_degenerate(area) || is_one_of(query.areas, area) {
+    let Some(hints) = query.hints else {
+        return false;
+    };
+    if is_degenerate(area) || is_one_of(&hints.areas, area) {
         return false;
     }
-    query.plain_model || query.spread_model
+    hints.plain_model || hints.spread_model
 }
 
 impl<'a> InstanceSearch<'a> {

@@ -16,11 +16,40 @@ use e_clause::{Pattern, Row, Shape};
 use e_facts::Facts;
 use e_literal::{Atom, Lit, Mono, Term};
 
-/// How many relations there are between objects; the two between sums come after them.
-const OF_DIAGRAMS: usize = 12;
+// The relations, numbered: those between objects come first, and then the two between sums.
+const ON: usize = 0;
+
+const ON_CIRCLE: usize = 1;
+
+const INSIDE: usize = 2;
+
+const CENTER: usize = 3;
+
+const BETWEEN: usize = 4;
+
+const SAME_SIDE: usize = 5;
+
+const LINES_MEET: usize = 6;
+
+const LINE_MEETS_CIRCLE: usize = 7;
+
+const CIRCLES_MEET: usize = 8;
+
+const EQUAL_POINTS: usize = 9;
+
+const EQUAL_LINES: usize = 10;
+
+const EQUAL_CIRCLES: usize = 11;
+
+const EQUAL_SUMS: usize = 12;
+
+const LESS_SUM: usize = 13;
+
+/// How many relations there are between objects.
+const OF_DIAGRAMS: usize = EQUAL_SUMS;
 
 /// Two marks for each relation: of it, and of its negation.
-pub const MARKS: usize = 28;
+pub const MARKS: usize = 2 * (LESS_SUM + 1);
 
 /// The number of the atom's relation.
 fn relation(atom: &Atom) -> usize
@@ -28,20 +57,20 @@ fn relation(atom: &Atom) -> usize
     ensures below { result < 14 }
 {
     match atom {
-        Atom::On(_, _) => 0,
-        Atom::OnC(_, _) => 1,
-        Atom::Inside(_, _) => 2,
-        Atom::Center(_, _) => 3,
-        Atom::Between(_, _, _) => 4,
-        Atom::Same(_, _, _) => 5,
-        Atom::MeetLL(_, _) => 6,
-        Atom::MeetLC(_, _) => 7,
-        Atom::MeetCC(_, _) => 8,
-        Atom::EqP(_, _) => 9,
-        Atom::EqL(_, _) => 10,
-        Atom::EqC(_, _) => 11,
-        Atom::MagEq(_, _) => 12,
-        Atom::MagLt(_, _) => 13,
+        Atom::On(_, _) => ON,
+        Atom::OnC(_, _) => ON_CIRCLE,
+        Atom::Inside(_, _) => INSIDE,
+        Atom::Center(_, _) => CENTER,
+        Atom::Between(_, _, _) => BETWEEN,
+        Atom::Same(_, _, _) => SAME_SIDE,
+        Atom::MeetLL(_, _) => LINES_MEET,
+        Atom::MeetLC(_, _) => LINE_MEETS_CIRCLE,
+        Atom::MeetCC(_, _) => CIRCLES_MEET,
+        Atom::EqP(_, _) => EQUAL_POINTS,
+        Atom::EqL(_, _) => EQUAL_LINES,
+        Atom::EqC(_, _) => EQUAL_CIRCLES,
+        Atom::MagEq(_, _) => EQUAL_SUMS,
+        Atom::MagLt(_, _) => LESS_SUM,
     }
 }
 
@@ -51,20 +80,20 @@ fn relation_of(shape: &Shape) -> usize
     ensures below { result < 14 }
 {
     match shape {
-        Shape::On(_, _) => 0,
-        Shape::OnC(_, _) => 1,
-        Shape::Inside(_, _) => 2,
-        Shape::Center(_, _) => 3,
-        Shape::Between(_, _, _) => 4,
-        Shape::Same(_, _, _) => 5,
-        Shape::MeetLL(_, _) => 6,
-        Shape::MeetLC(_, _) => 7,
-        Shape::MeetCC(_, _) => 8,
-        Shape::EqP(_, _) => 9,
-        Shape::EqL(_, _) => 10,
-        Shape::EqC(_, _) => 11,
-        Shape::MagEq(_, _) => 12,
-        Shape::MagLt(_, _) => 13,
+        Shape::On(_, _) => ON,
+        Shape::OnC(_, _) => ON_CIRCLE,
+        Shape::Inside(_, _) => INSIDE,
+        Shape::Center(_, _) => CENTER,
+        Shape::Between(_, _, _) => BETWEEN,
+        Shape::Same(_, _, _) => SAME_SIDE,
+        Shape::MeetLL(_, _) => LINES_MEET,
+        Shape::MeetLC(_, _) => LINE_MEETS_CIRCLE,
+        Shape::MeetCC(_, _) => CIRCLES_MEET,
+        Shape::EqP(_, _) => EQUAL_POINTS,
+        Shape::EqL(_, _) => EQUAL_LINES,
+        Shape::EqC(_, _) => EQUAL_CIRCLES,
+        Shape::MagEq(_, _) => EQUAL_SUMS,
+        Shape::MagLt(_, _) => LESS_SUM,
     }
 }
 
@@ -89,7 +118,7 @@ fn mark_of(lit: &Lit) -> usize
 pub fn is_equation(lit: &Lit) -> bool
     ensures { result ≡ false → Marks.lit_mark lit.now ≢ Marks.mark_number 12 false }
 {
-    mark_of(lit) == 24
+    mark_of(lit) == mark(EQUAL_SUMS, false)
 }
 
 /// The marks of the facts.
@@ -149,7 +178,10 @@ fn may_follow(query: &Query, neg: bool, shape: &Shape) -> bool
     if relation < OF_DIAGRAMS {
         return query.marks[mark(relation, neg)];
     }
-    if !query.flat_model {
+    let Some(hints) = query.hints else {
+        return true;
+    };
+    if !hints.flat_model {
         return true;
     }
     !is_strict_of_areas(neg, shape)

@@ -108,7 +108,7 @@ fn cancellations(alloc: Global, x: &[Mono], y: &[Mono]) -> Result<MatchList, All
 {
     match x {
         [first, ..] if first.coeff != 0 => cancellations_with(alloc, first.term, y),
-        _ => unbound(alloc),
+        _ => match_without_equations(alloc),
     }
 }
 
@@ -124,7 +124,7 @@ fn cancellations_with(alloc: Global, term: Term, sum: &[Mono]) -> Result<MatchLi
 }
 
 /// The one match that binds no variable.
-fn unbound(alloc: Global) -> Result<MatchList, AllocError>
+fn match_without_equations(alloc: Global) -> Result<MatchList, AllocError>
     ensures { IfOk result (λ v. v.items ≡ [] ∷ []) }
 {
     let mut matches = Vec::new(alloc);
@@ -133,7 +133,7 @@ fn unbound(alloc: Global) -> Result<MatchList, AllocError>
 }
 
 /// The equations of two matches together.
-fn joined(
+fn equations_of_both(
     alloc: Global,
     first: &[Equation],
     second: &[Equation],
@@ -168,13 +168,18 @@ fn add_each(
         (matches.new.items ≡ matches.old.items ++ map (λ b. first.now ++ b) second.now.items) }
 {
     for b in second {
-        matches.push(joined(alloc, first, b.items())?)?;
+        matches.push(equations_of_both(alloc, first, b.items())?)?;
     }
     Ok(())
 }
 
 /// Adds terms of a sum that do not cancel in x - y, each once, until there are two.
-fn add_left(terms: &mut Vec<Term>, sum: &[Mono], x: &[Mono], y: &[Mono]) -> Result<(), AllocError>
+fn add_not_cancelling(
+    terms: &mut Vec<Term>,
+    sum: &[Mono],
+    x: &[Mono],
+    y: &[Mono],
+) -> Result<(), AllocError>
     ensures hold { OnOk result (IsTrue (none_cancels x.now y.now terms.old.items)
         → IsTrue (none_cancels x.now y.now terms.new.items)) }
     ensures empty { OnOk result (terms.new.items ≡ [] → (terms.old.items ≡ [])
@@ -200,14 +205,14 @@ fn add_once(terms: &mut Vec<Term>, term: Term) -> Result<(), AllocError>
 }
 
 /// Terms of x - y that do not cancel, no two of them one term: all of them, or two.
-fn left(alloc: Global, x: &[Mono], y: &[Mono]) -> Result<Vec<Term>, AllocError>
+fn terms_not_cancelling(alloc: Global, x: &[Mono], y: &[Mono]) -> Result<Vec<Term>, AllocError>
     ensures hold { IfOk result (λ v. IsTrue (none_cancels x.now y.now v.items)) }
     ensures empty { IfOk result (λ v. v.items ≡ [] → IsTrue (all_cancel x.now y.now x.now)
         × IsTrue (all_cancel x.now y.now y.now)) }
 {
     let mut terms = Vec::new(alloc);
-    add_left(&mut terms, x, x, y)?;
-    add_left(&mut terms, y, x, y)?;
+    add_not_cancelling(&mut terms, x, x, y)?;
+    add_not_cancelling(&mut terms, y, x, y)?;
     Ok(terms)
 }
 
@@ -221,7 +226,7 @@ fn matches_of_sums(
 ) -> Result<MatchList, AllocError>
     ensures { IfOk result (λ v. CoverSums x.now y.now z.now w.now v.items) }
 {
-    let terms = left(alloc, z, w)?;
+    let terms = terms_not_cancelling(alloc, z, w)?;
     match terms.as_slice() {
         [] => cancellations(alloc, x, y),
         [term] => matches_in_sums(alloc, x, y, *term),

@@ -16,7 +16,7 @@ pub const SUM_MARKS: usize = 256;
 /// The square modulo a prime below 2^30, so that a sum of such numbers with small coefficients
 /// stays far within 128 bits.
 #[tactic(auto, unfolding(crate::specs::SumMarks::mixed_number))]
-fn mixed(n: u64) -> u64
+fn square_mod_prime(n: u64) -> u64
     requires { n < 2 ^ 32 }
     ensures value { result ≡ mixed_number n }
     ensures bound { result < 2 ^ 30 }
@@ -30,9 +30,9 @@ fn number_of_term(term: Term) -> u64
     ensures bound { result < 2 ^ 30 }
 {
     match term {
-        Term::Seg(a, b) => mixed(u64::from(a) + 251 * u64::from(b)),
+        Term::Seg(a, b) => square_mod_prime(u64::from(a) + 251 * u64::from(b)),
         Term::Ang(a, b, c) | Term::Area(a, b, c) => {
-            mixed(u64::from(a) + 251 * u64::from(b) + 63_001 * u64::from(c))
+            square_mod_prime(u64::from(a) + 251 * u64::from(b) + 63_001 * u64::from(c))
         }
         Term::Right => 1,
     }

@@ -46,7 +46,7 @@ pub fn representative(bindings: &[Binding], variable: usize) -> usize
     at
 }
 
-fn put(bindings: &mut [Binding], variable: usize, binding: Binding)
+fn set_binding(bindings: &mut [Binding], variable: usize, binding: Binding)
     ensures { bindings.new ≡ slice_set bindings.old variable binding }
 {
     if variable < bindings.len() {
@@ -65,7 +65,7 @@ fn bind_value(bindings: &mut [Binding], variable: usize, number: u16) -> bool
     match binding_of(bindings, at) {
         Binding::Is(number_before) => number_before == number,
         _ => {
-            put(bindings, at, Binding::Is(number));
+            set_binding(bindings, at, Binding::Is(number));
             true
         }
     }
@@ -86,11 +86,11 @@ fn bind_variables(bindings: &mut [Binding], first: usize, second: usize) -> bool
     match (binding_of(bindings, one), binding_of(bindings, other)) {
         (Binding::Is(a), Binding::Is(b)) => a == b,
         (Binding::Is(_), _) => {
-            put(bindings, other, Binding::As(one));
+            set_binding(bindings, other, Binding::As(one));
             true
         }
         _ => {
-            put(bindings, one, Binding::As(other));
+            set_binding(bindings, one, Binding::As(other));
             true
         }
     }

@@ -1,4 +1,5 @@
 use Rattle.std.proofs.Common.{arith, ap, ◌∙◌, sym, inr, false, get_or}
+use Rattle.std.specs.Prelude.{option_copied}
 use Rattle.std.proofs.lemmas.Bool.{not-false}
 use Rattle.e_clause.specs.Views.{atom_of}
 use Rattle.e_transfer.specs.declared.models.Filling.TheVariants.{Flat}
@@ -18,6 +19,8 @@ returns-then-relation-lt-OF_DIAGRAMS c = λ e.
 pub returns : goal.returns
 returns c = λ e.
     let s = c.args.query.now in
-    none_flat s.strength s.facts.now s.values.now c.args.neg (atom_of c.args.shape.now)
-    (then s.flat_model (is_model s.facts.now (value_by Flat s.values.now)) s.flat c.if-not-query.false)
+    let hints = c.in-Some.hints.now in
+    let is = s.hinted hints (ap option_copied c.in-Some.is) in
+    none_flat s.strength s.facts.now hints.values c.args.neg (atom_of c.args.shape.now)
+    (then hints.flat_model (is_model s.facts.now (value_by Flat hints.values)) is.flat c.if-not-hints.false)
     (sym c.is_strict_of_areas.ensures ∙ not-false c.is_strict_of_areas.result e)
