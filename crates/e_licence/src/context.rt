@@ -189,11 +189,11 @@ impl Context {
         licensed
     }
 
-    /// Whether the facts contradict each other, as [`contradiction`] answers. No more kinds of magnitude
+    /// Whether the facts contradict each other, as [`refute`] answers. No more kinds of magnitude
     /// are solved than needed, and what is solved is kept.
     ///
-    /// [`contradiction`]: crate::contradiction::contradiction
-    pub fn contradiction(&mut self, alloc: Global) -> Result<Refuted, AllocError>
+    /// [`refute`]: crate::contradiction::refute
+    pub fn refute(&mut self, alloc: Global) -> Result<Refuted, AllocError>
         ensures refuted { IfOk result (IsAnswerAgainst self.old) }
         ensures same { self.new ≡ self.old }
     {

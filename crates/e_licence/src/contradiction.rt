@@ -32,8 +32,8 @@ pub enum Refuted {
 /// else no admissible assignment makes the metric facts true. It fails only out of memory.
 ///
 /// It begins from what the context has solved of its facts, and lets go what it solves itself;
-/// [`Context::contradiction`] keeps that for the next question.
-pub fn contradiction(alloc: Global, context: &Context) -> Result<Refuted, AllocError>
+/// [`Context::refute`] keeps that for the next question.
+pub fn refute(alloc: Global, context: &Context) -> Result<Refuted, AllocError>
     ensures { IfOk result (IsAnswerAgainst context.now) }
 {
     if let Some(lit) = clash(alloc, context.facts())? {

@@ -3,7 +3,7 @@ use Rattle.e_clause.specs.LimitedFacts.{are_limited_facts}
 use Rattle.e_licence.specs.inner.Clashes.{IsClashOf, IsClashing}
 use Rattle.e_licence.specs.Contexts.{Basis}
 use Rattle.e_licence.proofs.Clashes.{by_clash}
-use Rattle.e_licence.proofs.context.Context.contradiction.Goals as goal
+use Rattle.e_licence.proofs.context.Context.refute.Goals as goal
 
 pub returns-in-Some-clause-refuted : goal.returns-in-Some-clause-refuted
 returns-in-Some-clause-refuted c =

@@ -3,7 +3,7 @@ use Rattle.e_clause.specs.Clash.{clash}
 use Rattle.e_clause.specs.LimitedFacts.{are_limited_facts}
 use Rattle.e_licence.specs.inner.Clashes.{IsClashOf, IsClashing}
 use Rattle.e_licence.proofs.Clashes.{by_clash}
-use Rattle.e_licence.proofs.contradiction.contradiction.Goals as goal
+use Rattle.e_licence.proofs.contradiction.refute.Goals as goal
 
 pub returns-in-Some : goal.returns-in-Some
 returns-in-Some c =
