@@ -13,12 +13,12 @@ ghost use Rattle.e_commands.specs.SuggesterAnswers.{apply_line, apply_lines};
 ghost use Rattle.e_commands.specs.inner.Suggesting.{IsListed, IsListedOne};
 
 use e_deriv::Names;
-use e_licence::Verdicts;
+use e_licence::{FirstChoices, Verdicts};
 use e_line::put_apply;
 use e_literal::{Items, Obj};
 use e_names::{Theorems, name_of_object};
 use e_prove::Place;
-use e_suggest::{Suggested, all};
+use e_suggest::all;
 use e_text::{Name, Title, end_line};
 use e_theorem::Statement;
 use std::alloc::{AllocError, Global};
@@ -113,7 +113,7 @@ fn list_theorem(
         return Ok(Listed::All(0));
     }
     match all(alloc, &place.context, memory, statement, left)? {
-        Suggested::Found { choices, more } => {
+        FirstChoices::Found { choices, more } => {
             put_applications(alloc, out, title, &place.names, choices.items())?;
             let count = choices.len();
             if more {
@@ -122,7 +122,7 @@ fn list_theorem(
                 Ok(Listed::All(count))
             }
         }
-        Suggested::TooWide(width) => Ok(Listed::TooWide(width)),
+        FirstChoices::TooWide(width) => Ok(Listed::TooWide(width)),
     }
 }
 
