@@ -33,6 +33,6 @@ drawn_by lines = plan_from (1 + length lines) no_plan lines >>= λ p. Ok (length
 pub drawn_front : (text : List ℕ) → drawn_of (take 4194305 text) ≡ drawn_of text
 drawn_front text = ap drawn_by (lines_of-take (record { longest = 1600; most = 4194304 }) (record { line = 1; before = 0 }) text (omega arith))
 
-pub draws_counted : (text counted : List ℕ) (r : Result Drawing BookFault) → counted ≡ take 4194305 text → Draws counted r → Draws text r
-draws_counted text counted (Ok d) e h = sym (drawn_front text) ∙ ap drawn_of (sym e) ∙ h
-draws_counted text counted (Err f) e h = subst (λ (q : Result (ℕ × List ℕ) BookFault). BookFails f q) (ap drawn_of e ∙ drawn_front text) h
+pub draws_front : (text front : List ℕ) (r : Result Drawing BookFault) → front ≡ take 4194305 text → Draws front r → Draws text r
+draws_front text front (Ok d) e h = sym (drawn_front text) ∙ ap drawn_of (sym e) ∙ h
+draws_front text front (Err f) e h = subst (λ (q : Result (ℕ × List ℕ) BookFault). BookFails f q) (ap drawn_of e ∙ drawn_front text) h

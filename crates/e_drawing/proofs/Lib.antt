@@ -3,3 +3,5 @@ pub mod Named
 pub mod Drawn
 pub mod Citing
 pub mod FirstFault
+pub mod spelled
+mod Checks

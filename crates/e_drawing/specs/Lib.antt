@@ -6,3 +6,4 @@ pub mod Answers
 pub mod inner
 pub mod Citing
 pub mod FirstFault
+pub mod Spelled

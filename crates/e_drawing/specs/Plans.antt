@@ -34,18 +34,18 @@ no_plan =
     }
 
 -- which lines may come at a place
-abbrev pub allowed_in_plan : Place → RawLine → Bool
-allowed_in_plan Start raw.Figure = true
-allowed_in_plan Placing (raw.Point n a) = true
-allowed_in_plan Placing (raw.Line n l) = true
-allowed_in_plan Placing (raw.Circle n c) = true
-allowed_in_plan Placing (raw.Given ls) = true
-allowed_in_plan Placing (raw.Show ls) = true
-allowed_in_plan Giving (raw.Given ls) = true
-allowed_in_plan Giving (raw.Show ls) = true
-allowed_in_plan Showing (raw.Show ls) = true
-allowed_in_plan Showing raw.End = true
-allowed_in_plan place line = false
+abbrev pub plan_line_may_come : Place → RawLine → Bool
+plan_line_may_come Start raw.Figure = true
+plan_line_may_come Placing (raw.Point n a) = true
+plan_line_may_come Placing (raw.Line n l) = true
+plan_line_may_come Placing (raw.Circle n c) = true
+plan_line_may_come Placing (raw.Given ls) = true
+plan_line_may_come Placing (raw.Show ls) = true
+plan_line_may_come Giving (raw.Given ls) = true
+plan_line_may_come Giving (raw.Show ls) = true
+plan_line_may_come Showing (raw.Show ls) = true
+plan_line_may_come Showing raw.End = true
+plan_line_may_come place line = false
 
 -- ---- what a line adds: its name, the limit of its sort, and last that of its numbers
 
@@ -90,7 +90,7 @@ plan_with_line p raw.End = Ok (record p { place = Done })
 -- a line, where it may come
 unfoldable pub plan_after_line : Plan → RawLine → Result Plan FaultKind
 plan_after_line p line =
-    if allowed_in_plan p.place line then plan_with_line p line else Err Malformed
+    if plan_line_may_come p.place line then plan_with_line p line else Err Malformed
 
 abbrev pub is_last_place : Place → Bool
 is_last_place Done = true

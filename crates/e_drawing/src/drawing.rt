@@ -48,7 +48,7 @@ fn drawing_of(alloc: Global, plan: &Plan) -> Result<Drawing, AllocError>
 }
 
 /// What is written of the text that a plan is read from.
-fn drawn(alloc: Global, text: &[u8], plan: &mut Plan) -> Result<Drawing, BookFault>
+fn read_and_draw(alloc: Global, text: &[u8], plan: &mut Plan) -> Result<Drawing, BookFault>
     requires few { length text.now < 2 ^ 31 }
     requires begins { plan.old ≡ no_plan }
     requires fits { FitsPlan plan.old }
@@ -59,8 +59,8 @@ fn drawn(alloc: Global, text: &[u8], plan: &mut Plan) -> Result<Drawing, BookFau
     Ok(drawing)
 }
 
-/// The bytes of a text that count, and one more, where it has more.
-fn counted(text: &[u8]) -> &[u8]
+/// The bytes that a text may have, and one more, where it has more.
+fn bytes_to_read(text: &[u8]) -> &[u8]
     ensures value { result.now ≡ take 4194305 text.now }
     ensures few { length result.now ≤ 4194305 }
 {
@@ -73,7 +73,7 @@ pub fn draw(alloc: Global, text: &[u8]) -> Result<Drawing, BookFault>
     ensures { Draws text.now result }
 {
     let mut plan = Plan::new(alloc);
-    let drawn = drawn(alloc, counted(text), &mut plan);
+    let answer = read_and_draw(alloc, bytes_to_read(text), &mut plan);
     mem::drop(plan);
-    drawn
+    answer
 }

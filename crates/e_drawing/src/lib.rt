@@ -11,4 +11,4 @@ mod raw;
 mod reading;
 
 pub use drawing::{Drawing, draw};
-pub use laws::{figure_fault_is_first, refuted_is_not_shown};
+pub use laws::{canonical_figure_is_read, figure_fault_is_first, refuted_is_not_shown};

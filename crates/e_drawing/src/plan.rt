@@ -4,7 +4,7 @@ ghost use Rattle.e_line.specs.Reading.{Gives, Moves};
 ghost use Rattle.e_line.specs.LineLimits.{or_limit};
 ghost use Rattle.e_line.specs.declared.fault.What.TheVariants as limits;
 ghost use Rattle.e_figure.specs.Figure.{has_direction, has_inside};
-ghost use Rattle.e_drawing.specs.Plans.{allowed_in_plan, FitsPlan};
+ghost use Rattle.e_drawing.specs.Plans.{plan_line_may_come, FitsPlan};
 ghost use Rattle.e_drawing.specs.Plans as plans;
 ghost use Rattle.e_drawing.specs.inner.Nondegenerate.{IsNondegenerate};
 
@@ -43,8 +43,9 @@ pub struct Plan {
     pub place: Place,
 }
 
-fn allowed(place: Place, line: &RawLine) -> bool
-    ensures { result ≡ allowed_in_plan place line.now }
+/// Whether the line may come at this place.
+fn may_come(place: Place, line: &RawLine) -> bool
+    ensures { result ≡ plan_line_may_come place line.now }
 {
     match line {
         RawLine::Figure => matches!(place, Place::Start),
@@ -163,8 +164,8 @@ impl Plan {
         self.place = place;
     }
 
-    /// What the line adds.
-    fn stepped(&mut self, alloc: Global, line: &RawLine) -> Result<(), LineError>
+    /// Puts what the line adds. After a fault the plan is not used again.
+    fn put(&mut self, alloc: Global, line: &RawLine) -> Result<(), LineError>
         requires fits { FitsPlan self.old }
         requires line { IsNondegenerate line.now }
         ensures value { Moves result self.new (plans.plan_with_line self.old line.now) }
@@ -195,9 +196,9 @@ impl Plan {
         ensures value { Moves result self.new (plans.plan_after_line self.old line.now) }
         ensures fits { OnOk result (FitsPlan self.new) }
     {
-        if !allowed(self.place, line) {
+        if !may_come(self.place, line) {
             return Err(LineError::Fault(FaultKind::Malformed));
         }
-        self.stepped(alloc, line)
+        self.put(alloc, line)
     }
 }

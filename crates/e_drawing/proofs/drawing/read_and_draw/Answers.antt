@@ -1,6 +1,6 @@
 use Rattle.std.proofs.lemmas.Result.{err_from_is_err_and}
 use Rattle.e_drawing.proofs.Drawn.{drawn_faulty, drawn_whole}
-use Rattle.e_drawing.proofs.drawing.drawn.Goals as goal
+use Rattle.e_drawing.proofs.drawing.read_and_draw.Goals as goal
 
 pub returns-in_err-read_text : goal.returns-in_err-read_text
 returns-in_err-read_text c =

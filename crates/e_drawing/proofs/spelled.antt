@@ -1,0 +1,6 @@
+pub mod NumbersAgain
+pub mod LinesAgain
+pub mod ShortLines
+pub mod ObjectsAgain
+pub mod PlansAgain
+pub mod TextsAgain
