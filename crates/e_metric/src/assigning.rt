@@ -94,7 +94,7 @@ fn step_terms(alloc: Global, facts: &Facts, wanted: Option<&Lit>) -> Result<Vec<
 }
 
 /// The number of the term in a list of pairs, or 0.
-pub fn assigned(pairs: &[(Term, u128)], term: Term) -> u128
+pub fn assigned_value(pairs: &[(Term, u128)], term: Term) -> u128
     ensures { result ≡ Answer.assigned pairs.now term }
 {
     for pair in pairs {
@@ -117,7 +117,7 @@ fn value(values: &ByKind<Values>, term: Term) -> u128
         Term::Ang(_, _, _) | Term::Right => &values.angles,
         Term::Area(_, _, _) => &values.areas,
     };
-    assigned(of_kind.items(), canonical(term))
+    assigned_value(of_kind.items(), canonical(term))
 }
 
 // The terms with their values.

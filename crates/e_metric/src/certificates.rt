@@ -23,7 +23,7 @@ use std::collections::BTreeMap;
 use std::mem;
 
 /// An equal name.
-pub fn copied(alloc: Global, name: &RowName) -> Result<RowName, AllocError>
+pub fn copy_of_name(alloc: Global, name: &RowName) -> Result<RowName, AllocError>
     ensures { IfOk result (λ n. n ≡ name.now) }
 {
     match name {
@@ -40,7 +40,7 @@ pub fn copied(alloc: Global, name: &RowName) -> Result<RowName, AllocError>
 }
 
 // Adds a row, unless its multiplier is 0.
-fn keep(
+fn add_unless_zero(
     sum: &mut Vec<(i128, RowName)>,
     alloc: Global,
     name: &RowName,
@@ -50,14 +50,14 @@ fn keep(
         ++ Certificate.named_multipliers (name.now ∷ []) (multiplier ∷ [])) }
 {
     if multiplier != 0 {
-        sum.push((multiplier, copied(alloc, name)?))?;
+        sum.push((multiplier, copy_of_name(alloc, name)?))?;
     }
     Ok(())
 }
 
 // The rows whose multiplier is not 0.
 #[tactic(auto, using(crate::proofs::sums::ZippedRows::ending))]
-fn kept(
+fn rows_not_zero(
     alloc: Global,
     names: &[RowName],
     multipliers: &[i128],
@@ -67,12 +67,12 @@ fn kept(
 {
     let mut sum = Vec::new(alloc);
     for (name, multiplier) in names.iter().zip(multipliers) {
-        keep(&mut sum, alloc, name, *multiplier)?;
+        add_unless_zero(&mut sum, alloc, name, *multiplier)?;
     }
     Ok(sum)
 }
 
-// Where less than nothing is left of a term, adds as many times the row that says that it is at
+// For each term whose total is less than 0, adds as many times the row that says that it is at
 // least 0.
 fn add_leasts_of(
     sum: &mut Vec<(i128, RowName)>,
@@ -92,7 +92,8 @@ fn add_leasts_of(
     Ok(())
 }
 
-// The same, of what the rows leave.
+// Where the rows, each times its weight, leave less than nothing of a term, adds as many times the
+// row that says that it is at least 0.
 fn add_leasts(
     sum: &mut Vec<(i128, RowName)>,
     alloc: Global,
@@ -123,7 +124,7 @@ fn sum_of(
     ensures { IfOk result (λ s. s
         ≡ Certificate.certificate_sum names.now rows.now multipliers.now weights.now terms.now) }
 {
-    let mut sum = kept(alloc, names, multipliers)?;
+    let mut sum = rows_not_zero(alloc, names, multipliers)?;
     add_leasts(&mut sum, alloc, rows, weights, terms)?;
     Ok(Sum::new(sum))
 }
@@ -201,13 +202,13 @@ fn add_equal(
     ensures { OnOk result (rows.new.items ≡ rows.old.items ++ more.now) }
 {
     for row in more {
-        rows.push((row.0, copied(alloc, &row.1)?))?;
+        rows.push((row.0, copy_of_name(alloc, &row.1)?))?;
     }
     Ok(())
 }
 
 // An equal sum.
-fn copied_sum(alloc: Global, sum: &Sum) -> Result<Sum, AllocError>
+fn copy_of_sum(alloc: Global, sum: &Sum) -> Result<Sum, AllocError>
     ensures { IfOk result (λ s. s ≡ sum.now) }
 {
     let mut rows = Vec::new(alloc);
@@ -216,20 +217,20 @@ fn copied_sum(alloc: Global, sum: &Sum) -> Result<Sum, AllocError>
 }
 
 /// An equal certificate.
-pub fn copied_certificate(alloc: Global, cert: &MetricCert) -> Result<MetricCert, AllocError>
+pub fn copy_of_certificate(alloc: Global, cert: &MetricCert) -> Result<MetricCert, AllocError>
     ensures { IfOk result (λ c. c ≡ cert.now) }
 {
     let sums = match &cert.sums {
-        Sums::One(sum) => Sums::One(copied_sum(alloc, sum)?),
+        Sums::One(sum) => Sums::One(copy_of_sum(alloc, sum)?),
         Sums::Two {
             differs,
             above,
             below,
         } => {
-            let above = copied_sum(alloc, above)?;
-            let below = copied_sum(alloc, below)?;
+            let above = copy_of_sum(alloc, above)?;
+            let below = copy_of_sum(alloc, below)?;
             Sums::Two {
-                differs: copied(alloc, differs)?,
+                differs: copy_of_name(alloc, differs)?,
                 above,
                 below,
             }

@@ -44,7 +44,7 @@ pub enum Metric {
 }
 
 /// The names and the rows.
-pub fn split(
+pub fn names_and_rows(
     alloc: Global,
     named: Vec<(RowName, Row)>,
 ) -> Result<(Vec<RowName>, Vec<Row>), AllocError>
@@ -113,7 +113,7 @@ pub fn answer_of_kind(
     ensures { IfOk result (IsKindAnswer which facts.now (option_copied wanted.entry)) }
 {
     let named = system(alloc, which, facts, wanted)?;
-    let (names, rows) = split(alloc, named)?;
+    let (names, rows) = names_and_rows(alloc, named)?;
     match decide(alloc, &rows)? {
         Verdict::Holds(values) => Ok(Metric::No(values)),
         Verdict::TooWide => Ok(Metric::TooWide(width(&rows))),

@@ -7,7 +7,7 @@ ghost use Rattle.e_fraction.specs.Views.{sense_of, views_of_rows};
 ghost use Rattle.e_simplex.specs.Answer;
 ghost use Rattle.e_metric.specs.inner.FurtherRows;
 
-use crate::assigning::assigned;
+use crate::assigning::assigned_value;
 use e_facts::Facts;
 use e_fraction::{Row, RowSense};
 use e_literal::{Term, Values, canonical};
@@ -20,7 +20,7 @@ fn form_value(values: &[(Term, u128)], form: &[(i64, Term)]) -> Option<i128>
     match form {
         [] => Some(0),
         [(coefficient, term), rest @ ..] => {
-            let value = i128::try_from(assigned(values, *term)).ok()?;
+            let value = i128::try_from(assigned_value(values, *term)).ok()?;
             let own = i128::from(*coefficient).checked_mul(value)?;
             let more = form_value(values, rest)?;
             own.checked_add(more)
@@ -68,7 +68,7 @@ fn default_value(facts: &Facts, term: Term) -> u128
 }
 
 /// The values, and those of more terms.
-pub fn extended(
+pub fn values_with(
     alloc: Global,
     facts: &Facts,
     values: &[(Term, u128)],

@@ -63,7 +63,11 @@ fn add_terms(
 }
 
 /// The summands of x - y, each term once, where it occurs first.
-pub fn joined(alloc: Global, x: &[Mono], y: &[Mono]) -> Result<Vec<(i64, Term)>, AllocError>
+pub fn difference_summands(
+    alloc: Global,
+    x: &[Mono],
+    y: &[Mono],
+) -> Result<Vec<(i64, Term)>, AllocError>
     requires { length x.now + length y.now ≤ 32 }
     ensures { IfOk result (λ v. v.items ≡ difference_form x.now y.now) }
 {

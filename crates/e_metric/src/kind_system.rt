@@ -13,10 +13,10 @@ ghost use Rattle.e_metric.specs.SolvedSystems.{IsKindSystem, IsAnswerAlone, Answ
 ghost use Rattle.e_metric.specs.ListedTerms;
 ghost use Rattle.e_metric.specs.MetricAnswers.{IsKindAnswer};
 
-use crate::certificates::copied_certificate;
-use crate::consequence::{Metric, answer_of_kind, certificate_of, split};
+use crate::certificates::copy_of_certificate;
+use crate::consequence::{Metric, answer_of_kind, certificate_of, names_and_rows};
 use crate::listing::{fresh_terms_of_facts, terms_of_kind};
-use crate::solved_system::{SolvedSystem, copied_rows, system_width};
+use crate::solved_system::{SolvedSystem, copies_of_rows, system_width};
 use crate::systems::{count_term_rows, rows_of_facts, system};
 use e_clause::{MetricCert, RowName};
 use e_facts::Facts;
@@ -44,8 +44,8 @@ pub fn solve_kind(alloc: Global, which: Kind, facts: &Facts) -> Result<KindSyste
     ensures { IfOk result (IsKindSystem which facts.now) }
 {
     let named = system(alloc, which, facts, None)?;
-    let (names, rows) = split(alloc, named)?;
-    let kept = copied_rows(alloc, &rows)?;
+    let (names, rows) = names_and_rows(alloc, named)?;
+    let kept = copies_of_rows(alloc, &rows)?;
     let terms = terms_of_kind(alloc, which, facts, None)?;
     match prepare(alloc, rows)? {
         Prepared::TooWide => Ok(KindSystem::TooWide(width(&kept))),
@@ -78,7 +78,7 @@ impl KindSystem {
                 Ok(Metric::No(values))
             }
             KindSystem::Absurd(cert) => {
-                let cert = copied_certificate(alloc, cert)?;
+                let cert = copy_of_certificate(alloc, cert)?;
                 Ok(Metric::Yes(cert))
             }
             KindSystem::TooWide(width) => Ok(Metric::TooWide(*width)),
@@ -104,23 +104,23 @@ impl KindSystem {
             KindSystem::Solved(solved_system) => solved_system.ask(alloc, which, facts, goal),
             KindSystem::TooWide(_) => answer_of_kind(alloc, which, facts, Some(goal)),
             KindSystem::Absurd(cert) => {
-                let cert = copied_certificate(alloc, cert)?;
+                let cert = copy_of_certificate(alloc, cert)?;
                 Ok(Metric::Yes(cert))
             }
         }
     }
 
-    /// The same system.
-    pub fn copied(&self, alloc: Global) -> Result<KindSystem, AllocError>
+    /// An equal system.
+    pub fn copy(&self, alloc: Global) -> Result<KindSystem, AllocError>
         ensures { IfOk result (AnswersAs self.now) }
     {
         match self {
             KindSystem::Solved(solved_system) => {
-                let solved_system = solved_system.copied(alloc)?;
+                let solved_system = solved_system.copy(alloc)?;
                 Ok(KindSystem::Solved(solved_system))
             }
             KindSystem::Absurd(cert) => {
-                let cert = copied_certificate(alloc, cert)?;
+                let cert = copy_of_certificate(alloc, cert)?;
                 Ok(KindSystem::Absurd(cert))
             }
             KindSystem::TooWide(width) => Ok(KindSystem::TooWide(*width)),
@@ -133,17 +133,17 @@ impl KindSystem {
     {
         match self {
             KindSystem::Absurd(cert) => {
-                let cert = copied_certificate(alloc, cert)?;
+                let cert = copy_of_certificate(alloc, cert)?;
                 Ok(Some(cert))
             }
             KindSystem::Solved(_) | KindSystem::TooWide(_) => Ok(None),
         }
     }
 
-    /// What is solved of the facts, where this is that of the first `from` of them; None where
+    /// What is solved of all facts, where this is that of the first `from` of them; None where
     /// the others change nothing. Facts that contradict each other stay so, and facts with a wide
     /// system are asked from nothing.
-    pub fn grown(
+    pub fn of_all_facts(
         &self,
         alloc: Global,
         which: Kind,
@@ -158,7 +158,13 @@ impl KindSystem {
             (IsKindSystem which facts.now)) }
     {
         match self {
-            KindSystem::Solved(solved_system) => grown(alloc, solved_system, which, facts, from),
+            KindSystem::Solved(solved_system) => system_of_all_facts(
+                alloc,
+                solved_system,
+                which,
+                facts,
+                from,
+            ),
             KindSystem::Absurd(_) => Ok(None),
             KindSystem::TooWide(_) => {
                 let kind_system = solve_kind(alloc, which, facts)?;
@@ -168,10 +174,10 @@ impl KindSystem {
     }
 }
 
-// What is solved of the facts, where the first `from` of them have this solved system; None where
+// What is solved of all facts, where the first `from` of them have this solved system; None where
 // it is that of all of them. Where a term that was there brings a row by a new fact, the rows are
 // solved from nothing, since that row would come among the others.
-fn grown(
+fn system_of_all_facts(
     alloc: Global,
     solved_system: &SolvedSystem,
     which: Kind,
@@ -201,8 +207,9 @@ fn are_none(named: &[(RowName, Row)], terms: &[Term]) -> bool
     named.is_empty() && terms.is_empty()
 }
 
-// The same, where the terms bring no more rows than before: the rows of the other facts come after
-// them.
+// What is solved of the facts, where the first `from` of them have this solved system and its terms
+// bring no more rows than before: the rows of the other facts come after them. None where those add
+// nothing.
 fn with_rest(
     alloc: Global,
     solved_system: &SolvedSystem,
@@ -225,7 +232,7 @@ fn with_rest(
         mem::drop(named);
         return Ok(None);
     }
-    let (names, rows) = split(alloc, named)?;
+    let (names, rows) = names_and_rows(alloc, named)?;
     let kind_system = joined_system(alloc, solved_system, which, facts, &fresh, &names, &rows)?;
     Ok(Some(kind_system))
 }
@@ -298,7 +305,7 @@ fn joined_system(
             Ok(KindSystem::TooWide(width))
         }
         Prepared::Absurd(absurdity) => {
-            let cert = solved_system.certified(
+            let cert = solved_system.certificate_with(
                 alloc, which, facts, None, fresh, names, rows, &absurdity,
             );
             mem::drop(absurdity);

@@ -41,30 +41,19 @@ fn add_sum(terms: &mut Vec<Term>, sum: &[Mono]) -> Result<(), AllocError>
     Ok(())
 }
 
-// Puts the terms of an atom last that are none of those before.
-#[tactic(auto, using(crate::proofs::terms::FirstTerms::atom_terms))]
-fn add_atom(terms: &mut Vec<Term>, atom: &Atom) -> Result<(), AllocError>
-    ensures { OnOk result (terms.new.items ≡ with_listed terms.old.items (terms_of_atom atom.now)) }
+// Puts the terms of a literal last that are none of those before, if it is of the kind.
+#[tactic(auto, using(crate::proofs::terms::FirstTerms::atom_terms, crate::proofs::terms::FirstTerms::literal_terms))]
+fn add_literal(terms: &mut Vec<Term>, which: Kind, lit: &Lit) -> Result<(), AllocError>
+    ensures { OnOk result (terms.new.items
+        ≡ with_listed terms.old.items (terms_of_lits (of_kind which (lit.now ∷ [])))) }
 {
-    match atom {
-        Atom::MagEq(x, y) | Atom::MagLt(x, y) => {
+    match &lit.atom {
+        Atom::MagEq(x, y) | Atom::MagLt(x, y) if is_of_kind(which, lit) => {
             add_sum(terms, x.items())?;
             add_sum(terms, y.items())
         }
         _ => Ok(()),
     }
-}
-
-// Puts the terms of a literal last that are none of those before, if it is of the kind.
-#[tactic(auto, using(crate::proofs::terms::FirstTerms::literal_terms))]
-fn add_literal(terms: &mut Vec<Term>, which: Kind, lit: &Lit) -> Result<(), AllocError>
-    ensures { OnOk result (terms.new.items
-        ≡ with_listed terms.old.items (terms_of_lits (of_kind which (lit.now ∷ [])))) }
-{
-    if is_of_kind(which, lit) {
-        add_atom(terms, &lit.atom)?;
-    }
-    Ok(())
 }
 
 // Puts the terms of the facts of the kind from a place on last that are none of those before.

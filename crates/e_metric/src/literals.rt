@@ -8,7 +8,7 @@ ghost use Rattle.e_literal.specs.WellFormed.{is_well_formed_atom, is_bounded_coe
 ghost use Rattle.e_fraction.specs.Limits.{has_small_coefficients};
 ghost use Rattle.e_metric.specs.AgreeingRows.{has_no_zero, IsRowOrNone, IsLimitedOrNone};
 
-use crate::joining::joined;
+use crate::joining::difference_summands;
 use e_fraction::{Row, RowSense, Signed};
 use e_literal::{Atom, Mono};
 use std::alloc::{AllocError, Global};
@@ -24,7 +24,7 @@ fn difference(alloc: Global, x: &[Mono], y: &[Mono]) -> Result<Signed, AllocErro
     ensures small { IfOk result (λ f. IsTrue (has_small_coefficients f)) }
     ensures short { IfOk result (λ f. length f ≤ 32) }
 {
-    let summands = joined(alloc, x, y)?;
+    let summands = difference_summands(alloc, x, y)?;
     Ok(Signed::new(summands))
 }
 

@@ -54,7 +54,7 @@ impl Slot {
     }
 
     // What is solved of all facts; None where what is there already is that.
-    fn brought(
+    fn of_all_facts(
         &self,
         alloc: Global,
         which: Kind,
@@ -68,7 +68,7 @@ impl Slot {
             (IsKindSystem which facts.now)) }
     {
         match &self.kind_system {
-            Some(kind_system) => kind_system.grown(alloc, which, facts, self.upto),
+            Some(kind_system) => kind_system.of_all_facts(alloc, which, facts, self.upto),
             None => {
                 let kind_system = solve_kind(alloc, which, facts)?;
                 Ok(Some(kind_system))
@@ -88,7 +88,7 @@ impl Slot {
             return Ok(());
         }
         let count = facts.len();
-        match self.brought(alloc, which, facts)? {
+        match self.of_all_facts(alloc, which, facts)? {
             Some(kind_system) => {
                 mem::drop(mem::replace(&mut self.kind_system, Some(kind_system)));
                 self.upto = count;
@@ -159,13 +159,13 @@ impl Slot {
         Ok(None)
     }
 
-    // The same of the same facts.
-    fn copied(&self, alloc: Global) -> Result<Slot, AllocError>
+    // A copy, which is right for the same facts.
+    fn copy(&self, alloc: Global) -> Result<Slot, AllocError>
         ensures { IfOk result (IsFrontAs self.now) }
     {
         match &self.kind_system {
             Some(kind_system) => {
-                let kind_system = kind_system.copied(alloc)?;
+                let kind_system = kind_system.copy(alloc)?;
                 Ok(Slot {
                     kind_system: Some(kind_system),
                     upto: self.upto,
@@ -287,15 +287,15 @@ impl MetricFacts {
         ensures { IfOk result (λ m. (facts : List Lit) → AreFronts facts self.now
             → AreFronts facts m) }
     {
-        let segments = self.systems.segments.copied(alloc)?;
-        let angles = match self.systems.angles.copied(alloc) {
+        let segments = self.systems.segments.copy(alloc)?;
+        let angles = match self.systems.angles.copy(alloc) {
             Ok(angles) => angles,
             Err(error) => {
                 mem::drop(segments);
                 return Err(error);
             }
         };
-        match self.systems.areas.copied(alloc) {
+        match self.systems.areas.copy(alloc) {
             Ok(areas) => Ok(MetricFacts {
                 systems: ByKind {
                     segments,
@@ -348,7 +348,7 @@ impl MetricFacts {
             .answer_alone(alloc, which, facts, wanted)
     }
 
-    // The same of two kinds.
+    // The answers of the facts of two kinds of which no literal is wanted.
     fn both_alone(
         &self,
         alloc: Global,
@@ -590,8 +590,8 @@ impl MetricFacts {
         }
     }
 
-    /// The same as [`MetricFacts::absurd`], where each kind is first brought up to the facts, but
-    /// only until one contradicts itself.
+    /// Whether the metric facts contradict each other. Each kind is first brought up to the facts,
+    /// but only until one contradicts itself.
     pub fn absurd_in_turn(&mut self, alloc: Global, facts: &Facts) -> Result<Metric, AllocError>
         requires fronts { AreFronts facts.now self.old }
         requires facts { IsTrue (list_all is_well_formed facts.now) }

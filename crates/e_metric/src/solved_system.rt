@@ -17,9 +17,9 @@ ghost use Rattle.e_metric.specs.SolvedSystems.{AreTogether, IsSolvedSystem};
 ghost use Rattle.e_metric.specs.ListedTerms.{distinct_terms, with_listed};
 ghost use Rattle.e_metric.specs.MetricAnswers.{IsMetricCertificate, IsKindAnswer};
 
-use crate::certificates::{copied, sums_of};
-use crate::consequence::{Metric, split};
-use crate::evaluating::{are_so, extended};
+use crate::certificates::{copy_of_name, sums_of};
+use crate::consequence::{Metric, names_and_rows};
+use crate::evaluating::{are_so, values_with};
 use crate::listing::{fresh_terms, has_term};
 use crate::systems::{rows_of_goal, system};
 use e_clause::{MetricCert, RowName};
@@ -42,7 +42,7 @@ pub struct SolvedSystem {
 }
 
 // An equal row.
-fn copied_row(alloc: Global, row: &Row) -> Result<Row, AllocError>
+fn copy_of_row(alloc: Global, row: &Row) -> Result<Row, AllocError>
     ensures { IfOk result (λ r. r ≡ row.now) }
 {
     let summands = Vec::from_slice(alloc, row.form.summands())?;
@@ -57,13 +57,13 @@ fn add_rows(rows: &mut Vec<Row>, alloc: Global, more: &[Row]) -> Result<(), Allo
     ensures { OnOk result (rows.new.items ≡ rows.old.items ++ more.now) }
 {
     for row in more {
-        rows.push(copied_row(alloc, row)?)?;
+        rows.push(copy_of_row(alloc, row)?)?;
     }
     Ok(())
 }
 
 /// Equal rows.
-pub fn copied_rows(alloc: Global, rows: &[Row]) -> Result<Vec<Row>, AllocError>
+pub fn copies_of_rows(alloc: Global, rows: &[Row]) -> Result<Vec<Row>, AllocError>
     ensures { IfOk result (λ v. v.items ≡ rows.now) }
 {
     let mut copies = Vec::with_capacity(alloc, rows.len())?;
@@ -76,13 +76,13 @@ fn add_names(names: &mut Vec<RowName>, alloc: Global, more: &[RowName]) -> Resul
     ensures { OnOk result (names.new.items ≡ names.old.items ++ more.now) }
 {
     for name in more {
-        names.push(copied(alloc, name)?)?;
+        names.push(copy_of_name(alloc, name)?)?;
     }
     Ok(())
 }
 
 // Equal names.
-fn copied_names(alloc: Global, names: &[RowName]) -> Result<Vec<RowName>, AllocError>
+fn copies_of_names(alloc: Global, names: &[RowName]) -> Result<Vec<RowName>, AllocError>
     ensures { IfOk result (λ v. v.items ≡ names.now) }
 {
     let mut copies = Vec::with_capacity(alloc, names.len())?;
@@ -103,13 +103,13 @@ pub fn system_width(
         (λ w. w ≡ Width.width (rows_of_system which facts.now (option_copied wanted.entry))) }
 {
     let named = system(alloc, which, facts, wanted)?;
-    let (_, rows) = split(alloc, named)?;
+    let (_, rows) = names_and_rows(alloc, named)?;
     Ok(width(&rows))
 }
 
 impl SolvedSystem {
-    /// The same rows, solved.
-    pub fn copied(&self, alloc: Global) -> Result<SolvedSystem, AllocError>
+    /// An equal solved system.
+    pub fn copy(&self, alloc: Global) -> Result<SolvedSystem, AllocError>
         ensures names { IfOk result (λ g. g.names.items ≡ self.now.names.items) }
         ensures rows { IfOk result (λ g. g.rows.items ≡ self.now.rows.items) }
         ensures terms { IfOk result (λ g. g.terms.items ≡ self.now.terms.items) }
@@ -117,9 +117,9 @@ impl SolvedSystem {
         ensures solved_rows { IfOk result (λ g. g.solved_rows ≡ self.now.solved_rows) }
     {
         let terms = Vec::from_slice(alloc, &self.terms)?;
-        let rows = copied_rows(alloc, &self.rows)?;
-        let names = copied_names(alloc, &self.names)?;
-        let solved_rows = self.solved_rows.copied(alloc)?;
+        let rows = copies_of_rows(alloc, &self.rows)?;
+        let names = copies_of_names(alloc, &self.names)?;
+        let solved_rows = self.solved_rows.copy(alloc)?;
         Ok(SolvedSystem {
             names,
             rows,
@@ -172,7 +172,7 @@ impl SolvedSystem {
 
     /// The certificate that multipliers of the rows, and of more after them, make, where `fresh`
     /// are the terms of those that no row before has.
-    pub fn certified(
+    pub fn certificate_with(
         &self,
         alloc: Global,
         which: Kind,
@@ -202,7 +202,7 @@ impl SolvedSystem {
     }
 
     // The answer where the goal has these rows, by what is solved.
-    fn decided(
+    fn answer_of_rows(
         &self,
         alloc: Global,
         which: Kind,
@@ -229,7 +229,7 @@ impl SolvedSystem {
             }
             Verdict::Absurd(absurdity) => {
                 let wanted = Some(goal);
-                let cert = self.certified(
+                let cert = self.certificate_with(
                     alloc, which, facts, wanted, fresh, names, rows, &absurdity,
                 );
                 mem::drop(absurdity);
@@ -255,12 +255,12 @@ impl SolvedSystem {
     {
         let fresh = fresh_terms(alloc, which, &self.terms, goal)?;
         let named = rows_of_goal(alloc, which, facts, &fresh, goal)?;
-        let (names, rows) = split(alloc, named)?;
-        let values = extended(alloc, facts, self.solved_rows.values().items(), &fresh)?;
+        let (names, rows) = names_and_rows(alloc, named)?;
+        let values = values_with(alloc, facts, self.solved_rows.values().items(), &fresh)?;
         if are_so(values.items(), &rows) {
             return Ok(Metric::No(values));
         }
-        self.decided(alloc, which, facts, goal, &fresh, &names, &rows)
+        self.answer_of_rows(alloc, which, facts, goal, &fresh, &names, &rows)
     }
 
     /// The values that the facts have.

@@ -13,7 +13,7 @@ ghost use Rattle.e_simplex.specs.inner.Disequalities.{AreFurther, IsMoved, Large
 ghost use Rattle.e_simplex.specs.inner.Disequalities.{IsNextPoint, IsSatisfaction};
 
 use crate::constraints::Constraint;
-use crate::multiple::{combined, least_multiple};
+use crate::multiple::{least_multiple, with_multiples};
 use crate::table::Table;
 use crate::unequal::{Tried, large_place, try_both, values_at};
 use std::alloc::{AllocError, Global};
@@ -75,8 +75,8 @@ fn moved_point(
         None => {
             let t = least_multiple(form_values, &second, k);
             Ok(Some(Point {
-                values: combined(alloc, values, found, t)?,
-                form_values: combined(alloc, form_values, &second, t)?,
+                values: with_multiples(alloc, values, found, t)?,
+                form_values: with_multiples(alloc, form_values, &second, t)?,
             }))
         }
     }

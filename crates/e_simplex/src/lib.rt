@@ -24,5 +24,6 @@ mod table;
 mod unequal;
 
 pub use decision::{Absurdity, Verdict, decide};
-pub use e_fraction::width;
+pub use e_fraction::{Row, RowSense, Signed, have_small_coefficients, width};
+pub use e_literal::{Term, Values};
 pub use solved_rows::{Prepared, SolvedRows, prepare};

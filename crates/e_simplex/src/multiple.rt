@@ -65,7 +65,7 @@ pub fn least_multiple(first: &[i128], second: &[i128], k: usize) -> usize
 }
 
 /// Each number of the first list, and `t` times that of the second.
-pub fn combined(
+pub fn with_multiples(
     alloc: Global,
     first: &[i128],
     second: &[i128],

@@ -23,8 +23,8 @@ fn weight_at(weights: &[i128], place: usize) -> i128
     }
 }
 
-/// One more, where the row says `not 0`.
-fn counted(is_not: bool, seen: usize) -> usize
+/// How many rows say `not 0` with this one, where so many before it do.
+fn nots_so_far(is_not: bool, seen: usize) -> usize
     requires { seen < 2 ^ 63 }
     ensures { result ≡ cond is_not (suc seen) seen }
 {
@@ -61,7 +61,7 @@ pub fn multipliers_of_rows(
         let is_not = is_kept(true, row.sense);
         let weight = weight_at(weights, i - seen);
         all.push(multiplier(is_not, seen, tried, last, weight))?;
-        seen = counted(is_not, seen);
+        seen = nots_so_far(is_not, seen);
     }
     Ok(all)
 }
@@ -79,7 +79,7 @@ pub fn place_of_not(rows: &[Row], k: usize) -> usize
         if is_not && seen == k {
             return i;
         }
-        seen = counted(is_not, seen);
+        seen = nots_so_far(is_not, seen);
     }
     rows.len()
 }

@@ -128,7 +128,7 @@ pub fn solve_constraints(
     ensures { IfOk result (IsTableOutcome width constraints.items) }
 {
     let table = Table::new(alloc, constraints, width)?;
-    table.solved(alloc)
+    table.outcome(alloc)
 }
 
 impl Table {
@@ -151,8 +151,8 @@ impl Table {
         })
     }
 
-    /// The same constraints with the same table.
-    pub fn copied(&self, alloc: Global) -> Result<Table, AllocError>
+    /// Equal constraints with an equal table.
+    pub fn copy(&self, alloc: Global) -> Result<Table, AllocError>
         ensures { IfOk result (IsSolvedAs self.now) }
     {
         let fixed = Vec::from_slice(alloc, &self.fixed)?;
@@ -172,7 +172,7 @@ impl Table {
 
     /// The constraints and more, with the rows of the first, and room for those of the others: they
     /// come without another copy of the entries.
-    fn extended(&self, alloc: Global, more: &[Constraint]) -> Result<Table, AllocError>
+    fn with_constraints(&self, alloc: Global, more: &[Constraint]) -> Result<Table, AllocError>
         requires solved { IsSolved (columns_of self.now) (constraints_of self.now) self.now }
         requires fit { IsFit (columns_of self.now) (constraints_of self.now ++ more.now) }
         ensures { IfOk result
@@ -195,7 +195,7 @@ impl Table {
     }
 
     /// What comes of the constraints.
-    fn solved(mut self, alloc: Global) -> Result<Outcome, AllocError>
+    fn outcome(mut self, alloc: Global) -> Result<Outcome, AllocError>
         requires fit { IsFit (columns_of self) (constraints_of self) }
         requires begun { IsBegunTable (columns_of self) (constraints_of self) self }
         ensures { IfOk result (IsTableOutcome (columns_of self) (constraints_of self)) }
@@ -243,8 +243,8 @@ impl Table {
         ensures { IfOk result
             (IsTableOutcome (columns_of self.now) (constraints_of self.now ++ more.now)) }
     {
-        let table = self.extended(alloc, more)?;
-        table.solved(alloc)
+        let table = self.with_constraints(alloc, more)?;
+        table.outcome(alloc)
     }
 
     /// What comes of the constraints and one more. The solved table stays as it is.

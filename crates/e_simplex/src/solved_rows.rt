@@ -242,14 +242,14 @@ impl SolvedRows {
         &self.values
     }
 
-    /// The same rows, solved.
-    pub fn copied(&self, alloc: Global) -> Result<SolvedRows, AllocError>
+    /// Equal rows, solved.
+    pub fn copy(&self, alloc: Global) -> Result<SolvedRows, AllocError>
         ensures { IfOk result (λ s. s ≡ self.now) }
     {
         let terms = Vec::from_slice(alloc, &self.terms)?;
         let pairs = Vec::from_slice(alloc, self.values.items())?;
         let rows = copies_of_rows(alloc, &self.rows)?;
-        let solved = self.solved.copied(alloc)?;
+        let solved = self.solved.copy(alloc)?;
         Ok(SolvedRows {
             rows,
             terms,

@@ -38,7 +38,7 @@ fn negated_monomial(x: &Monomial) -> Monomial
 }
 
 /// The constraint that says that the form is less than 0.
-fn negative(alloc: Global, constraint: &Constraint) -> Result<Constraint, AllocError>
+fn less_than_zero(alloc: Global, constraint: &Constraint) -> Result<Constraint, AllocError>
     requires { IsSmallConstraint constraint.now }
     ensures sense { IfOk result (λ l. l.sense ≡ More) }
     ensures form { IfOk result (λ l. l.form ≡ negated constraint.now.form) }
@@ -71,7 +71,7 @@ pub fn try_both(alloc: Global, solved: &Table, constraint: &Constraint) -> Resul
         }
         Outcome::TooWide => Ok(Tried::TooWide),
         Outcome::Absurd(above) => {
-            let negated = negative(alloc, constraint)?;
+            let negated = less_than_zero(alloc, constraint)?;
             let outcome = solved.with(alloc, &negated);
             mem::drop(negated);
             match outcome? {

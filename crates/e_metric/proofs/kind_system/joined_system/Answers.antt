@@ -20,8 +20,8 @@ returns-in_ok-width-in-TooWide c =
     let h : IsWide (views_of_rows (c.args.solved_system.now.solved_rows ++ c.args.rows.now)) × (2 ^ 63 ≤ width (views_of_rows (c.args.solved_system.now.solved_rows ++ c.args.rows.now))) = subst (IsPreparedRows (c.args.solved_system.now.solved_rows ++ c.args.rows.now)) c.in-TooWide.is c.in_ok-with.ensures in
     width_together c.args.which c.args.facts.now None c.args.solved_system.now c.args.names.now c.args.rows.now c.requires.together c.requires.facts c.requires.few refl c.in_ok-width-in-TooWide.width c.in_ok-width-in-TooWide.ensures h.0
 
-pub certified-cert-requires-clause-refuted : goal.certified-cert-requires-clause-refuted
-certified-cert-requires-clause-refuted c = subst (IsPreparedRows (c.args.solved_system.now.solved_rows ++ c.args.rows.now)) c.in-Absurd.is c.in_ok-with.ensures
+pub certificate_with-cert-requires-clause-refuted : goal.certificate_with-cert-requires-clause-refuted
+certificate_with-cert-requires-clause-refuted c = subst (IsPreparedRows (c.args.solved_system.now.solved_rows ++ c.args.rows.now)) c.in-Absurd.is c.in_ok-with.ensures
 
 pub returns-in-Ok : goal.returns-in-Ok
 returns-in-Ok c =

@@ -25,9 +25,9 @@ loop-i-preserved c =
           (take_length c.args.rows.now c.loop-i.i (omega (arith, c.loop-i-test.true))) v e
           (m ∙ ap (λ b. multiplier_of_row b c.loop-i.seen c.args.tried c.args.last c.weight_at-weight.result) is_not
           ∙ ap (λ w. multiplier_of_row (keeps true (view_of_row (get_or c.args.rows.now c.loop-i.i row)).sense) c.loop-i.seen c.args.tried c.args.last w) h);
-      count = c.counted-seen.ensures ∙ ap (λ b. cond b (suc c.loop-i.seen) c.loop-i.seen) is_not
+      count = c.nots_so_far-seen.ensures ∙ ap (λ b. cond b (suc c.loop-i.seen) c.loop-i.seen) is_not
           ∙ nots_more c.args.rows.now c.loop-i.i row c.loop-i.seen c.loop-i-test.true c.loop-i.invariant.count;
-      most = omega (arith, c.counted-seen.ensures, count_most c.is_kept-is_not.result c.loop-i.seen c.loop-i.i c.loop-i.invariant.most);
+      most = omega (arith, c.nots_so_far-seen.ensures, count_most c.is_kept-is_not.result c.loop-i.seen c.loop-i.i c.loop-i.invariant.most);
     })
 
 pub returns : goal.returns

@@ -15,11 +15,11 @@ loop-i-preserved c =
     let is_not : c.is_kept-is_not.result ≡ keeps true (view_of_row (get_or c.args.rows.now c.loop-i.i c.index-rows-i.result)).sense
     = c.is_kept-is_not.ensures ∙ ap (λ r. keeps true (sense_of r.sense)) c.index-rows-i.is in
     record {
-      count = c.counted-seen.ensures ∙ ap (λ b. cond b (suc c.loop-i.seen) c.loop-i.seen) is_not
+      count = c.nots_so_far-seen.ensures ∙ ap (λ b. cond b (suc c.loop-i.seen) c.loop-i.seen) is_not
           ∙ nots_more c.args.rows.now c.loop-i.i c.index-rows-i.result c.loop-i.seen c.loop-i-test.true c.loop-i.invariant.count;
-      most = omega (arith, c.counted-seen.ensures, count_most c.is_kept-is_not.result c.loop-i.seen c.loop-i.i c.loop-i.invariant.most);
+      most = omega (arith, c.nots_so_far-seen.ensures, count_most c.is_kept-is_not.result c.loop-i.seen c.loop-i.i c.loop-i.invariant.most);
       before = elim c.else-is_not.branch [
-        | else-is_not-via-then-is_not+else-seen-k w ↦ omega (arith, c.counted-seen.ensures, ap (λ b. cond b (suc c.loop-i.seen) c.loop-i.seen) w.if-is_not.true, w.if-seen-k.false, c.loop-i.invariant.before)
-        | else-is_not-via-else-is_not w ↦ omega (arith, c.counted-seen.ensures, ap (λ b. cond b (suc c.loop-i.seen) c.loop-i.seen) w.if-is_not.false, c.loop-i.invariant.before)
+        | else-is_not-via-then-is_not+else-seen-k w ↦ omega (arith, c.nots_so_far-seen.ensures, ap (λ b. cond b (suc c.loop-i.seen) c.loop-i.seen) w.if-is_not.true, w.if-seen-k.false, c.loop-i.invariant.before)
+        | else-is_not-via-else-is_not w ↦ omega (arith, c.nots_so_far-seen.ensures, ap (λ b. cond b (suc c.loop-i.seen) c.loop-i.seen) w.if-is_not.false, c.loop-i.invariant.before)
       ];
     }

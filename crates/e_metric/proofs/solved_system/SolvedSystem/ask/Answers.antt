@@ -25,13 +25,13 @@ returns-then-are_so c =
     c.values.ensures
     (subst (λ vs. Satisfy (assigned vs) (views_of_rows c.deref-4.result.now)) c.items-2.ensures (c.are_so.ensures c.if-are_so.true))
 
-pub decided-requires-clause-terms : goal.decided-requires-clause-terms
-decided-requires-clause-terms c =
+pub answer_of_rows-requires-clause-terms : goal.answer_of_rows-requires-clause-terms
+answer_of_rows-requires-clause-terms c =
     let l = c.args.goal.now in
     goal_terms c.args.which c.args.facts.now l c.args.self.now c.deref-5.result.now c.requires.solved_system (c.deref-5.ensures.value ∙ c.in_ok-fresh.ensures ∙ ap (λ ts. terms_added c.args.which ts (l ∷ [])) c.deref.ensures.value)
 
-pub decided-requires-clause-together : goal.decided-requires-clause-together
-decided-requires-clause-together c =
+pub answer_of_rows-requires-clause-together : goal.answer_of_rows-requires-clause-together
+answer_of_rows-requires-clause-together c =
     let facts = c.args.facts.now in
     let l = c.args.goal.now in
     let g = c.args.self.now in
