@@ -17,7 +17,7 @@
 - The newest version of CHANGELOG.md is that of CITATION.cff, and of release/, or the program there is unreleased:
   `check_versions`.
 - Pages of definitions and files of proofs, which docs/definitions.md and docs/proofs*.md name without their suffix, are
-  there: `check_files`.
+  there: `check_files`. The code in docs/crates.md is that of the crate `examples`: `check_examples`.
 
 Each check yields findings: a page, the number of a line, and what is wrong there.
 """
@@ -466,4 +466,12 @@ def check_files(top):
                     yield page, text[: match.start()].count("\n") + 1, f"no file of proofs: {word}"
 
 
-CHECKS = [check_rules, check_counts, check_crates, check_program, check_language, check_library, check_history, check_stating, check_book_one, check_readme, check_versions, check_files]
+def check_examples(top):
+    code = "".join(read(path) for path in sorted(top.glob("crates/examples/src/*.rt")))
+    page = top / "docs/crates.md"
+    for match in re.finditer(r"```rust\n(.*?)```", read(page), re.DOTALL):
+        if match.group(1) not in code:
+            yield page, line_of(read(page), match.group(1)), "not the code of the crate `examples`"
+
+
+CHECKS = [check_rules, check_counts, check_crates, check_program, check_language, check_library, check_history, check_stating, check_book_one, check_readme, check_versions, check_files, check_examples]
