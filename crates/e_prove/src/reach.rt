@@ -72,11 +72,8 @@ pub fn reach(
         if target < next {
             return enter_step(alloc, before, step, state, number, target);
         }
-        match prove_step(alloc, before, step, state, number) {
-            Ok(proved) => {
-                number = proved.next;
-                mem::drop(proved);
-            }
+        match prove_step(alloc, before, step, state, &mut number) {
+            Ok(proved) => mem::drop(proved),
             Err(stop) => return Err(stop),
         }
     }
@@ -209,7 +206,8 @@ fn pass_first(
             return Err(Stop::NoMemory);
         }
     }
-    match prove_block(alloc, before, block, goal, state, first) {
+    let mut number = first;
+    match prove_block(alloc, before, block, goal, state, &mut number) {
         Ok(proved) => mem::drop(proved),
         Err(stop) => {
             mem::drop(outer);

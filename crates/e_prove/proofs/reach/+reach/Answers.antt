@@ -85,14 +85,14 @@ reach-prove_step-requires t c =
 pub reach-loop-step-preserved : goal.reach-loop-step-preserved
 reach-loop-step-preserved t c =
     record {
-      done = c.loop-step.invariant.done ++ c.in-Ok.proved.step ∷ [];
+      done = c.loop-step.invariant.done ++ c.in-Ok.proved ∷ [];
       passed =
-          step_passed (all_stated c.args.before.now) c.args.block.now.steps.items c.deref-step-items.result.now c.loop-step.invariant.done (c.loop-step.invariant.done ++ c.in-Ok.proved.step ∷ []) c.loop-step.step-index c.step-item.result
-          c.in-Ok.proved.step c.args.state.now c.loop-step.state c.prove_step.new.state c.args.first c.loop-step.number c.in-Ok.proved.next c.deref-step-items.ensures.value c.loop-step-test.true c.step-item.is refl
+          step_passed (all_stated c.args.before.now) c.args.block.now.steps.items c.deref-step-items.result.now c.loop-step.invariant.done (c.loop-step.invariant.done ++ c.in-Ok.proved ∷ []) c.loop-step.step-index c.step-item.result
+          c.in-Ok.proved c.args.state.now c.loop-step.state c.prove_step.new.state c.args.first c.loop-step.number c.prove_step.new.number c.deref-step-items.ensures.value c.loop-step-test.true c.step-item.is refl
           c.loop-step.invariant.passed c.in-Ok.ensures.ok;
       from = omega (
         arith,
-        step_ends (all_stated c.args.before.now) c.step-item.result c.in-Ok.proved.step c.loop-step.state c.prove_step.new.state c.loop-step.number c.in-Ok.proved.next c.lines_of-lines.result (close_script c.args.block.now.close)
+        step_ends (all_stated c.args.before.now) c.step-item.result c.in-Ok.proved c.loop-step.state c.prove_step.new.state c.loop-step.number c.prove_step.new.number c.lines_of-lines.result (close_script c.args.block.now.close)
             (c.lines_of-lines.ensures (close_script c.args.block.now.close)) c.in-Ok.ensures.ok,
         c.if-target-next.false,
       );
