@@ -1,11 +1,11 @@
-//! The lines of certificates: read from their words, spelled again, and what a line owes while they
-//! come.
+//! The lines of certificates: read from their words, compared with their spelling, and what a line
+//! owes while they come.
 #![tactic(auto)]
 
 mod cert_line;
-mod cert_text;
 mod kept;
 mod owed;
+mod spelled;
 mod strict;
 
 pub use cert_line::{CertLine, RawRow, cert_line_is_of};

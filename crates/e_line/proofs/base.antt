@@ -3,3 +3,4 @@ pub mod Bound
 pub mod Choices
 pub mod ItemLoops
 pub mod Loops
+pub mod Past

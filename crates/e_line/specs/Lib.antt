@@ -12,3 +12,4 @@ pub mod Canonical
 pub mod HasSpelling
 pub mod Items
 pub mod Strict
+pub mod Comparison

@@ -4,6 +4,7 @@
 #![tactic(auto)]
 
 mod applies;
+mod comparison;
 mod fault;
 mod items;
 mod lets;
@@ -18,6 +19,7 @@ mod superposes;
 mod words;
 
 pub use applies::RawApply;
+pub use comparison::Comparison;
 pub use fault::{BookFault, FaultKind, LineError, What, of_line};
 pub use items::{BookLine, Listing, RawAs, RawItem, book_line_of};
 pub use lets::RawLet;

@@ -1,0 +1,52 @@
+-- A text compared with words, and whether it is they.
+use Rattle.std.proofs.Common.{◌≡◌, ℕ, Bool, true, false, List, [], ◌∷◌, ◌++◌, Option, Some, None, refl, sym, ap, ◌∙◌}
+use Rattle.std.specs.Prelude.{◌==◌, ◌&&◌, if◌then◌else◌}
+use Rattle.std.specs.Str.{bytes_eq}
+use Rattle.e_text.specs.Tokens.{spaced}
+use Rattle.e_line.specs.Comparison.{past_bytes, past_word, past, is_spelled}
+
+pub past_append : (text : Option (List ℕ)) (xs ys : List (List ℕ)) → past text (xs ++ ys) ≡ past (past text xs) ys
+past_append text [] ys = refl
+past_append text (x ∷ xs) ys = past_append (past_word text x) xs ys
+
+-- nothing is past words in a text that was not as it should be
+none : (ws : List (List ℕ)) → past None ws ≡ None
+none [] = refl
+none (w ∷ ws) = none ws
+
+-- one byte more
+chosen : (same : Bool) (x : Option (List ℕ)) (a : Bool) → is_spelled x ≡ a → is_spelled (if same then x else None) ≡ (same && a)
+chosen true x a e = e
+chosen false x a e = refl
+
+pub bytes_are_spelled : (bytes text : List ℕ) → is_spelled (past_bytes bytes text) ≡ bytes_eq text bytes
+bytes_are_spelled [] [] = refl
+bytes_are_spelled [] (c ∷ text) = refl
+bytes_are_spelled (b ∷ bytes) [] = refl
+bytes_are_spelled (b ∷ bytes) (c ∷ text) = chosen (c == b) (past_bytes bytes text) (bytes_eq text bytes) (bytes_are_spelled bytes text)
+
+-- past some bytes and then others
+abbrev both : Option (List ℕ) → List ℕ → Option (List ℕ)
+both None bytes = None
+both (Some text) bytes = past_bytes bytes text
+
+chosen_both : (same : Bool) (x : Option (List ℕ)) (y : Option (List ℕ)) (bytes : List ℕ) → y ≡ both x bytes → (if same then y else None) ≡ both (if same then x else None) bytes
+chosen_both true x y bytes e = e
+chosen_both false x y bytes e = refl
+
+both_bytes : (xs ys text : List ℕ) → past_bytes (xs ++ ys) text ≡ both (past_bytes xs text) ys
+both_bytes [] ys text = refl
+both_bytes (x ∷ xs) ys [] = refl
+both_bytes (x ∷ xs) ys (c ∷ text) = chosen_both (c == x) (past_bytes xs text) (past_bytes (xs ++ ys) text) ys (both_bytes xs ys text)
+
+words_both : (found : Option (List ℕ)) (ws : List (List ℕ)) → ((text : List ℕ) → past (Some text) ws ≡ past_bytes (spaced ws) text) → past found ws ≡ both found (spaced ws)
+words_both None ws h = none ws
+words_both (Some text) ws h = h text
+
+words_are_bytes : (ws : List (List ℕ)) (text : List ℕ) → past (Some text) ws ≡ past_bytes (spaced ws) text
+words_are_bytes [] text = refl
+words_are_bytes (w ∷ ws) text = words_both (past_bytes (32 ∷ w) text) ws (words_are_bytes ws) ∙ sym (both_bytes (32 ∷ w) (spaced ws) text)
+
+-- a text is as it should be where it is these words, each after a space
+pub words_are_spelled : (ws : List (List ℕ)) (text : List ℕ) → is_spelled (past (Some text) ws) ≡ bytes_eq text (spaced ws)
+words_are_spelled ws text = ap is_spelled (words_are_bytes ws text) ∙ bytes_are_spelled (spaced ws) text
