@@ -1,5 +1,5 @@
 -- A book has one outcome, and what is answered at a refusal and at a step that is too wide is its
--- own.
+-- own; and so has the way to a step.
 use Rattle.std.specs.Prelude.{◌≡◌, ℕ, List, Option}
 use Rattle.e_names.specs.declared.known.Known.{Known}
 use Rattle.e_book.specs.TheoremViews.{TheoremView}
@@ -8,8 +8,9 @@ use Rattle.e_literal.specs.declared.object.Term.{Term}
 use Rattle.e_deriv.specs.declared.stop.Wanted.{Wanted}
 use Rattle.e_deriv.specs.declared.names.Names.{Names}
 use Rattle.e_commands.specs.Outcome.{BookOutcome, Unlicensed, Begins, IsOutcome, IsOutcomeOf}
-use Rattle.e_commands.specs.Outcome.{HasWide}
+use Rattle.e_commands.specs.Outcome.{HasWide, lines_of_book}
 use Rattle.e_commands.specs.Answers.{Refuses, Widens}
+use Rattle.e_commands.specs.SuggesterAnswers.{WayOutcome, IsWayOf}
 
 -- where the next theorem is refused, the book's outcome is that stop
 abbrev pub RefusalIsOutcome : Type 0
@@ -31,3 +32,9 @@ TooWideIsWide =
 abbrev pub BooksHaveOneOutcome : Type 0
 BooksHaveOneOutcome =
     (text : List ℕ) (a b : BookOutcome) → IsOutcomeOf text a → IsOutcomeOf text b → a ≡ b
+
+-- no step is both reached and not there, or comes after a stop or a fault
+abbrev pub WaysAreOne : Type 0
+WaysAreOne =
+    (text title : List ℕ) (step : ℕ) (a b : WayOutcome) → IsWayOf (lines_of_book text) title step a
+    → IsWayOf (lines_of_book text) title step b → a ≡ b

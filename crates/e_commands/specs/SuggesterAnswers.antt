@@ -1,13 +1,15 @@
 -- What the command `suggest` answers to a book, a title and the number of a step, and what it
 -- writes.
-use Rattle.std.specs.Prelude.{◌≡◌, ◌⊎◌, ℕ, ◌-◌, ◌<◌, ◌≤◌, List, [], ◌∷◌, ◌++◌, length, map, nat_le}
-use Rattle.std.specs.Prelude.{Bool, true, false, IsFalse, Contains, MatchBool, Option, Some, None}
-use Rattle.std.specs.Prelude.{Ok, Err, codes, slice_get}
+use Rattle.std.specs.Prelude.{◌≡◌, ◌⊎◌, ℕ, ◌-◌, ◌<◌, ◌≤◌, List, [], ◌∷◌, ◌++◌, length, map, nat_lt}
+use Rattle.std.specs.Prelude.{Bool, true, ◌&&◌, ◌||◌, ◌==◌, IsTrue, IsFalse, Contains, MatchBool}
+use Rattle.std.specs.Prelude.{Option, Some, None, Ok, Err, codes, slice_get}
+use Rattle.std.specs.List.{list_all}
 use Rattle.std.specs.Str.{bytes_eq}
 use Rattle.e_text.specs.Tokens.{spaced}
 use Rattle.e_literal.specs.declared.object.Obj.{Obj}
 use Rattle.e_literal.specs.declared.object.Scope.{Scope}
 use Rattle.e_literal.specs.declared.literal.Lit.{Lit}
+use Rattle.e_theorem.specs.Choice.{IsAllowedChoice, is_below}
 use Rattle.e_theorem.specs.Statements.{stated}
 use Rattle.e_deriv.specs.declared.stop.Wanted.{Wanted}
 use Rattle.e_deriv.specs.declared.stop.Wanted.TheVariants.{Match}
@@ -26,7 +28,7 @@ use Rattle.e_names.specs.Canonical.{name_of_object}
 use Rattle.e_book.specs.Canonical.{text_of}
 use Rattle.e_book.specs.Grammar.{Rest}
 use Rattle.e_spell.specs.Spelling.{unlicensed_text, too_wide_text}
-use Rattle.e_suggest.specs.Suggestions.{AreFirstChoices, SomeArgsAreTooWide}
+use Rattle.e_suggest.specs.Suggestions.{blanks, SomeArgsAreTooWide}
 use Rattle.e_commands.specs.declared.status.Status.{Status}
 use Rattle.e_commands.specs.declared.status.Status.TheVariants as status
 use Rattle.e_commands.specs.Outcome.{NextIs, Begins, StopsAt, RefusedAt, TooWideAt, end_line_number}
@@ -106,41 +108,62 @@ IsWayOf lines title step (Faulty fault) =
 abbrev pub apply_line : List ℕ → Names → List Obj → List ℕ
 apply_line title names args = codes "apply" ++ spaced (title ∷ map (name_of_object names) args)
 
-abbrev pub apply_lines : List ℕ → Names → List (List Obj) → List (List ℕ)
-apply_lines title names choices = map (apply_line title names) choices
+-- a theorem at this place among those that are known, with arguments
+pub record Application : Type 0 where
+  pub place : ℕ
+  pub theorem : TitledStatement
+  pub args : List Obj
 
--- the theorem is asked: it has at most six declared objects
-abbrev pub is_asked_for : TitledStatement → Bool
-is_asked_for h = nat_le (length h.statement.declared) 6
+abbrev pub line_of : Names → Application → List ℕ
+line_of names a = apply_line a.theorem.title names a.args
 
--- The lines of these theorems, in order, and whether some are left out: each theorem that is asked
--- gives the first of its choices, as many as are left of the most, and one that has more is the
--- last to be asked.
-abbrev pub Lists : Names → Scope → List Lit → List TitledStatement → ℕ
-    → List (List ℕ) → Bool → Type 0
-Lists names scope facts [] left lines more = (lines ≡ []) × (more ≡ false)
-Lists names scope facts (h ∷ hs) left lines more =
-    MatchBool (is_asked_for h)
-    ((choices : List (List Obj)) × (some : Bool)
-    × AreFirstChoices (stated h.statement) scope facts left choices some
-    × MatchBool some ((lines ≡ apply_lines h.title names choices) × (more ≡ true))
-    ((others : List (List ℕ)) × (lines ≡ apply_lines h.title names choices ++ others)
-    × Lists names scope facts hs (left - length choices) others more))
-    (Lists names scope facts hs left lines more)
+-- the theorem has at most six declared objects, and each of its given literals is allowed at the
+-- arguments
+pub record MayApply (scope : Scope) (facts : List Lit) (known : List TitledStatement)
+    (a : Application) : Type 0 where
+  pub is_known : Some a.theorem ≡ slice_get known a.place
+  pub is_asked_for : length a.theorem.statement.declared ≤ 6
+  pub good : IsAllowedChoice (stated a.theorem.statement) scope facts
+      (blanks (stated a.theorem.statement)) a.args
+
+-- its theorem is earlier; or it is the same, and its arguments are below
+abbrev pub precedes : Application → Application → Bool
+precedes a b = nat_lt a.place b.place || (a.place == b.place && is_below a.args b.args)
+
+-- each precedes all that come after it
+abbrev pub is_in_order : List Application → Bool
+is_in_order [] = true
+is_in_order (a ∷ others) = list_all (precedes a) others && is_in_order others
+
+-- all these precede it
+abbrev pub is_later : List Application → Application → Bool
+is_later applications a = list_all (λ b. precedes b a) applications
+
+-- The first 1,000 of all that may be applied, in order, and whether there are others. None is
+-- missing before the last of these, and where there are no others none is missing at all.
+pub record AreFirstApplications (scope : Scope) (facts : List Lit) (known : List TitledStatement)
+    (applications : List Application) (more : Bool) : Type 0 where
+  pub good : (a : Application) → Contains applications a → MayApply scope facts known a
+  pub in_order : IsTrue (is_in_order applications)
+  pub few : length applications ≤ 1000
+  pub none_missing : (a : Application) → MayApply scope facts known a
+      → Contains applications a ⊎ (IsTrue more × IsTrue (is_later applications a))
+  pub others : IsTrue more → (length applications ≡ 1000)
+      × ((a : Application) × MayApply scope facts known a × IsTrue (is_later applications a))
 
 -- ---- what is due
 
--- at the step these lines are suggested, at most a thousand, and this is written
+-- at the step the lines of the first applications are suggested, and this is written
 pub record Suggests (title : List ℕ) (step n : ℕ) (more : Bool) (out : List ℕ)
     (known : List TitledStatement) (t : TheoremView) : Type 0 where
   pub placed : PlacedStep
   pub asked : IsAsked title step known t placed
   pub names : Names
   pub named : HasNamesAt known t step names
-  pub lines : List (List ℕ)
-  pub listed : Lists names placed.scope placed.facts known 1000 lines more
-  pub count : n ≡ length lines
-  pub bytes : out ≡ text_of lines ++ suggested_line n more
+  pub applications : List Application
+  pub first : AreFirstApplications placed.scope placed.facts known applications more
+  pub count : n ≡ length applications
+  pub bytes : out ≡ text_of (map (line_of names) applications) ++ suggested_line n more
 
 -- at the step some choice of arguments for a theorem that is asked is too wide
 pub record WidensAtStep (title : List ℕ) (step width : ℕ) (names : Names)

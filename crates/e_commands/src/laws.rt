@@ -1,5 +1,6 @@
 //! What follows from the definitions of books and their outcomes.
 ghost use Rattle.e_commands.specs.Laws.{BooksHaveOneOutcome, RefusalIsOutcome, TooWideIsWide};
+ghost use Rattle.e_commands.specs.Laws.{WaysAreOne};
 
 /// A book has one outcome.
 pub fn books_have_one_outcome()
@@ -14,4 +15,9 @@ pub fn refusal_is_outcome()
 /// Where a step is too wide that is reached, a reached step is wide.
 pub fn too_wide_is_wide()
     ensures { TooWideIsWide }
+{}
+
+/// The way to a step of a theorem of a book has one outcome.
+pub fn ways_are_one()
+    ensures { WaysAreOne }
 {}

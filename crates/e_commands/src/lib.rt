@@ -22,7 +22,7 @@ mod verifier;
 
 pub use checker::{check, close};
 pub use drawer::figure;
-pub use laws::{books_have_one_outcome, refusal_is_outcome, too_wide_is_wide};
+pub use laws::{books_have_one_outcome, refusal_is_outcome, too_wide_is_wide, ways_are_one};
 pub use maker::make;
 pub use rewriter::rewrite;
 pub use rewriting::Job;

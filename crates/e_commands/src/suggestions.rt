@@ -9,8 +9,8 @@ ghost use Rattle.e_names.specs.TitledStatements.{stated_by};
 ghost use Rattle.e_line.specs.Canonical.{argument_word};
 ghost use Rattle.e_names.specs.Canonical.{name_of_object};
 ghost use Rattle.e_book.specs.Canonical.{text_of};
-ghost use Rattle.e_commands.specs.SuggesterAnswers.{apply_line, apply_lines};
-ghost use Rattle.e_commands.specs.inner.Suggesting.{IsListed, IsListedOne};
+ghost use Rattle.e_commands.specs.SuggesterAnswers.{apply_line};
+ghost use Rattle.e_commands.specs.inner.Suggesting.{IsListed, IsListedOne, apply_lines};
 
 use e_deriv::Names;
 use e_licence::{FirstChoices, Verdicts};

@@ -47,10 +47,10 @@ use Rattle.e_commands.specs.Input.{IsTextOf}
 use Rattle.e_commands.specs.LastLines.{fault_line, no_step_line, suggested_line}
 use Rattle.e_commands.specs.Outcome as outcome
 use Rattle.e_commands.specs.Outcome.{BookOutcome, NextIs, Takes, AreDefined, IsLicensed, StopsAt, RefusedAt, and_theorem, and_notion, end_line_number, lines_of_book}
-use Rattle.e_commands.specs.SuggesterAnswers.{Lists, UpToTheorem, NextUpTo, IsEarlier, IsAsked, HasTooFewSteps, WayOutcome, AtStep, NoStep, Unlicensed, Faulty, IsWayOf, Suggests, Widens, SuggestAnswer, SuggestsBook, HasWideOnWay, IsWayAnswer, AnswersSuggest}
+use Rattle.e_commands.specs.SuggesterAnswers.{AreFirstApplications, line_of, UpToTheorem, NextUpTo, IsEarlier, IsAsked, HasTooFewSteps, WayOutcome, AtStep, NoStep, Unlicensed, Faulty, IsWayOf, Suggests, Widens, SuggestAnswer, SuggestsBook, HasWideOnWay, IsWayAnswer, AnswersSuggest}
 use Rattle.e_commands.specs.Wrote.{ClosesWith, Wrote}
 use Rattle.e_commands.specs.inner.BookResults.{stop_answer}
-use Rattle.e_commands.specs.inner.Suggesting.{AnswersAt, IsBookAnswer, IsNextTitled, AnswersNext, PassesNext, IsStopAnswer, IsOnWay, SomeIsTooWide, is_out_of_memory}
+use Rattle.e_commands.specs.inner.Suggesting.{AreListed, AnswersAt, IsBookAnswer, IsNextTitled, AnswersNext, PassesNext, IsStopAnswer, IsOnWay, SomeIsTooWide, is_out_of_memory}
 use Rattle.e_commands.proofs.outcomes.Completeness.{wide_line, stop_of_refusal}
 use Rattle.e_commands.proofs.progress.History.{takes_more, takes_notion, defined_same}
 use Rattle.e_commands.proofs.outcomes.OneOutcome.{found, none_left, found_not_none, found_not_faulty, none_not_faulty, same_faulty, one_stop_at, stop_of_same, same_first, takes_at, same_rest, NoNotion, theorem_here, spot_of}
@@ -231,7 +231,7 @@ is_stopped lines title step known t stops.NoMemory answer out next earlier wide 
 
 answers_at : (lines : Rest) (title : List ℕ) (step : ℕ) (known : List TitledStatement) (t : TheoremView) (p : Place) (answer : Status) (out : List ℕ) → IsNextTitled lines title known t → t.title ≡ title
     → IsStepPlace (stated_by known) (stated t.statement) t.names t.script step p → AnswersAt p.names p.context.scope p.context.facts known title step answer out → IsBookAnswer lines title step answer out
-answers_at lines title step known t p (status.Suggested n more) out next titled place (ls, count, listed, bytes) =
+answers_at lines title step known t p (status.Suggested n more) out next titled place (list, count, first, bytes) =
     record {
       due = next_up_to lines title known t (Suggests title step n more out) next
           (record {
@@ -239,8 +239,8 @@ answers_at lines title step known t p (status.Suggested n more) out next titled 
             asked = record { titled = titled; context = place.context };
             names = p.names;
             named = place.named;
-            lines = ls;
-            listed = subst (λ (s : Scope). Lists p.names s place.step.facts known 1000 ls more) place.scope (subst (λ (fs : List Lit). Lists p.names p.context.scope fs known 1000 ls more) place.facts listed);
+            applications = list;
+            first = subst (λ (s : Scope). AreFirstApplications s place.step.facts known list more) place.scope (subst (λ (fs : List Lit). AreFirstApplications p.context.scope fs known list more) place.facts first);
             count = count;
             bytes = bytes;
           });
@@ -424,7 +424,7 @@ one_way last known lines title step (t ∷ ts) (u ∷ us) k1 k2 r1 r2 a b p q m 
     one_way last (and_theorem p.0 t) p.3 title step ts us k1 k2 r1 r2 a b p.6
     (takes_at last p.0 q.0 k2 p.3 q.3 r2 us t u (sym spot.0) (same_first u t q.3 p.3 e) (same_rest (OfTheorem u) (OfTheorem t) q.3 p.3 e) q.6) m n h k
 
-way_is_one : (lines : Rest) (title : List ℕ) (step : ℕ) (a b : WayOutcome) → IsWayOf lines title step a → IsWayOf lines title step b → a ≡ b
+pub way_is_one : (lines : Rest) (title : List ℕ) (step : ℕ) (a b : WayOutcome) → IsWayOf lines title step a → IsWayOf lines title step b → a ≡ b
 way_is_one lines title step a b h k =
     let p = way_at lines title step a h in
     let q = way_at lines title step b k in
@@ -569,13 +569,12 @@ notion_passes known now title step n means is lines rest after w read =
     subst (λ (k : Known). IsOnWay lines title k after) (sym is) (way_notion lines title known rest after n w read means)
 
 -- at the place
-pub listed_answer : {E : Type 0} (r : Result Answer E) (names : Names) (scope : Scope) (facts : List Lit) (known : List TitledStatement) (title : List ℕ) (step n m : ℕ) (more : Bool) (out text : List ℕ) → text ≡ out → m ≡ n
-    → ((lines : List (List ℕ)) × (out ≡ text_of lines) × (n ≡ length lines) × (n ≤ 1000) × Lists names scope facts known 1000 lines more)
+pub listed_answer : {E : Type 0} (r : Result Answer E) (names : Names) (scope : Scope) (facts : List Lit) (known : List TitledStatement) (title : List ℕ) (step n m : ℕ) (more : Bool) (out text : List ℕ) → text ≡ out → m ≡ n → AreListed names scope facts known out n more
     → IfOk r (λ a. (a.status ≡ status.Suggested m more) × (a.line.items ≡ text ++ suggested_line m more)) → AnswersIf r (AnswersAt names scope facts known title step)
-listed_answer (Err e) names scope facts known title step n m more out text same is listed h = tt
-listed_answer (Ok a) names scope facts known title step n m more out text same is (lines, bytes, count, few, lists) (e, f) =
+listed_answer (Err e) names scope facts known title step n m more out text same is l h = tt
+listed_answer (Ok a) names scope facts known title step n m more out text same is l (e, f) =
     subst (λ (s : Status). AnswersAt names scope facts known title step s a.line.items) (sym e)
-    (lines, is ∙ count, lists, f ∙ ap (λ (x : List ℕ). x ++ suggested_line m more) (same ∙ bytes))
+    (l.applications, is ∙ l.count, l.first, f ∙ ap (λ (x : List ℕ). x ++ suggested_line m more) (same ∙ l.bytes))
 
 pub wide_at_place : {E : Type 0} (r : Result Answer E) (names seen : Names) (scope : Scope) (facts : List Lit) (known : List TitledStatement) (title : List ℕ) (step width : ℕ) → seen ≡ names → SomeIsTooWide scope facts known width
     → IfOk r (λ a. IsStopAnswer title (stops.TooWide step Match width seen) a.status a.line.items) → AnswersIf r (AnswersAt names scope facts known title step)

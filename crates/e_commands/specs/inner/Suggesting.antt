@@ -1,7 +1,8 @@
 -- What is suggested theorem by theorem, and what an answer says of a theorem that is next.
-use Rattle.std.specs.Prelude.{◌≡◌, ℕ, ◌-◌, ◌≤◌, List, ◌∷◌, ◌++◌, length, Bool, true, false, IsTrue}
-use Rattle.std.specs.Prelude.{IsFalse, Contains, Option, None, Some, Ok}
+use Rattle.std.specs.Prelude.{◌≡◌, ◌⊎◌, ℕ, ◌<◌, ◌≤◌, List, [], ◌++◌, length, map, Bool, true, false}
+use Rattle.std.specs.Prelude.{IsTrue, IsFalse, Contains, Option, None, Some, Ok}
 use Rattle.std.specs.List.{list_all}
+use Rattle.e_literal.specs.declared.object.Obj.{Obj}
 use Rattle.e_literal.specs.declared.object.Scope.{Scope}
 use Rattle.e_literal.specs.declared.literal.Lit.{Lit}
 use Rattle.e_literal.specs.Use.{StatementView}
@@ -19,7 +20,7 @@ use Rattle.e_book.specs.Definitions.{BookItem, OfTheorem, item_from}
 use Rattle.e_book.specs.Canonical.{text_of}
 use Rattle.e_book.specs.Grammar.{Rest}
 use Rattle.e_spell.specs.Spelling.{too_wide_text, stop_text, IsStop}
-use Rattle.e_suggest.specs.Suggestions.{SomeArgsAreTooWide}
+use Rattle.e_suggest.specs.Suggestions.{AreFirstChoices, SomeArgsAreTooWide}
 use Rattle.e_commands.specs.declared.status.Status.{Status}
 use Rattle.e_commands.specs.declared.status.Status.TheVariants as status
 use Rattle.e_commands.specs.declared.trier.Answer.{Answer}
@@ -28,35 +29,32 @@ use Rattle.e_commands.specs.declared.suggestions.Listed.TheVariants as listed
 use Rattle.e_commands.specs.Answers.{IsReadFault}
 use Rattle.e_commands.specs.LastLines.{suggested_line}
 use Rattle.e_commands.specs.Outcome.{Begins, end_line_number}
-use Rattle.e_commands.specs.SuggesterAnswers.{Lists, SuggestAnswer}
+use Rattle.e_commands.specs.SuggesterAnswers.{apply_line, line_of, Application, MayApply}
+use Rattle.e_commands.specs.SuggesterAnswers.{is_in_order, AreFirstApplications, SuggestAnswer}
 use Rattle.e_commands.specs.inner.BookResults.{stop_answer}
 
 -- ---- one theorem
 
--- with these lines of it, those of the theorems after it are the lines from it on
-abbrev pub ChoicesGoOn : Names → Scope → List Lit → List ℕ → StatementView → ℕ
-    → List (List ℕ) → Type 0
-ChoicesGoOn names scope facts title t left lines =
-    (h : TitledStatement) → h.title ≡ title → stated h.statement ≡ t
-    → (hs : List TitledStatement) (others : List (List ℕ)) (more : Bool)
-    → Lists names scope facts hs (left - length lines) others more
-    → Lists names scope facts (h ∷ hs) left (lines ++ others) more
+-- the lines of choices of arguments for a theorem
+abbrev pub apply_lines : List ℕ → Names → List (List Obj) → List (List ℕ)
+apply_lines title names choices = map (apply_line title names) choices
 
--- with these lines of it there are more, and none of the theorems after it is asked
-abbrev pub EndsWith : Names → Scope → List Lit → List ℕ → StatementView → ℕ → List (List ℕ) → Type 0
-EndsWith names scope facts title t left lines =
-    (h : TitledStatement) → h.title ≡ title → stated h.statement ≡ t → (hs : List TitledStatement)
-    → Lists names scope facts (h ∷ hs) left lines true
+-- the theorem is not asked; or these are all its choices
+abbrev pub AreAllChoices : StatementView → Scope → List Lit → ℕ → List (List Obj) → Type 0
+AreAllChoices t scope facts left choices =
+    ((6 < length t.declared) × (choices ≡ []))
+    ⊎ ((length t.declared ≤ 6) × AreFirstChoices t scope facts left choices false)
 
 -- what was written of one theorem
 abbrev pub IsListedOne : Names → Scope → List Lit → List ℕ → StatementView → ℕ → List ℕ
     → List ℕ → Listed → Type 0
 IsListedOne names scope facts title t left old new (listed.All n) =
-    (lines : List (List ℕ)) × (new ≡ old ++ text_of lines) × (n ≡ length lines) × (n ≤ left)
-    × ChoicesGoOn names scope facts title t left lines
+    (choices : List (List Obj)) × (new ≡ old ++ text_of (apply_lines title names choices))
+    × (n ≡ length choices) × (n ≤ left) × AreAllChoices t scope facts left choices
 IsListedOne names scope facts title t left old new (listed.Full n) =
-    (lines : List (List ℕ)) × (new ≡ old ++ text_of lines) × (n ≡ length lines) × (n ≤ left)
-    × EndsWith names scope facts title t left lines
+    (choices : List (List Obj)) × (new ≡ old ++ text_of (apply_lines title names choices))
+    × (n ≡ length choices) × (length t.declared ≤ 6)
+    × AreFirstChoices t scope facts left choices true
 IsListedOne names scope facts title t left old new (listed.TooWide w) =
     (length t.declared ≤ 6) × SomeArgsAreTooWide t scope facts w
 
@@ -70,34 +68,41 @@ pub record SomeIsTooWide (scope : Scope) (facts : List Lit) (known : List Titled
   pub is_asked_for : length theorem.statement.declared ≤ 6
   pub too_wide : SomeArgsAreTooWide (stated theorem.statement) scope facts w
 
+-- these many lines, of the first applications, were written
+pub record AreListed (names : Names) (scope : Scope) (facts : List Lit)
+    (known : List TitledStatement) (out : List ℕ) (n : ℕ) (more : Bool) : Type 0 where
+  pub applications : List Application
+  pub bytes : out ≡ text_of (map (line_of names) applications)
+  pub count : n ≡ length applications
+  pub first : AreFirstApplications scope facts known applications more
+
 abbrev pub IsListed : Names → Scope → List Lit → List TitledStatement → List ℕ → Listed → Type 0
 IsListed names scope facts known out (listed.All n) =
-    (lines : List (List ℕ)) × (out ≡ text_of lines) × (n ≡ length lines) × (n ≤ 1000)
-    × Lists names scope facts known 1000 lines false
-IsListed names scope facts known out (listed.Full n) =
-    (lines : List (List ℕ)) × (out ≡ text_of lines) × (n ≡ length lines) × (n ≤ 1000)
-    × Lists names scope facts known 1000 lines true
+    AreListed names scope facts known out n false
+IsListed names scope facts known out (listed.Full n) = AreListed names scope facts known out n true
 IsListed names scope facts known out (listed.TooWide w) = SomeIsTooWide scope facts known w
 
--- what is known where the theorems before the one at this place were asked, and these lines are of
--- them
-pub record IsListedTo (names : Names) (scope : Scope) (facts : List Lit)
-    (known left : List TitledStatement) (out : List ℕ) (count : ℕ) : Type 0 where
-  pub lines : List (List ℕ)
-  pub bytes : out ≡ text_of lines
-  pub counted : count ≡ length lines
+-- the theorems before this place were asked, and the lines of all their applications were written
+pub record AreListedTo (names : Names) (scope : Scope) (facts : List Lit)
+    (known : List TitledStatement) (place : ℕ) (out : List ℕ) (count : ℕ) : Type 0 where
+  pub applications : List Application
+  pub bytes : out ≡ text_of (map (line_of names) applications)
+  pub counted : count ≡ length applications
   pub few : count ≤ 1000
-  pub goes_on : (others : List (List ℕ)) (more : Bool)
-      → Lists names scope facts left (1000 - count) others more
-      → Lists names scope facts known 1000 (lines ++ others) more
+  pub good : (a : Application) → Contains applications a
+      → MayApply scope facts known a × (a.place < place)
+  pub in_order : IsTrue (is_in_order applications)
+  pub all : (a : Application) → MayApply scope facts known a → a.place < place
+      → Contains applications a
 
 -- ---- the answer at a place
 
 abbrev pub AnswersAt : Names → Scope → List Lit → List TitledStatement → List ℕ → ℕ
     → Status → List ℕ → Type 0
 AnswersAt names scope facts known title step (status.Suggested n more) out =
-    (lines : List (List ℕ)) × (n ≡ length lines) × Lists names scope facts known 1000 lines more
-    × (out ≡ text_of lines ++ suggested_line n more)
+    (applications : List Application) × (n ≡ length applications)
+    × AreFirstApplications scope facts known applications more
+    × (out ≡ text_of (map (line_of names) applications) ++ suggested_line n more)
 AnswersAt names scope facts known title step (status.TooWide p n wanted width) out =
     (p ≡ title) × (n ≡ step) × (wanted ≡ Match) × SomeIsTooWide scope facts known width
     × (out ≡ too_wide_text p n wanted width names)

@@ -1,5 +1,4 @@
 use Rattle.std.proofs.Common.{arith}
-use Rattle.std.proofs.lemmas.List.{drop_all}
 use Rattle.e_theorem.specs.Statements.{stated}
 use Rattle.e_commands.proofs.answers.SuggestedLines.{headed_at, statement_at, listed_start, listed_more, listed_full, listed_wide, listed_all}
 use Rattle.e_commands.proofs.suggestions.list_theorems.Goals as goal
@@ -39,5 +38,5 @@ returns-in-TooWide c =
 
 pub returns : goal.returns
 returns c =
-    listed_all c.args.place.now.names c.args.place.now.context.scope c.args.place.now.context.facts c.args.known.now _ c.loop-at.out.items c.loop-at.count
-    (drop_all c.loop-at.at c.args.known.now (omega (arith, c.loop-at-test.false, c.len-at-end.ensures))) c.loop-at.invariant.0
+    listed_all c.args.place.now.names c.args.place.now.context.scope c.args.place.now.context.facts c.args.known.now c.loop-at.at c.loop-at.out.items c.loop-at.count
+    (omega (arith, c.loop-at-test.false, c.len-at-end.ensures)) c.loop-at.invariant.0

@@ -1,8 +1,7 @@
-use Rattle.std.proofs.Common.{drop}
 use Rattle.e_licence.specs.Verdicts.{AreRight}
-use Rattle.e_commands.specs.inner.Suggesting.{IsListedTo}
+use Rattle.e_commands.specs.inner.Suggesting.{AreListedTo}
 use Rattle.e_commands.proofs.suggestions.list_theorems.Given as goal
 
 abbrev pub invariant-loop-at : goal.invariant-loop-at
-invariant-loop-at l = IsListedTo l.place.names l.place.context.scope l.place.context.facts l.known (drop l.at l.known) l.out.items l.count
+invariant-loop-at l = AreListedTo l.place.names l.place.context.scope l.place.context.facts l.known l.at l.out.items l.count
     × AreRight l.place.context l.memory

@@ -1,6 +1,6 @@
 use Rattle.std.proofs.Common.{◌≡◌, ◌++◌, take}
 use Rattle.e_book.specs.Canonical.{text_of}
-use Rattle.e_commands.specs.SuggesterAnswers.{apply_lines}
+use Rattle.e_commands.specs.inner.Suggesting.{apply_lines}
 use Rattle.e_commands.proofs.suggestions.put_applications.Given as goal
 
 abbrev pub invariant-loop-choice : goal.invariant-loop-choice
