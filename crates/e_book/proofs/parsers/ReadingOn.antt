@@ -19,7 +19,7 @@ use Rattle.e_names.specs.declared.known.Known.{Known}
 use Rattle.e_names.specs.Titled.{are_notions}
 use Rattle.e_book.specs.Grammar.{is_skipped, put_at, BookFails}
 use Rattle.e_book.specs.Definitions.{BookItem, HasWellFormedView, view_of}
-use Rattle.e_book.specs.inner.Machine.{line_step, is_done, item_of_coming, at_end, item_from, IsBegun, TakesWords, TakesLine, ReadsOn, end_of}
+use Rattle.e_book.specs.inner.Machine.{line_step, is_done, coming_after, FitsComing, item_of_coming, at_end, item_from, IsBegun, IsEnded, TakesLine, ReadsOn, end_of}
 use Rattle.e_book.proofs.parsers.ComingInvariants.{read_is_well_formed}
 
 abbrev Rest : Type 0
@@ -33,6 +33,12 @@ answered x = Ok x
 
 abbrev pair : BookItem → Rest → Answer
 pair i rest = Some (i, rest)
+
+abbrev some_coming : Coming → Result (Option Coming) FaultKind
+some_coming c = Ok (Some c)
+
+abbrev no_coming : Result (Option Coming) FaultKind
+no_coming = Ok None
 
 -- ---- one line, unfolded
 
@@ -78,7 +84,7 @@ book_fails (faults.Limit line what) q h = h
 book_fails (faults.Unended line) q h = h
 
 -- an error, at its line
-pub fails_at : (n : ℕ) (error : LineError) (r : Result Coming FaultKind) → Fails error r → BookFails (error_at n error) (put_at n r)
+fails_at : (n : ℕ) (error : LineError) (r : Result Coming FaultKind) → Fails error r → BookFails (error_at n error) (put_at n r)
 fails_at n line_errors.NoMemory r h = tt
 fails_at n (line_errors.Fault kinds.Malformed) r h = ap (λ (x : Result Coming FaultKind). put_at n x) h
 fails_at n (line_errors.Fault kinds.UnknownName) r h = ap (λ (x : Result Coming FaultKind). put_at n x) h
@@ -97,22 +103,49 @@ fails_on (faults.WrongSort line) q then h = ap (λ (r : Result Coming BookFault)
 fails_on (faults.Limit line what) q then h = ap (λ (r : Result Coming BookFault). r >>= then) h
 fails_on (faults.Unended line) q then h = ap (λ (r : Result Coming BookFault). r >>= then) h
 
+-- ---- what has come after a line
+
+from_some : (r : Result Coming FaultKind) (c : Coming) → (r >>= λ d. some_coming d) ≡ some_coming c → r ≡ Ok c
+from_some (Ok d) c e = cc
+from_some (Err k) c e = absurd cc
+
+from_none : (r : Result Coming FaultKind) → (r >>= λ d. some_coming d) ≡ no_coming → ⊥
+from_none (Ok d) e = absurd cc
+from_none (Err k) e = absurd cc
+
+fails_before : (error : LineError) (r : Result Coming FaultKind) → Fails error (r >>= λ d. some_coming d) → Fails error r
+fails_before line_errors.NoMemory r h = tt
+fails_before (line_errors.Fault f) (Ok d) h = absurd cc
+fails_before (line_errors.Fault f) (Err k) h = cc
+
 -- ---- what a line makes of what has come
 
 pub takes_skipped : (known : Known) (old : Option Coming) (l : LineView) → is_skipped (tokens_of l.bytes) ≡ true → TakesLine known old l (Ok None) old
 takes_skipped known old l h = λ last more. skipped known last old l more h
 
-pub takes_words : (known : Known) (old new : Option Coming) (l : LineView) (r : Result (Option Item) BookFault) → is_skipped (tokens_of l.bytes) ≡ false → TakesWords known old l.number (tokens_of l.bytes) r new → TakesLine known old l r new
-takes_words known old new l (Ok None) h w =
-    λ last more. worded_as known last old l more w.0 h w.1 ∙ on_false (is_done w.0) (answered (pair (item_of_coming w.0) more)) (item_from known last (Some w.0) more) w.2
-    ∙ ap (λ (d : Option Coming). item_from known last d more) (sym w.3)
-takes_words known old new l (Ok (Some t)) h w = (
-  w.4,
-  λ last more. worded_as known last old l more w.0 h w.1 ∙ on_true (is_done w.0) (answered (pair (item_of_coming w.0) more)) (item_from known last (Some w.0) more) w.2
-      ∙ ap (λ (e : BookItem). answered (pair e more)) (sym w.3),
+-- it goes on, or ends
+pub takes_words : (known : Known) (old mid new : Option Coming) (l : LineView) (i : Option Item) → is_skipped (tokens_of l.bytes) ≡ false → coming_after known old (tokens_of l.bytes) ≡ Ok mid → IsEnded mid i new → TakesLine known old l (Ok i) new
+takes_words known old None new l i h e w = absurd (from_none (line_step known old (tokens_of l.bytes)) e)
+takes_words known old (Some c) new l None h e w =
+    λ last more. worded_as known last old l more c h (from_some (line_step known old (tokens_of l.bytes)) c e) ∙ on_false (is_done c) (answered (pair (item_of_coming c) more)) (item_from known last (Some c) more) w.0
+    ∙ ap (λ (d : Option Coming). item_from known last d more) (sym w.1)
+takes_words known old (Some c) new l (Some t) h e w = (
+  w.2,
+  λ last more. worded_as known last old l more c h (from_some (line_step known old (tokens_of l.bytes)) c e) ∙ on_true (is_done c) (answered (pair (item_of_coming c) more)) (item_from known last (Some c) more) w.0
+      ∙ ap (λ (e : BookItem). answered (pair e more)) (sym w.1),
 )
-takes_words known old new l (Err f) h w =
-    λ last more. subst (λ (q : Result Answer BookFault). BookFails f q) (sym (worded known last old l more h)) (fails_on f (put old l known) (λ d. then_on known last more d) w)
+
+-- it fails
+pub takes_fault : (known : Known) (old new : Option Coming) (l : LineView) (error : LineError) → is_skipped (tokens_of l.bytes) ≡ false → Fails error (coming_after known old (tokens_of l.bytes)) → TakesLine known old l (Err (error_at l.number error)) new
+takes_fault known old new l error h w =
+    let r = line_step known old (tokens_of l.bytes) in
+    let f = error_at l.number error in
+    λ last more. subst (λ (q : Result Answer BookFault). BookFails f q) (sym (worded known last old l more h)) (fails_on f (put old l known) (λ d. then_on known last more d) (fails_at l.number error r (fails_before error r w)))
+
+pub fits_on : (known : Known) (mid new : Option Coming) (i : Option Item) → IsEnded mid i new → IfSome mid (FitsComing known) → IfSome new (FitsComing known)
+fits_on known None new i h f = subst (λ (c : Option Coming). IfSome c (FitsComing known)) (sym h.1) tt
+fits_on known (Some c) new None h f = subst (λ (c : Option Coming). IfSome c (FitsComing known)) (sym h.1) f
+fits_on known (Some c) new (Some i) h f = subst (λ (c : Option Coming). IfSome c (FitsComing known)) (sym h.2) tt
 
 -- want of memory says nothing
 pub takes_nothing : (known : Known) (old new : Option Coming) (l : LineView) (r : Result (Option Item) BookFault) → r ≡ Err faults.NoMemory → TakesLine known old l r new
@@ -174,8 +207,8 @@ good_after known old new lines left (Err f) all b h = tt
 -- ---- where no lines come after these
 
 -- before the first line
-pub from_none : (known : Known) (old new : Option Coming) (lines left : Rest) (o p : Option Item) → old ≡ None → o ≡ p → ReadsOn known old lines (Ok o) new left → ReadsOn known None lines (Ok p) new left
-from_none known old new lines left o p e is h =
+pub from_nothing : (known : Known) (old new : Option Coming) (lines left : Rest) (o p : Option Item) → old ≡ None → o ≡ p → ReadsOn known old lines (Ok o) new left → ReadsOn known None lines (Ok p) new left
+from_nothing known old new lines left o p e is h =
     subst (λ (q : Option Item). ReadsOn known None lines (Ok q) new left) is (subst (λ (d : Option Coming). ReadsOn known d lines (Ok o) new left) e h)
 
 pub whole_item : (known : Known) (last : ℕ) (lines left : Rest) (new : Option Coming) (t : Item) → ReadsOn known None lines (Ok (Some t)) new left → item_from known last None lines ≡ answered (pair (view_of t) left)

@@ -139,6 +139,9 @@ unfoldable pub line_step : Known → Option Coming → List (List ℕ) → Resul
 line_step known None words = book_line_of words >>= λ l. begins known l
 line_step known (Some c) words = book_line_of words >>= λ l. step known c l
 
+abbrev pub coming_after : Known → Option Coming → List (List ℕ) → Result (Option Coming) FaultKind
+coming_after known c words = line_step known c words >>= λ d. Ok (Some d)
+
 abbrev pub is_done : Coming → Bool
 is_done c = is_last c.parser.section
 
@@ -171,16 +174,12 @@ pub record IsBegun (known : Known) (c : Option Coming) : Type 0 where
   pub reads : (last : ℕ) (more : Rest)
       → item_from known last None (front ++ more) ≡ item_from known last c more
 
--- what the words of a line make of it
-abbrev pub TakesWords : Known → Option Coming → ℕ → List (List ℕ) → Result (Option Item) BookFault
-    → Option Coming → Type 0
-TakesWords known old number words (Ok None) new =
-    (c : Coming) × (line_step known old words ≡ Ok c) × (is_done c ≡ false) × (new ≡ Some c)
-TakesWords known old number words (Ok (Some i)) new =
-    (c : Coming) × (line_step known old words ≡ Ok c) × (is_done c ≡ true)
-    × (view_of i ≡ item_of_coming c) × (new ≡ None)
-TakesWords known old number words (Err f) new =
-    BookFails f (put_at number (line_step known old words))
+-- where the last line has come, what they make is taken out, and the next line begins anew
+abbrev pub IsEnded : Option Coming → Option Item → Option Coming → Type 0
+IsEnded None i new = (i ≡ None) × (new ≡ None)
+IsEnded (Some c) None new = (is_done c ≡ false) × (new ≡ Some c)
+IsEnded (Some c) (Some i) new =
+    (is_done c ≡ true) × (view_of i ≡ item_of_coming c) × (new ≡ None)
 
 -- what a line makes of it: to read on from here through the line is to read on from there; or the
 -- line ends the theorem or the definition; or it is the first with a fault

@@ -4,7 +4,7 @@ use Rattle.e_text.specs.Lines.{HaveNoFault}
 use Rattle.e_book.specs.inner.Machine.{FitsComing}
 use Rattle.e_book.specs.Grammar.{last_line}
 use Rattle.e_book.proofs.parsers.ReadingOn.{Alike}
-use Rattle.e_book.proofs.reading.Reading.read_lines.Given as goal
+use Rattle.e_book.proofs.reading.Reading.read.Given as goal
 
 abbrev pub invariant-loop-line : goal.invariant-loop-line
 invariant-loop-line l = record {
