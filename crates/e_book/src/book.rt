@@ -46,8 +46,8 @@ fn read_with(
 /// The next theorem or definition, or nothing where only skipped lines are left.
 ///
 /// It takes the lines up to its `end`. A fault is the first of the book from here on, and after it
-/// the lines are not used again. The lines are those of a text with at most 1,600 bytes a line and
-/// 4,194,304 bytes in all. The known theorems are statements and the known notions mean something
+/// the lines are not used again. The lines are those of a text with at most `LONGEST_LINE` bytes a
+/// line and `MOST_BYTES` bytes in all. The known theorems are statements and the known notions mean something
 /// of their declared objects, as each is that is read.
 pub fn next_item(alloc: Global, lines: &mut Lines, known: &Known) -> Result<Option<Item>, BookFault>
     requires lines { last_line lines.old < 2 ^ 32 }
