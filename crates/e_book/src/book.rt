@@ -25,7 +25,7 @@ fn read_with(
     lines: &mut Lines,
     known: &Known,
 ) -> Result<Option<Item>, BookFault>
-    requires begins { reading.old.coming ≡ None }
+    requires begins { reading.old.partial_item ≡ None }
     requires notions { IsTrue (are_notions known.now.notions) }
     requires lines { last_line lines.old < 2 ^ 32 }
     ensures read { BookReads result lines.new

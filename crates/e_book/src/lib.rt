@@ -7,19 +7,18 @@
 
 mod blocks;
 mod book;
-mod coming;
 mod inner;
 mod item;
 mod laws;
 mod limits;
 mod parser;
+mod partial_item;
 mod reading;
 mod steps;
 mod theorem;
 
 pub use blocks::{BlockKind, BlockStack, Closed, OpenBlock};
 pub use book::next_item;
-pub use coming::Coming;
 pub use e_line::{BookFault, What};
 pub use e_names::Known;
 pub use item::Item;
@@ -29,6 +28,7 @@ pub use laws::{
 };
 pub use limits::{LONGEST_LINE, MOST_BYTES};
 pub use parser::{Section, TheoremParser, declare, no_names};
+pub use partial_item::PartialItem;
 pub use reading::{Reading, is_skipped};
 pub use steps::{CloseLine, Steps};
 pub use theorem::Theorem;

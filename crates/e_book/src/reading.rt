@@ -7,12 +7,12 @@ ghost use Rattle.e_line.specs.Reading.{texts, Moves};
 ghost use Rattle.e_book.specs.Grammar.{starts_with_hash, is_skipped, last_line};
 ghost use Rattle.e_names.specs.Titled.{are_notions};
 ghost use Rattle.e_book.specs.Definitions.{HasWellFormedView};
-ghost use Rattle.e_book.specs.inner.Machine.{FitsComing, is_done, IsBegun, IsEnded};
-ghost use Rattle.e_book.specs.inner.Machine.{coming_after, TakesLine, ReadsOn, end_of};
+ghost use Rattle.e_book.specs.inner.Machine.{FitsPartial, is_done, IsBegun, IsEnded};
+ghost use Rattle.e_book.specs.inner.Machine.{partial_after, TakesLine, ReadsOn, end_of};
 
-use crate::coming::Coming;
 use crate::item::Item;
 use crate::parser::Section;
+use crate::partial_item::PartialItem;
 use e_line::{BookFault, LineError, of_line, words_of_line};
 use e_names::Known;
 use e_text::{Line, Lines};
@@ -38,33 +38,33 @@ pub fn is_skipped(words: &[&[u8]]) -> bool
     }
 }
 
-fn is_done(coming: &Coming) -> bool
-    ensures { result ≡ is_done coming.now }
+fn is_done(partial_item: &PartialItem) -> bool
+    ensures { result ≡ is_done partial_item.now }
 {
-    matches!(coming.parser.section, Section::Done)
+    matches!(partial_item.parser.section, Section::Done)
 }
 
 /// The words of a line begin a theorem or a definition, or go on with it.
 fn take_words(
     alloc: Global,
     known: &Known,
-    coming: &mut Option<Coming>,
+    partial_item: &mut Option<PartialItem>,
     words: &[&[u8]],
 ) -> Result<(), LineError>
-    requires coming { IfSome coming.old (FitsComing known.now) }
+    requires partial_item { IfSome partial_item.old (FitsPartial known.now) }
     requires notions { IsTrue (are_notions known.now.notions) }
-    ensures value { Moves result coming.new
-        (coming_after known.now coming.old (texts words.now)) }
-    ensures fits { OnOk result (IfSome coming.new (FitsComing known.now)) }
+    ensures value { Moves result partial_item.new
+        (partial_after known.now partial_item.old (texts words.now)) }
+    ensures fits { OnOk result (IfSome partial_item.new (FitsPartial known.now)) }
 {
-    match coming {
+    match partial_item {
         None => {
-            let first = Coming::begin(alloc, known, words)?;
-            mem::drop(mem::replace(coming, Some(first)));
+            let first = PartialItem::begin(alloc, known, words)?;
+            mem::drop(mem::replace(partial_item, Some(first)));
             Ok(())
         }
-        Some(coming) => {
-            coming.take(alloc, known, words)?;
+        Some(partial_item) => {
+            partial_item.take(alloc, known, words)?;
             Ok(())
         }
     }
@@ -74,15 +74,15 @@ fn take_words(
 /// is not used again.
 #[derive(Drop)]
 pub struct Reading {
-    pub coming: Option<Coming>,
+    pub partial_item: Option<PartialItem>,
 }
 
 impl Reading {
     /// Before the first line.
     pub fn new() -> Reading
-        ensures { result ≡ record { coming = None } }
+        ensures { result ≡ record { partial_item = None } }
     {
-        Reading { coming: None }
+        Reading { partial_item: None }
     }
 
     /// Takes the next line: the theorem or the definition that ends with it, if one does, and then
@@ -97,17 +97,17 @@ impl Reading {
         line: &Line,
     ) -> Result<Option<Item>, BookFault>
         requires number { line.now.number < 2 ^ 32 }
-        requires coming { IfSome self.old.coming (FitsComing known.now) }
+        requires partial_item { IfSome self.old.partial_item (FitsPartial known.now) }
         requires notions { IsTrue (are_notions known.now.notions) }
-        ensures takes { TakesLine known.now self.old.coming
-            (view_of_line line.now) result self.new.coming }
-        ensures fits { OnOk result (IfSome self.new.coming (FitsComing known.now)) }
+        ensures takes { TakesLine known.now self.old.partial_item
+            (view_of_line line.now) result self.new.partial_item }
+        ensures fits { OnOk result (IfSome self.new.partial_item (FitsPartial known.now)) }
     {
         let words = words_of_line(alloc, line.bytes)?;
         if is_skipped(&words) {
             return Ok(None);
         }
-        match take_words(alloc, known, &mut self.coming, &words) {
+        match take_words(alloc, known, &mut self.partial_item, &words) {
             Ok(()) => Ok(self.take_ended(alloc)),
             Err(error) => Err(error.at(line.number as u32)),
         }
@@ -115,16 +115,16 @@ impl Reading {
 
     /// What has ended with the last line, if it has: then the next line begins anew.
     fn take_ended(&mut self, alloc: Global) -> Option<Item>
-        ensures { IsEnded self.old.coming result self.new.coming }
+        ensures { IsEnded self.old.partial_item result self.new.partial_item }
     {
-        let Some(coming) = &self.coming else {
+        let Some(partial_item) = &self.partial_item else {
             return None;
         };
-        if !is_done(coming) {
+        if !is_done(partial_item) {
             return None;
         }
-        match self.coming.take() {
-            Some(coming) => Some(coming.into_item(alloc)),
+        match self.partial_item.take() {
+            Some(partial_item) => Some(partial_item.into_item(alloc)),
             None => None,
         }
     }
@@ -141,16 +141,16 @@ impl Reading {
         known: &Known,
     ) -> Result<Option<Item>, BookFault>
         requires lines { last_line lines.old < 2 ^ 32 }
-        requires coming { IfSome self.old.coming (FitsComing known.now) }
+        requires partial_item { IfSome self.old.partial_item (FitsPartial known.now) }
         requires notions { IsTrue (are_notions known.now.notions) }
-        requires begun { IsBegun known.now self.old.coming }
-        ensures reads { ReadsOn known.now self.old.coming lines.old.lines result
-            self.new.coming lines.new.lines }
+        requires begun { IsBegun known.now self.old.partial_item }
+        ensures reads { ReadsOn known.now self.old.partial_item lines.old.lines result
+            self.new.partial_item lines.new.lines }
         ensures last { OnOk result (last_line lines.new ≡ last_line lines.old) }
         ensures shorter { IfOk result
             (λ t. OnSome t (length lines.new.lines < length lines.old.lines)) }
-        ensures fits { OnOk result (IfSome self.new.coming (FitsComing known.now)) }
-        ensures begun { OnOk result (IsBegun known.now self.new.coming) }
+        ensures fits { OnOk result (IfSome self.new.partial_item (FitsPartial known.now)) }
+        ensures begun { OnOk result (IsBegun known.now self.new.partial_item) }
         ensures good { IfOk result (λ o. IfSome o (HasWellFormedView known.now)) }
     {
         while let Some(line) = lines.next() {
@@ -170,9 +170,9 @@ impl Reading {
     /// definition.
     pub fn end(&self, line: u64) -> Result<(), BookFault>
         requires { line < 2 ^ 32 }
-        ensures { result ≡ end_of line self.now.coming }
+        ensures { result ≡ end_of line self.now.partial_item }
     {
-        match &self.coming {
+        match &self.partial_item {
             None => Ok(()),
             Some(_) => Err(BookFault::Unended { line: line as u32 }),
         }

@@ -5,7 +5,7 @@ use Rattle.e_book.proofs.parsers.ItemsRead.{reads_grammar, items_good, items_fit
 use Rattle.e_book.proofs.book.next_item.Goals as goal
 
 pub read_with-read-requires-clause-begins : goal.read_with-read-requires-clause-begins
-read_with-read-requires-clause-begins c = ap (λ (r : Reading). r.coming) c.new-reading.ensures
+read_with-read-requires-clause-begins c = ap (λ (r : Reading). r.partial_item) c.new-reading.ensures
 
 pub returns-clause-read : goal.returns-clause-read
 returns-clause-read c =

@@ -1,9 +1,9 @@
 use Rattle.std.proofs.lemmas.Result.{err_from_is_err_and}
 use Rattle.e_book.proofs.canonical.OutWritten.{few_there, out_is, out_fails}
-use Rattle.e_book.proofs.coming.Coming.write.Goals as goal
+use Rattle.e_book.proofs.partial_item.PartialItem.write.Goals as goal
 
 pub put_items-requires-clause-names : goal.put_items-requires-clause-names
-put_items-requires-clause-names c = few_there c.args.self.now.parser c.names_there-names.result.now c.requires.coming.parser c.names_there-names.ensures
+put_items-requires-clause-names c = few_there c.args.self.now.parser c.names_there-names.result.now c.requires.partial_item.parser c.names_there-names.ensures
 
 pub returns-in_err-count-clause-value : goal.returns-in_err-count-clause-value
 returns-in_err-count-clause-value c =

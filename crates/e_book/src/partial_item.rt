@@ -7,9 +7,9 @@ ghost use Rattle.e_line.specs.Items.{listing_raw_line, raw_superpose_line, is_sh
 ghost use Rattle.e_names.specs.Scope.{right_count};
 ghost use Rattle.e_book.specs.Definitions.{has_notion_title, OfNotion, view_of};
 ghost use Rattle.e_book.specs.Steps.{line_may_come, FitsScope};
-ghost use Rattle.e_book.specs.inner.Machine.{FitsComing, is_ready, line_written_out, line_step};
+ghost use Rattle.e_book.specs.inner.Machine.{FitsPartial, is_ready, line_written_out, line_step};
 ghost use Rattle.e_book.specs.inner.Machine.{begins_theorem, begins_definition, goes_on};
-ghost use Rattle.e_book.specs.inner.Machine.{defines_on, lists, item_of_coming, notion_of_parser};
+ghost use Rattle.e_book.specs.inner.Machine.{defines_on, lists, item_of_partial, notion_of_parser};
 
 use crate::item::Item;
 use crate::limits::MAX_NOTIONS;
@@ -27,7 +27,7 @@ use std::mem;
 
 /// What has come of a theorem or of a definition.
 #[derive(Drop)]
-pub struct Coming {
+pub struct PartialItem {
     /// Whether it is a definition: what it means is what its parser shows.
     pub defines: bool,
     pub parser: TheoremParser,
@@ -86,17 +86,21 @@ struct Written {
     count: usize,
 }
 
-impl Coming {
+impl PartialItem {
     /// The words of the first line.
     #[tactic(auto, unfolding(crate::specs::inner::Machine::line_step, crate::specs::inner::Machine::begins))]
-    pub(crate) fn begin(alloc: Global, known: &Known, words: &[&[u8]]) -> Result<Coming, LineError>
+    pub(crate) fn begin(
+        alloc: Global,
+        known: &Known,
+        words: &[&[u8]],
+    ) -> Result<PartialItem, LineError>
         ensures value { Gives (λ c. c) result (line_step known.now None (texts words.now)) }
-        ensures fits { IfOk result (FitsComing known.now) }
+        ensures fits { IfOk result (FitsPartial known.now) }
     {
         let line = book_line_of(alloc, words)?;
         let begun = match &line {
-            BookLine::Plain(raw_line) => Coming::begin_theorem(alloc, known, raw_line),
-            BookLine::Define(title) => Coming::begin_definition(alloc, known, *title),
+            BookLine::Plain(raw_line) => PartialItem::begin_theorem(alloc, known, raw_line),
+            BookLine::Define(title) => PartialItem::begin_definition(alloc, known, *title),
             BookLine::Listed(_, _) => Err(LineError::Fault(FaultKind::Malformed)),
         };
         mem::drop(line);
@@ -104,15 +108,19 @@ impl Coming {
     }
 
     #[tactic(auto, unfolding(crate::specs::inner::Machine::begins_theorem))]
-    fn begin_theorem(alloc: Global, known: &Known, raw_line: &RawLine) -> Result<Coming, LineError>
+    fn begin_theorem(
+        alloc: Global,
+        known: &Known,
+        raw_line: &RawLine,
+    ) -> Result<PartialItem, LineError>
         ensures value { Gives (λ c. c) result (begins_theorem known.now raw_line.now) }
-        ensures fits { IfOk result (FitsComing known.now) }
+        ensures fits { IfOk result (FitsPartial known.now) }
     {
         if has_notion_title(known, raw_line) {
             return Err(LineError::Fault(FaultKind::NameTaken));
         }
         let parser = TheoremParser::begin(alloc, &known.theorems, raw_line)?;
-        Ok(Coming {
+        Ok(PartialItem {
             defines: false,
             parser,
             expanded: 0,
@@ -120,9 +128,13 @@ impl Coming {
     }
 
     #[tactic(auto, unfolding(crate::specs::inner::Machine::begins_definition))]
-    fn begin_definition(alloc: Global, known: &Known, title: Title) -> Result<Coming, LineError>
+    fn begin_definition(
+        alloc: Global,
+        known: &Known,
+        title: Title,
+    ) -> Result<PartialItem, LineError>
         ensures value { Gives (λ c. c) result (begins_definition known.now title) }
-        ensures fits { IfOk result (FitsComing known.now) }
+        ensures fits { IfOk result (FitsPartial known.now) }
     {
         if known.is_taken(title) {
             return Err(LineError::Fault(FaultKind::NameTaken));
@@ -130,7 +142,7 @@ impl Coming {
         if known.notions.len() >= MAX_NOTIONS {
             return Err(LineError::Fault(FaultKind::Limit(What::Notions)));
         }
-        Ok(Coming {
+        Ok(PartialItem {
             defines: true,
             parser: TheoremParser::with_title(alloc, title),
             expanded: 0,
@@ -145,11 +157,11 @@ impl Coming {
         known: &Known,
         words: &[&[u8]],
     ) -> Result<(), LineError>
-        requires coming { FitsComing known.now self.old }
+        requires partial_item { FitsPartial known.now self.old }
         requires notions { IsTrue (are_notions known.now.notions) }
         ensures value { Moves result self.new
             (line_step known.now (Some self.old) (texts words.now)) }
-        ensures fits { OnOk result (FitsComing known.now self.new) }
+        ensures fits { OnOk result (FitsPartial known.now self.new) }
     {
         let line = book_line_of(alloc, words)?;
         let taken = match &line {
@@ -164,9 +176,9 @@ impl Coming {
     /// A line without items.
     #[tactic(auto, unfolding(crate::specs::inner::Machine::goes_on))]
     fn go_on(&mut self, alloc: Global, known: &Known, raw_line: &RawLine) -> Result<(), LineError>
-        requires coming { FitsComing known.now self.old }
+        requires partial_item { FitsPartial known.now self.old }
         ensures value { Moves result self.new (goes_on known.now self.old raw_line.now) }
-        ensures fits { OnOk result (FitsComing known.now self.new) }
+        ensures fits { OnOk result (FitsPartial known.now self.new) }
     {
         if self.defines {
             return self.define(alloc, raw_line);
@@ -211,10 +223,10 @@ impl Coming {
         line: &Listing,
         items: &[RawItem],
     ) -> Result<(), LineError>
-        requires coming { FitsComing known.now self.old }
+        requires partial_item { FitsPartial known.now self.old }
         requires notions { IsTrue (are_notions known.now.notions) }
         ensures value { Moves result self.new (lists known.now self.old line.now items.now) }
-        ensures fits { OnOk result (FitsComing known.now self.new) }
+        ensures fits { OnOk result (FitsPartial known.now self.new) }
     {
         right_place(!self.defines || is_show(line))?;
         let Written { raw_line, count } = self.write(alloc, known, line, items)?;
@@ -234,7 +246,7 @@ impl Coming {
         line: &Listing,
         items: &[RawItem],
     ) -> Result<Written, LineError>
-        requires coming { FitsComing known.now self.now }
+        requires partial_item { FitsPartial known.now self.now }
         requires notions { IsTrue (are_notions known.now.notions) }
         ensures value { Gives (λ w. (w.raw_line, w.count)) result
             (line_written_out known.now.notions self.now.parser line.now items.now) }
@@ -250,9 +262,9 @@ impl Coming {
 
     /// What the lines make, where the last has come.
     pub(crate) fn into_item(self, alloc: Global) -> Item
-        ensures { view_of result ≡ item_of_coming self }
+        ensures { view_of result ≡ item_of_partial self }
     {
-        let Coming {
+        let PartialItem {
             defines,
             parser,
             ..
