@@ -3,7 +3,7 @@ pub mod BlockBegins
 pub mod BlockCounts
 pub mod BlockEnds
 pub mod BlockLines
-pub mod ComingTied
+pub mod PartialTied
 pub mod Copies
 pub mod GrammarRead
 pub mod Interrupted

@@ -1,6 +1,6 @@
 -- What is known of a parser while its lines come, and of what is read.
 pub mod Answered
-pub mod ComingInvariants
+pub mod PartialInvariants
 pub mod ItemsRead
 pub mod ParserInvariants
 pub mod KeptBlocks

@@ -45,10 +45,10 @@ pub data BookItem : Type 0 where
 
 -- What has been said of a theorem or of a definition whose lines come, and how many literals its
 -- items mean. A definition says what it means as a statement says what it shows.
-pub data Coming : Type 0 where
-  InTheorem : (so_far : Open) (expanded : ℕ) → Coming
-  InDefinition : (head : Head) (expanded : ℕ) → Coming
-  Defined : (notion : Titled) → Coming
+pub data PartialItem : Type 0 where
+  InTheorem : (so_far : Open) (expanded : ℕ) → PartialItem
+  InDefinition : (head : Head) (expanded : ℕ) → PartialItem
+  Defined : (notion : Titled) → PartialItem
 
 -- ---- the first line: theorems and definitions share their titles
 
@@ -56,7 +56,7 @@ abbrev pub has_notion_title : List Titled → RawLine → Bool
 has_notion_title notions (rawlines.Theorem t) = defines notions t
 has_notion_title notions f = false
 
-abbrev pub after_first_line : Known → BookLine → Result Coming FaultKind
+abbrev pub after_first_line : Known → BookLine → Result PartialItem FaultKind
 after_first_line known (Plain f) =
     if has_notion_title known.notions f then Err NameTaken else
     (begins known.theorems f >>= λ o. Ok (InTheorem o 0))
@@ -74,7 +74,7 @@ says_more (rawlines.Declare sort new) = true
 says_more (rawlines.Show raws) = true
 says_more f = false
 
-abbrev pub still_defined : ℕ → Open → Result Coming FaultKind
+abbrev pub still_defined : ℕ → Open → Result PartialItem FaultKind
 still_defined n (Stating h) = Ok (InDefinition h n)
 still_defined n o = Err Malformed
 
@@ -82,12 +82,12 @@ abbrev pub meant : Head → Titled
 meant h = titled h.title (record { declared = h.statement.declared; means = h.statement.shown })
 
 -- the last line of a definition, which means something
-abbrev pub ends_definition : Head → RawLine → Result Coming FaultKind
+abbrev pub ends_definition : Head → RawLine → Result PartialItem FaultKind
 ends_definition h rawlines.End =
     if is_empty h.statement.shown then Err Malformed else Ok (Defined (meant h))
 ends_definition h f = Err Malformed
 
-abbrev pub plain_line : Known → Coming → RawLine → Result Coming FaultKind
+abbrev pub plain_line : Known → PartialItem → RawLine → Result PartialItem FaultKind
 plain_line known (InTheorem o n) f =
     line_after known.theorems (Some o) f >>= λ m. Ok (InTheorem m n)
 plain_line known (InDefinition h n) f =
@@ -106,7 +106,7 @@ written_out known o line is =
     next known.theorems o (listing_raw_line line []) >>= λ there. items_in known.notions ns 0 is
     >>= λ p. Ok (listing_raw_line line (map (raw_of ns) p.0), p.1)
 
-abbrev pub counted : ℕ → Coming → Result Coming FaultKind
+abbrev pub counted : ℕ → PartialItem → Result PartialItem FaultKind
 counted n (InTheorem o m) =
     all_kept ((nat_le (m + n) most_expanded, limits.Expanded) ∷ [])
     >>= λ kept. Ok (InTheorem o (m + n))
@@ -116,7 +116,8 @@ counted n (InDefinition h m) =
 counted n (Defined t) = Err Malformed
 
 -- it is taken as it is written out; the last limit is that of the literals that items mean
-abbrev pub after_listed_line : Known → Coming → Listing → List RawItem → Result Coming FaultKind
+abbrev pub after_listed_line : Known → PartialItem → Listing → List RawItem
+    → Result PartialItem FaultKind
 after_listed_line known (InTheorem o n) line is =
     written_out known o line is >>= λ w. plain_line known (InTheorem o n) w.0 >>= λ c. counted w.1 c
 after_listed_line known (InDefinition h n) line is =
@@ -128,20 +129,21 @@ after_listed_line known (Defined t) line is = Err Malformed
 
 -- ---- lines
 
-abbrev pub next_line : Known → Coming → BookLine → Result Coming FaultKind
+abbrev pub next_line : Known → PartialItem → BookLine → Result PartialItem FaultKind
 next_line known c (Plain f) = plain_line known c f
 next_line known c (Define t) = Err Malformed
 next_line known c (Listed line is) = after_listed_line known c line is
 
-abbrev pub coming_after_words : Known → Option Coming → List (List ℕ) → Result Coming FaultKind
-coming_after_words known None words = book_line_of words >>= λ l. after_first_line known l
-coming_after_words known (Some c) words = book_line_of words >>= λ l. next_line known c l
+abbrev pub item_after_words : Known → Option PartialItem → List (List ℕ)
+    → Result PartialItem FaultKind
+item_after_words known None words = book_line_of words >>= λ l. after_first_line known l
+item_after_words known (Some c) words = book_line_of words >>= λ l. next_line known c l
 
-abbrev pub put_there : ℕ → Result Coming FaultKind → Result Coming BookFault
+abbrev pub put_there : ℕ → Result PartialItem FaultKind → Result PartialItem BookFault
 put_there line read = put_at line read
 
 -- a theorem or a definition whose last line has come
-abbrev pub whole : Coming → Option BookItem
+abbrev pub whole : PartialItem → Option BookItem
 whole (InTheorem o n) = option_map OfTheorem (theorem_ended o)
 whole (InDefinition h n) = None
 whole (Defined t) = Some (OfNotion t)
@@ -153,18 +155,18 @@ abbrev pub whole_or : Option BookItem → Rest → Answer → Answer
 whole_or None lines more = more
 whole_or (Some i) lines more = Ok (Some (i, lines))
 
-abbrev pub at_end : ℕ → Option Coming → Answer
+abbrev pub at_end : ℕ → Option PartialItem → Answer
 at_end last None = Ok None
 at_end last (Some c) = Err (faults.Unended last)
 
 -- the next theorem or definition and the lines after it, or the first fault; last is the number
 -- after the last line
-abbrev pub item_from : Known → ℕ → Option Coming → Rest → Answer
+abbrev pub item_from : Known → ℕ → Option PartialItem → Rest → Answer
 item_from known last c [] = at_end last c
 item_from known last c (Err f ∷ lines) = Err (line_fault f)
 item_from known last c (Ok line ∷ lines) =
     if is_skipped (tokens_of line.bytes) then item_from known last c lines else
-    (put_at line.number (coming_after_words known c (tokens_of line.bytes))
+    (put_at line.number (item_after_words known c (tokens_of line.bytes))
     >>= λ n. whole_or (whole n) lines (item_from known last (Some n) lines))
 
 -- ---- what is answered

@@ -9,39 +9,40 @@ use Rattle.e_line.specs.declared.fault.BookFault.TheVariants as faults
 use Rattle.e_line.specs.Faults.{line_fault}
 use Rattle.e_names.specs.declared.known.Known.{Known}
 use Rattle.e_book.specs.Grammar.{is_skipped, Rest}
-use Rattle.e_book.specs.Definitions.{Coming, whole, put_there, coming_after_words}
+use Rattle.e_book.specs.Definitions.{PartialItem, whole, put_there, item_after_words}
 
 -- these lines are taken one after another, from this on, and leave that
-abbrev pub Leaves : Known → Option Coming → Rest → Option Coming → Type 0
+abbrev pub Leaves : Known → Option PartialItem → Rest → Option PartialItem → Type 0
 Leaves known o [] left = o ≡ left
 Leaves known o (Err f ∷ lines) left = ⊥
 Leaves known o (Ok line ∷ lines) left =
     (is_skipped (tokens_of line.bytes) ≡ true → Leaves known o lines left)
     × (is_skipped (tokens_of line.bytes) ≡ false
-    → (n : Coming) × (coming_after_words known o (tokens_of line.bytes) ≡ Ok n) × (whole n ≡ None)
+    → (n : PartialItem)
+    × (item_after_words known o (tokens_of line.bytes) ≡ Ok n) × (whole n ≡ None)
     × Leaves known (Some n) lines left)
 
 -- a line has this fault here: its bytes, or its form, its names or a limit
-abbrev pub IsFaulty : Known → Option Coming → Result LineView LineFault → BookFault → Type 0
+abbrev pub IsFaulty : Known → Option PartialItem → Result LineView LineFault → BookFault → Type 0
 IsFaulty known o (Err f) fault = line_fault f ≡ fault
 IsFaulty known o (Ok line) fault =
     (is_skipped (tokens_of line.bytes) ≡ false)
-    × (put_there line.number (coming_after_words known o (tokens_of line.bytes)) ≡ Err fault)
+    × (put_there line.number (item_after_words known o (tokens_of line.bytes)) ≡ Err fault)
 
 -- the lines begin with a front that is taken, and the line after it has this fault
-pub record BreaksAt (known : Known) (o : Option Coming) (lines : Rest)
+pub record BreaksAt (known : Known) (o : Option PartialItem) (lines : Rest)
     (fault : BookFault) : Type 0 where
   pub front : Rest
   pub line : Result LineView LineFault
   pub rest : Rest
   pub all : lines ≡ front ++ line ∷ rest
-  pub left : Option Coming
+  pub left : Option PartialItem
   pub taken : Leaves known o front left
   pub faulty : IsFaulty known left line fault
 
 -- a fault is the first: all lines before it are taken, or all lines are, and they end inside a
 -- theorem or a definition
-abbrev pub IsFirst : Known → ℕ → Option Coming → Rest → BookFault → Type 0
+abbrev pub IsFirst : Known → ℕ → Option PartialItem → Rest → BookFault → Type 0
 IsFirst known last o lines fault =
     BreaksAt known o lines fault
-    ⊎ ((n : Coming) × Leaves known o lines (Some n) × (faults.Unended last ≡ fault))
+    ⊎ ((n : PartialItem) × Leaves known o lines (Some n) × (faults.Unended last ≡ fault))

@@ -25,7 +25,7 @@ fn read_with(
     lines: &mut Lines,
     known: &Known,
 ) -> Result<Option<Item>, BookFault>
-    requires begins { reading.old.coming ≡ None }
+    requires begins { reading.old.partial_item ≡ None }
     requires notions { IsTrue (are_notions known.now.notions) }
     requires lines { last_line lines.old < 2 ^ 32 }
     ensures read { BookReads result lines.new
@@ -43,27 +43,11 @@ fn read_with(
     }
 }
 
-/// Reads line by line, up to the end of a theorem or a definition.
-fn read_item(alloc: Global, lines: &mut Lines, known: &Known) -> Result<Option<Item>, BookFault>
-    requires lines { last_line lines.old < 2 ^ 32 }
-    requires notions { IsTrue (are_notions known.now.notions) }
-    ensures read { BookReads result lines.new
-        (machine.item_from known.now (last_line lines.old) None lines.old.lines) }
-    ensures last { OnOk result (last_line lines.new ≡ last_line lines.old) }
-    ensures shorter { IfOk result
-        (λ t. OnSome t (length lines.new.lines < length lines.old.lines)) }
-{
-    let mut reading = Reading::new();
-    let read = read_with(alloc, &mut reading, lines, known);
-    mem::drop(reading);
-    read
-}
-
 /// The next theorem or definition, or nothing where only skipped lines are left.
 ///
 /// It takes the lines up to its `end`. A fault is the first of the book from here on, and after it
-/// the lines are not used again. The lines are those of a text with at most 1,600 bytes a line and
-/// 4,194,304 bytes in all. The known theorems are statements and the known notions mean something
+/// the lines are not used again. The lines are those of a text with at most `LONGEST_LINE` bytes a
+/// line and `MOST_BYTES` bytes in all. The known theorems are statements and the known notions mean something
 /// of their declared objects, as each is that is read.
 pub fn next_item(alloc: Global, lines: &mut Lines, known: &Known) -> Result<Option<Item>, BookFault>
     requires lines { last_line lines.old < 2 ^ 32 }
@@ -77,5 +61,8 @@ pub fn next_item(alloc: Global, lines: &mut Lines, known: &Known) -> Result<Opti
     ensures good { IfOk result (λ o. IfSome o (HasWellFormedView known.now)) }
     ensures fitting { IfOk result (λ o. IfSome o (IsFittingItem known.now)) }
 {
-    read_item(alloc, lines, known)
+    let mut reading = Reading::new();
+    let read = read_with(alloc, &mut reading, lines, known);
+    mem::drop(reading);
+    read
 }

@@ -112,7 +112,7 @@ impl TheoremParser {
     }
 
     /// An inner block begins, with these names in scope and this many facts.
-    fn interrupt(
+    fn begin_block(
         &mut self,
         alloc: Global,
         kind: BlockKind,
@@ -142,7 +142,7 @@ impl TheoremParser {
     }
 
     /// An inner block begins, with the names that are in scope and this many facts.
-    fn interrupt_here(
+    fn begin_block_here(
         &mut self,
         alloc: Global,
         kind: BlockKind,
@@ -156,7 +156,7 @@ impl TheoremParser {
         ensures fits { OnOk result (FitsScope self.new) }
     {
         match self.in_scope.copy(alloc) {
-            Ok(inside) => self.interrupt(alloc, kind, inside, given),
+            Ok(inside) => self.begin_block(alloc, kind, inside, given),
             Err(error) => {
                 mem::drop(kind);
                 Err(error)
@@ -173,7 +173,7 @@ impl TheoremParser {
         let mut shown = Items::empty(alloc);
         match self.put_claimed(alloc, raw, &mut shown) {
             Ok(()) => {
-                self.interrupt_here(alloc, BlockKind::Claim { shown }, 0)?;
+                self.begin_block_here(alloc, BlockKind::Claim { shown }, 0)?;
                 Ok(())
             }
             Err(error) => {
@@ -271,7 +271,7 @@ impl TheoremParser {
                 return Err(error);
             }
         };
-        self.interrupt(alloc, kind, after, given.len())?;
+        self.begin_block(alloc, kind, after, given.len())?;
         self.terms = terms;
         Ok(())
     }
@@ -286,7 +286,7 @@ impl TheoremParser {
         let lit = lit_in(alloc, &self.in_scope, raw)?;
         match self.terms_inside(slice::from_ref(&lit), slice::from_ref(raw)) {
             Ok(terms) => {
-                self.interrupt_here(alloc, BlockKind::First { lit }, 1)?;
+                self.begin_block_here(alloc, BlockKind::First { lit }, 1)?;
                 self.terms = terms;
                 Ok(())
             }

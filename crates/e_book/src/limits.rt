@@ -10,6 +10,12 @@ use e_deriv::Names;
 use e_line::{FaultKind, LineError, RawLit, What, count_of, within};
 use e_literal::{Atom, Lit, Sort};
 
+/// How many bytes a book may have.
+pub const MOST_BYTES: u64 = 4_194_304;
+
+/// How many bytes a line of a book may have, without its end.
+pub const LONGEST_LINE: usize = 1_600;
+
 /// How many theorems a book may have.
 pub const MAX_THEOREMS: usize = 500;
 

@@ -71,7 +71,7 @@ pub struct TheoremParser {
 }
 
 /// Whether a line may come in this section.
-pub(crate) fn allowed(section: Section, raw_line: &RawLine) -> bool
+pub(crate) fn line_may_come(section: Section, raw_line: &RawLine) -> bool
     ensures { result ≡ line_may_come section raw_line.now }
 {
     match raw_line {
@@ -142,7 +142,7 @@ pub fn declare(names: &mut Names, sort: Sort, new: &[Name]) -> Result<(), LineEr
 }
 
 /// A sort, once for each of this many objects.
-fn repeated(alloc: Global, sort: Sort, count: usize) -> Result<Items<Sort>, AllocError>
+fn copies_of_sort(alloc: Global, sort: Sort, count: usize) -> Result<Items<Sort>, AllocError>
     ensures { IfOk result (λ s. s ≡ replicate count sort) }
 {
     Ok(Items::new(Vec::from_elem(alloc, sort, count)?))
@@ -197,11 +197,11 @@ impl TheoremParser {
         if known.len() >= MAX_THEOREMS {
             return Err(LineError::Fault(FaultKind::Limit(What::Theorems)));
         }
-        Ok(TheoremParser::begun(alloc, *title))
+        Ok(TheoremParser::with_title(alloc, *title))
     }
 
     /// What has come where only the title has.
-    pub(crate) fn begun(alloc: Global, title: Title) -> TheoremParser
+    pub(crate) fn with_title(alloc: Global, title: Title) -> TheoremParser
         ensures value { result ≡ with_title title }
         ensures fits { FitsScope result }
     {
@@ -235,7 +235,7 @@ impl TheoremParser {
 
     /// Takes the next line: its form at this place, its names from left to right, then the limits.
     /// After a fault it is not used again.
-    #[tactic(auto, unfolding(crate::specs::Steps::step))]
+    #[tactic(auto, unfolding(crate::specs::Steps::step, crate::specs::Steps::after_line))]
     pub fn take(
         &mut self,
         alloc: Global,
@@ -247,24 +247,9 @@ impl TheoremParser {
         ensures value { Moves result self.new (step known.now self.old raw_line.now) }
         ensures fits { OnOk result (FitsScope self.new) }
     {
-        if !allowed(self.section, raw_line) {
+        if !line_may_come(self.section, raw_line) {
             return Err(LineError::Fault(FaultKind::Malformed));
         }
-        self.stepped(alloc, known, raw_line)
-    }
-
-    #[tactic(auto, unfolding(crate::specs::Steps::after_line))]
-    fn stepped(
-        &mut self,
-        alloc: Global,
-        known: &Theorems,
-        raw_line: &RawLine,
-    ) -> Result<(), LineError>
-        requires parser { FitsScope self.old }
-        requires known { length known.now ≤ most_theorems }
-        ensures value { Moves result self.new (after_line known.now self.old raw_line.now) }
-        ensures fits { OnOk result (FitsScope self.new) }
-    {
         match raw_line {
             RawLine::Theorem(_) => Err(LineError::Fault(FaultKind::Malformed)),
             RawLine::Declare(sort, names) => self.on_declare(alloc, *sort, names.items()),
@@ -304,7 +289,7 @@ impl TheoremParser {
         ensures fits { OnOk result (FitsScope self.new) }
     {
         declare(&mut self.names, sort, names)?;
-        let sorts = repeated(alloc, sort, names.len())?;
+        let sorts = copies_of_sort(alloc, sort, names.len())?;
         self.declared.append(sorts.items())?;
         Ok(())
     }
@@ -316,7 +301,7 @@ impl TheoremParser {
         ensures fits { OnOk result (FitsScope self.new) }
     {
         declare(&mut self.names, sort, names)?;
-        let sorts = repeated(alloc, sort, names.len())?;
+        let sorts = copies_of_sort(alloc, sort, names.len())?;
         self.made.append(sorts.items())?;
         self.section = Section::Making;
         Ok(())

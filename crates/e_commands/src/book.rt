@@ -54,7 +54,7 @@ impl Book {
         sink: &mut K,
     ) -> Result<Option<BookResult>, RunError>
         requires book { IsBook self.old }
-        requires begins { self.old.reading.coming ≡ None }
+        requires begins { self.old.reading.partial_item ≡ None }
         requires spelled { HasSpelling self.old.known.theorems (entry_of theorem) }
         requires title { defines self.old.known.notions theorem.title ≡ false }
         ensures handles { (lines rest after : Rest) (before : Option (List ℕ))
@@ -63,7 +63,7 @@ impl Book {
             ≡ Ok (Some (OfTheorem (entry_of theorem), after))
             → Handles lines before after result self.new (K.written sink.new) }
         ensures book { IfOk result (λ e. IfNone e (IsBook self.new)) }
-        ensures begins { IfOk result (λ e. IfNone e (self.new.reading.coming ≡ None)) }
+        ensures begins { IfOk result (λ e. IfNone e (self.new.reading.partial_item ≡ None)) }
         ensures rises { K.faults sink.old ≤ K.faults sink.new }
         ensures cause { IsErrOf result RunError.WriteFault
             → Rose (K.faults sink.old) (K.faults sink.new) }
@@ -97,7 +97,7 @@ impl Book {
         sink: &mut K,
     ) -> Result<Option<BookResult>, RunError>
         requires book { IsBook self.old }
-        requires begins { self.old.reading.coming ≡ None }
+        requires begins { self.old.reading.partial_item ≡ None }
         requires good { HasWellFormedView self.old.known item }
         ensures handles { (lines rest after : Rest) (before : Option (List ℕ))
             → History lines before self.old.known rest (K.written sink.old) self.old.steps
@@ -105,7 +105,7 @@ impl Book {
             ≡ Ok (Some (view_of item, after))
             → Handles lines before after result self.new (K.written sink.new) }
         ensures book { IfOk result (λ e. IfNone e (IsBook self.new)) }
-        ensures begins { IfOk result (λ e. IfNone e (self.new.reading.coming ≡ None)) }
+        ensures begins { IfOk result (λ e. IfNone e (self.new.reading.partial_item ≡ None)) }
         ensures rises { K.faults sink.old ≤ K.faults sink.new }
         ensures cause { IsErrOf result RunError.WriteFault
             → Rose (K.faults sink.old) (K.faults sink.new) }
@@ -156,7 +156,8 @@ impl Book {
     /// How the book ends where no lines come any more, and the next would have this number.
     pub fn end(&self, line: u64) -> BookResult
         requires { line < 2 ^ 32 }
-        ensures { result ≡ result_at line self.now.reading.coming self.now.theorems self.now.steps }
+        ensures { result
+            ≡ result_at line self.now.reading.partial_item self.now.theorems self.now.steps }
     {
         match self.reading.end(line) {
             Ok(()) => BookResult::All {

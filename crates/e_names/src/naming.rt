@@ -12,7 +12,7 @@ use std::mem;
 
 /// What is written for an object without a name.
 #[tactic(auto, unfolding(e_text::specs::Names::reserved_words))]
-fn nameless() -> Name
+fn name_of_none() -> Name
     ensures { result ≡ nameless }
 {
     Name::read(b"nameless").unwrap()
@@ -24,7 +24,7 @@ pub fn name_at(names: &[Name], i: usize) -> Name
 {
     match names.get(i) {
         Some(name) => *name,
-        None => nameless(),
+        None => name_of_none(),
     }
 }
 

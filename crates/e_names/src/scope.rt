@@ -70,7 +70,7 @@ fn object_of(names: &Names, name: Name) -> Option<Obj>
     object_in(names, Sort::Circle, name)
 }
 
-fn used(names: &Names, name: Name) -> Result<Obj, LineError>
+fn object_named(names: &Names, name: Name) -> Result<Obj, LineError>
     requires { FewNames names.now }
     ensures { Gives (λ o. o) result (used names.now name) }
 {
@@ -86,7 +86,7 @@ pub(crate) fn number_of(names: &Names, sort: Sort, name: Name) -> Result<u16, Li
     requires { FewNames names.now }
     ensures { Gives (λ n. n) result (number_of_name names.now sort name) }
 {
-    let object = used(names, name)?;
+    let object = object_named(names, name)?;
     if is_same_sort(object.sort, sort) {
         Ok(object.num)
     } else {
@@ -122,7 +122,7 @@ fn meets_from(names: &Names, first: Obj, second: Name) -> Result<Atom, LineError
     match first.sort {
         Sort::Point => Err(LineError::Fault(FaultKind::WrongSort)),
         Sort::Line => {
-            let object = used(names, second)?;
+            let object = object_named(names, second)?;
             line_meets(first.num, object)
         }
         Sort::Circle => {
@@ -150,7 +150,7 @@ fn atom_in(alloc: Global, names: &Names, atom: &RawAtom) -> Result<Atom, LineErr
     match atom {
         RawAtom::On(x, y) => {
             let point = number_of(names, Sort::Point, *x)?;
-            let object = used(names, *y)?;
+            let object = object_named(names, *y)?;
             on_object(point, object)
         }
         RawAtom::Inside(x, y) => {
@@ -176,11 +176,11 @@ fn atom_in(alloc: Global, names: &Names, atom: &RawAtom) -> Result<Atom, LineErr
             Ok(Atom::Same(first, second, line))
         }
         RawAtom::Meets(x, y) => {
-            let first = used(names, *x)?;
+            let first = object_named(names, *x)?;
             meets_from(names, first, *y)
         }
         RawAtom::Equal(x, y) => {
-            let first = used(names, *x)?;
+            let first = object_named(names, *x)?;
             let second = number_of(names, first.sort, *y)?;
             Ok(equal_at(first.sort, first.num, second))
         }
@@ -357,7 +357,7 @@ fn arguments_in(
 {
     let mut found = Items::empty(alloc);
     for name in of {
-        let object = used(names, *name)?;
+        let object = object_named(names, *name)?;
         found.push(object)?;
         if !is_taken_by(shapes, found.items()) {
             return Err(LineError::Fault(FaultKind::WrongSort));
@@ -379,7 +379,7 @@ fn objects_used(alloc: Global, names: &Names, of: &[Name]) -> Result<Items<Obj>,
 {
     let mut found = Items::empty(alloc);
     for name in of {
-        let object = used(names, *name)?;
+        let object = object_named(names, *name)?;
         found.push(object)?;
     }
     Ok(found)

@@ -13,6 +13,7 @@ mod steps;
 mod stops;
 mod writer;
 
+pub use e_clause::Version;
 pub use laws::lines_are_the_theorem;
 pub use stops::spell_stop;
 pub use writer::spell;

@@ -10,8 +10,8 @@ ghost use Rattle.e_spell.specs.inner.Parts.{names_after_step};
 use crate::declarations::Counts;
 use e_construct::Superpose;
 use e_deriv::{Names, Step};
-use e_literal::{Items, Sort};
-use e_names::Theorems;
+use e_literal::Items;
+use e_names::{Theorems, put_names};
 use e_text::Name;
 use std::alloc::{AllocError, Global};
 use std::mem;
@@ -34,16 +34,6 @@ pub(crate) fn first_names(alloc: Global, names: &Names, counts: Counts) -> Resul
     })
 }
 
-/// Puts each name last among those of its sort.
-fn name_all(names: &mut Names, sorts: &[Sort], new: &[Name]) -> Result<(), AllocError>
-    ensures { OnOk result (names.new ≡ named names.old sorts.now new.now) }
-{
-    for (sort, name) in sorts.iter().zip(new) {
-        names.push(*sort, *name)?;
-    }
-    Ok(())
-}
-
 /// Equal names, and those of the copied points.
 pub(crate) fn with_copies(
     alloc: Global,
@@ -54,7 +44,7 @@ pub(crate) fn with_copies(
     ensures { IfOk result (λ n. n ≡ named names.now sorts_copied copies.now) }
 {
     let mut inside = names.copy(alloc)?;
-    match name_all(&mut inside, superposition.made(), copies) {
+    match put_names(&mut inside, superposition.made(), copies) {
         Ok(()) => Ok(inside),
         Err(error) => {
             mem::drop(inside);
@@ -74,7 +64,7 @@ fn name_shown(
     ensures { OnOk result (names.new ≡ named names.old (theorem_of known.now place).made new.now) }
 {
     if place < known.len() {
-        name_all(names, known.statement(place).made.items(), new)
+        put_names(names, known.statement(place).made.items(), new)
     } else {
         Ok(())
     }
@@ -92,7 +82,7 @@ pub(crate) fn name_new(known: &Theorems, names: &mut Names, step: &Step) -> Resu
             construction,
             names: new,
             ..
-        } => name_all(names, construction.made(), new.items()),
+        } => put_names(names, construction.made(), new.items()),
         Step::Apply {
             theorem,
             names: new,

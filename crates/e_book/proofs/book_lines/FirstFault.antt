@@ -10,7 +10,7 @@ use Rattle.e_line.specs.declared.fault.BookFault.TheVariants as faults
 use Rattle.e_line.specs.Reading.{◌>>=◌}
 use Rattle.e_names.specs.declared.known.Known.{Known}
 use Rattle.e_book.specs.Grammar.{is_skipped, Rest}
-use Rattle.e_book.specs.Definitions.{BookItem, Coming, Answer, whole, whole_or, at_end, put_there, coming_after_words, item_from}
+use Rattle.e_book.specs.Definitions.{BookItem, PartialItem, Answer, whole, whole_or, at_end, put_there, item_after_words, item_from}
 use Rattle.e_book.specs.FirstFault.{Leaves, IsFaulty, BreaksAt, IsFirst}
 
 abbrev wrong : BookFault → Answer
@@ -26,55 +26,55 @@ by_case true x y z P e t f = t refl e
 by_case false x y z P e t f = f refl e
 
 -- what follows a line
-abbrev after : Known → ℕ → Rest → Coming → Answer
+abbrev after : Known → ℕ → Rest → PartialItem → Answer
 after known last lines n = whole_or (whole n) lines (item_from known last (Some n) lines)
 
-pub front_fault : (known : Known) (o left : Option Coming) (front : Rest) (line : Result LineView LineFault) (fault : BookFault) → Leaves known o front left → IsFaulty known left line fault
+pub front_fault : (known : Known) (o left : Option PartialItem) (front : Rest) (line : Result LineView LineFault) (fault : BookFault) → Leaves known o front left → IsFaulty known left line fault
     → (last : ℕ) (other : Rest) → item_from known last o (front ++ line ∷ other) ≡ wrong fault
 front_fault known o left [] (Err f) fault e q last other = ap (λ (x : BookFault). wrong x) q
 front_fault known o left [] (Ok l) fault e q last other =
-    let p : IsFaulty known o (Ok l) fault = subst (λ (s : Option Coming). IsFaulty known s (Ok l) fault) (sym e) q in
+    let p : IsFaulty known o (Ok l) fault = subst (λ (s : Option PartialItem). IsFaulty known s (Ok l) fault) (sym e) q in
     rw (p.0, p.1) refl
 front_fault known o left (Err f ∷ ls) line fault h q last other = absurd h
 front_fault known o left (Ok l ∷ ls) line fault h q last other =
     in_case (is_skipped (tokens_of l.bytes)) (item_from known last o (ls ++ line ∷ other))
-    (put_there l.number (coming_after_words known o (tokens_of l.bytes)) >>= λ n. after known last (ls ++ line ∷ other) n) (wrong fault)
+    (put_there l.number (item_after_words known o (tokens_of l.bytes)) >>= λ n. after known last (ls ++ line ∷ other) n) (wrong fault)
     (λ t. front_fault known o left ls line fault (h.0 t) q last other)
     (λ f. let s = h.1 f in rw (s.1, s.2) (front_fault known (Some s.0) left ls line fault s.3 q last other))
 
 -- one more line before the front
-longer : (known : Known) (last : ℕ) (o m : Option Coming) (l : LineView) (ls : Rest) (fault : BookFault)
-    → ((front : Rest) (left : Option Coming) → Leaves known m front left → Leaves known o (Ok l ∷ front) left) → IsFirst known last m ls fault → IsFirst known last o (Ok l ∷ ls) fault
+longer : (known : Known) (last : ℕ) (o m : Option PartialItem) (l : LineView) (ls : Rest) (fault : BookFault)
+    → ((front : Rest) (left : Option PartialItem) → Leaves known m front left → Leaves known o (Ok l ∷ front) left) → IsFirst known last m ls fault → IsFirst known last o (Ok l ∷ ls) fault
 longer known last o m l ls fault more (inl b) =
     inl (record { front = Ok l ∷ b.front; line = b.line; rest = b.rest; all = ap (λ (x : Rest). Ok l ∷ x) b.all; left = b.left; taken = more b.front b.left b.taken; faulty = b.faulty })
 longer known last o m l ls fault more (inr e) = inr (e.0, more ls (Some e.0) e.1, e.2)
 
-unended : (last : ℕ) (o : Option Coming) (fault : BookFault) → at_end last o ≡ wrong fault → (n : Coming) × (o ≡ Some n) × (faults.Unended last ≡ fault)
+unended : (last : ℕ) (o : Option PartialItem) (fault : BookFault) → at_end last o ≡ wrong fault → (n : PartialItem) × (o ≡ Some n) × (faults.Unended last ≡ fault)
 unended last None fault e = absurd cc
 unended last (Some n) fault e = (n, refl, cc)
 
-abbrev read_coming : Coming → Result Coming FaultKind
-read_coming n = Ok n
+abbrev read_partial : PartialItem → Result PartialItem FaultKind
+read_partial n = Ok n
 
-unfinished : (known : Known) (last : ℕ) (n : Coming) (ls : Rest) (fault : BookFault) (t : Option BookItem) → whole n ≡ t → whole_or t ls (item_from known last (Some n) ls) ≡ wrong fault
+unfinished : (known : Known) (last : ℕ) (n : PartialItem) (ls : Rest) (fault : BookFault) (t : Option BookItem) → whole n ≡ t → whole_or t ls (item_from known last (Some n) ls) ≡ wrong fault
     → (whole n ≡ None) × (item_from known last (Some n) ls ≡ wrong fault)
 unfinished known last n ls fault None is e = (is, e)
 unfinished known last n ls fault (Some t) is e = absurd cc
 
 -- what a line made of it, where it ends in a fault
-went : (known : Known) (last : ℕ) (l : LineView) (ls : Rest) (r : Result Coming FaultKind) (fault : BookFault) → (put_there l.number r >>= λ n. after known last ls n) ≡ wrong fault
-    → (put_there l.number r ≡ Err fault) ⊎ ((n : Coming) × (r ≡ read_coming n) × (whole n ≡ None) × (item_from known last (Some n) ls ≡ wrong fault))
+went : (known : Known) (last : ℕ) (l : LineView) (ls : Rest) (r : Result PartialItem FaultKind) (fault : BookFault) → (put_there l.number r >>= λ n. after known last ls n) ≡ wrong fault
+    → (put_there l.number r ≡ Err fault) ⊎ ((n : PartialItem) × (r ≡ read_partial n) × (whole n ≡ None) × (item_from known last (Some n) ls ≡ wrong fault))
 went known last l ls (Err k) fault e = inl cc
 went known last l ls (Ok n) fault e = let u = unfinished known last n ls fault (whole n) refl e in inr (n, refl, u.0, u.1)
 
-pub first_fault : (known : Known) (last : ℕ) (o : Option Coming) (lines : Rest) (fault : BookFault) → item_from known last o lines ≡ wrong fault → IsFirst known last o lines fault
+pub first_fault : (known : Known) (last : ℕ) (o : Option PartialItem) (lines : Rest) (fault : BookFault) → item_from known last o lines ≡ wrong fault → IsFirst known last o lines fault
 first_fault known last o [] fault e = let u = unended last o fault e in inr (u.0, u.1, u.2)
 first_fault known last o (Err f ∷ ls) fault e = inl (record { front = []; line = Err f; rest = ls; all = refl; left = o; taken = refl; faulty = cc })
 first_fault known last o (Ok l ∷ ls) fault e =
     by_case (is_skipped (tokens_of l.bytes)) (item_from known last o ls)
-    (put_there l.number (coming_after_words known o (tokens_of l.bytes)) >>= λ n. after known last ls n) (wrong fault) (IsFirst known last o (Ok l ∷ ls) fault) e
+    (put_there l.number (item_after_words known o (tokens_of l.bytes)) >>= λ n. after known last ls n) (wrong fault) (IsFirst known last o (Ok l ∷ ls) fault) e
     (λ t h. longer known last o o l ls fault (λ front left k. ((λ u. k), (λ f. absurd cc))) (first_fault known last o ls fault h))
-    (λ f h. elim (went known last l ls (coming_after_words known o (tokens_of l.bytes)) fault h) [
+    (λ f h. elim (went known last l ls (item_after_words known o (tokens_of l.bytes)) fault h) [
       | inl x ↦ inl (record { front = []; line = Ok l; rest = ls; all = refl; left = o; taken = refl; faulty = (f, x) })
       | inr x ↦ longer known last o (Some x.0) l ls fault (λ front left k. ((λ t. absurd cc), (λ g. (x.0, x.1, x.2, k)))) (first_fault known last (Some x.0) ls fault x.3)
     ])

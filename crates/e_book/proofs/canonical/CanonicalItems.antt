@@ -20,7 +20,7 @@ use Rattle.e_line.specs.declared.items.BookLine.TheVariants.{Plain}
 use Rattle.e_names.specs.declared.known.Known.{Known}
 use Rattle.e_book.specs.declared.parser.Section.TheVariants.{Done}
 use Rattle.e_book.specs.declared.parser.TheoremParser.{TheoremParser}
-use Rattle.e_book.specs.declared.coming.Coming.{Coming}
+use Rattle.e_book.specs.declared.partial_item.PartialItem.{PartialItem}
 use Rattle.e_literal.specs.declared.object.Sort.TheVariants.{Point, Line, Circle}
 use Rattle.e_line.specs.Limits.{most_theorems}
 use Rattle.e_names.specs.TitledStatements.{TitledStatement, is_known}
@@ -43,7 +43,7 @@ use Rattle.e_book.specs.Grammar.{Rest}
 use Rattle.e_book.specs.Definitions.{BookItem, OfTheorem, Answer}
 use Rattle.e_book.specs.Definitions as grammar
 use Rattle.e_book.specs.inner.Machine as machine
-use Rattle.e_book.specs.inner.Machine.{coming, begins_theorem, goes_on, line_step, item_from}
+use Rattle.e_book.specs.inner.Machine.{partial_item, begins_theorem, goes_on, line_step, item_from}
 use Rattle.e_line.proofs.read_again.SumsAgain.{is_mono_word, mono_word_differs, Begins, sum_begins, name_word}
 use Rattle.e_line.proofs.read_again.LitsAgain.{AtomNamed, LitNamed, LitsNamed, split_again}
 use Rattle.e_line.proofs.read_again.SuperposesAgain.{lits_after}
@@ -55,7 +55,7 @@ use Rattle.e_book.proofs.canonical.Declared.{Runs, runs_append}
 use Rattle.e_book.proofs.canonical.LinesRead.{Inside, proving}
 use Rattle.e_book.proofs.canonical.ScriptParts.{same_script}
 use Rattle.e_book.proofs.canonical.CanonicalRead.{started, begins, stating_forms, run_statement, run_proof_lines, shut_parser, closed_last, step_end}
-use Rattle.e_book.proofs.grammar.ComingTied.{items_read_alike}
+use Rattle.e_book.proofs.grammar.PartialTied.{items_read_alike}
 
 -- ---- literals that are written out
 
@@ -130,8 +130,8 @@ plain_again f h = rw (form_again f h) refl
 -- ---- line after line
 
 -- a theorem that comes without items
-abbrev theorem : TheoremParser → Coming
-theorem d = coming false d
+abbrev theorem : TheoremParser → PartialItem
+theorem d = partial_item false d
 
 next_taken : (known : Known) (d e : TheoremParser) (f : RawLine) → GoodForm f → step known.theorems d (as_read f) ≡ Ok e → line_step known (Some (theorem d)) (raw_line_words f) ≡ Ok (theorem e)
 unfolding line_step goes_on machine.step

@@ -16,8 +16,8 @@ use Rattle.e_book.specs.Grammar.{Rest}
 use Rattle.e_book.specs.Definitions.{OfTheorem, OfNotion, Answer, view_of, BookReads, IsWellFormedItem, HasWellFormedView, IsFittingItem, item_from}
 use Rattle.e_book.specs.inner.Machine as machine
 use Rattle.e_book.proofs.fit_theorems.Fitting.{fitting, small_statement}
-use Rattle.e_book.proofs.parsers.ComingInvariants.{read_is_well_formed}
-use Rattle.e_book.proofs.grammar.ComingTied.{items_read_alike}
+use Rattle.e_book.proofs.parsers.PartialInvariants.{read_is_well_formed}
+use Rattle.e_book.proofs.grammar.PartialTied.{items_read_alike}
 
 pub reads_grammar : (known : Known) (last : ℕ) (lines : Rest) (result : Result (Option Item) BookFault) (new : Ahead) → are_notions known.notions ≡ true → BookReads result new (machine.item_from known last None lines)
     → BookReads result new (item_from known last None lines)

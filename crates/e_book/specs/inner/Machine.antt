@@ -21,7 +21,7 @@ use Rattle.e_names.specs.declared.known.Known.{Known}
 use Rattle.e_book.specs.declared.parser.Section.{Section}
 use Rattle.e_book.specs.declared.parser.Section.TheVariants.{Showing, Proving, Done}
 use Rattle.e_book.specs.declared.parser.TheoremParser.{TheoremParser}
-use Rattle.e_book.specs.declared.coming.Coming.{Coming}
+use Rattle.e_book.specs.declared.partial_item.PartialItem.{PartialItem}
 use Rattle.e_line.specs.Reading.{◌>>=◌}
 use Rattle.e_line.specs.Faults.{line_fault}
 use Rattle.e_names.specs.Taken.{is_taken}
@@ -71,21 +71,21 @@ line_written_out notions d line is =
 
 -- ---- the first line
 
-abbrev pub coming : Bool → TheoremParser → Coming
-coming defines d = record { defines = defines; parser = d; expanded = 0 }
+abbrev pub partial_item : Bool → TheoremParser → PartialItem
+partial_item defines d = record { defines = defines; parser = d; expanded = 0 }
 
-unfoldable pub begins_theorem : Known → RawLine → Result Coming FaultKind
+unfoldable pub begins_theorem : Known → RawLine → Result PartialItem FaultKind
 begins_theorem known f =
     if has_notion_title known.notions f then Err NameTaken else
-    (begin known.theorems f >>= λ d. Ok (coming false d))
+    (begin known.theorems f >>= λ d. Ok (partial_item false d))
 
-unfoldable pub begins_definition : Known → List ℕ → Result Coming FaultKind
+unfoldable pub begins_definition : Known → List ℕ → Result PartialItem FaultKind
 begins_definition known t =
     if is_taken known t then Err NameTaken else
     (within (length known.notions + 1) most_notions limits.Notions
-    >>= λ few. Ok (coming true (with_title t)))
+    >>= λ few. Ok (partial_item true (with_title t)))
 
-unfoldable pub begins : Known → BookLine → Result Coming FaultKind
+unfoldable pub begins : Known → BookLine → Result PartialItem FaultKind
 begins known (Plain f) = begins_theorem known f
 begins known (Define t) = begins_definition known t
 begins known (Listed line is) = Err Malformed
@@ -106,16 +106,16 @@ defines_on d rawlines.End =
     right_count (is_showing d.section) >>= λ right. Ok (record d { section = Done })
 defines_on d f = Err Malformed
 
-abbrev pub with_parser : Coming → TheoremParser → Coming
+abbrev pub with_parser : PartialItem → TheoremParser → PartialItem
 with_parser c d = record c { parser = d }
 
-unfoldable pub goes_on : Known → Coming → RawLine → Result Coming FaultKind
+unfoldable pub goes_on : Known → PartialItem → RawLine → Result PartialItem FaultKind
 goes_on known c f =
     if c.defines then (defines_on c.parser f >>= λ d. Ok (with_parser c d)) else
     (steps.step known.theorems c.parser f >>= λ d. Ok (with_parser c d))
 
 -- it is taken as it is written out, and then the limit of what items mean
-unfoldable pub lists : Known → Coming → Listing → List RawItem → Result Coming FaultKind
+unfoldable pub lists : Known → PartialItem → Listing → List RawItem → Result PartialItem FaultKind
 lists known c line is = do
   right ← right_count (not c.defines || is_show line)
   w ← line_written_out known.notions c.parser line is
@@ -123,69 +123,69 @@ lists known c line is = do
   few ← within (e.expanded + w.1) most_expanded limits.Expanded
   Ok (record e { expanded = e.expanded + w.1 })
 
-unfoldable pub step : Known → Coming → BookLine → Result Coming FaultKind
+unfoldable pub step : Known → PartialItem → BookLine → Result PartialItem FaultKind
 step known c (Plain f) = goes_on known c f
 step known c (Define t) = Err Malformed
 step known c (Listed line is) = lists known c line is
 
-pub record FitsComing (known : Known) (c : Coming) : Type 0 where
+pub record FitsPartial (known : Known) (c : PartialItem) : Type 0 where
   pub parser : FitsScope c.parser
   pub expanded : c.expanded ≤ most_expanded
   pub few : c.defines ≡ false → length known.theorems ≤ most_theorems
 
 -- ---- lines
 
-unfoldable pub line_step : Known → Option Coming → List (List ℕ) → Result Coming FaultKind
+unfoldable pub line_step : Known → Option PartialItem → List (List ℕ) → Result PartialItem FaultKind
 line_step known None words = book_line_of words >>= λ l. begins known l
 line_step known (Some c) words = book_line_of words >>= λ l. step known c l
 
-abbrev pub is_done : Coming → Bool
+abbrev pub partial_after : Known → Option PartialItem → List (List ℕ)
+    → Result (Option PartialItem) FaultKind
+partial_after known c words = line_step known c words >>= λ d. Ok (Some d)
+
+abbrev pub is_done : PartialItem → Bool
 is_done c = is_last c.parser.section
 
 abbrev pub notion_of_parser : TheoremParser → Titled
 notion_of_parser d = titled d.title (record { declared = d.declared; means = d.shown })
 
 -- what the lines make
-abbrev pub item_of_coming : Coming → BookItem
-item_of_coming c =
+abbrev pub item_of_partial : PartialItem → BookItem
+item_of_partial c =
     if c.defines then OfNotion (notion_of_parser c.parser) else OfTheorem (entry_of_parser c.parser)
 
-abbrev pub at_end : ℕ → Option Coming → Answer
+abbrev pub at_end : ℕ → Option PartialItem → Answer
 at_end last None = Ok None
 at_end last (Some c) = Err (faults.Unended last)
 
 -- the next theorem or definition and the lines after it, or the first fault
-abbrev pub item_from : Known → ℕ → Option Coming → Rest → Answer
+abbrev pub item_from : Known → ℕ → Option PartialItem → Rest → Answer
 item_from known last c [] = at_end last c
 item_from known last c (Err f ∷ lines) = Err (line_fault f)
 item_from known last c (Ok line ∷ lines) =
     if is_skipped (tokens_of line.bytes) then item_from known last c lines else
     (put_at line.number (line_step known c (tokens_of line.bytes)) >>= λ d. if is_done d
-    then Ok (Some (item_of_coming d, lines)) else item_from known last (Some d) lines)
+    then Ok (Some (item_of_partial d, lines)) else item_from known last (Some d) lines)
 
 -- ---- reading on from what has come, whatever lines come
 
 -- what has come is what some lines made of it
-pub record IsBegun (known : Known) (c : Option Coming) : Type 0 where
+pub record IsBegun (known : Known) (c : Option PartialItem) : Type 0 where
   pub front : Rest
   pub reads : (last : ℕ) (more : Rest)
       → item_from known last None (front ++ more) ≡ item_from known last c more
 
--- what the words of a line make of it
-abbrev pub TakesWords : Known → Option Coming → ℕ → List (List ℕ) → Result (Option Item) BookFault
-    → Option Coming → Type 0
-TakesWords known old number words (Ok None) new =
-    (c : Coming) × (line_step known old words ≡ Ok c) × (is_done c ≡ false) × (new ≡ Some c)
-TakesWords known old number words (Ok (Some i)) new =
-    (c : Coming) × (line_step known old words ≡ Ok c) × (is_done c ≡ true)
-    × (view_of i ≡ item_of_coming c) × (new ≡ None)
-TakesWords known old number words (Err f) new =
-    BookFails f (put_at number (line_step known old words))
+-- where the last line has come, what they make is taken out, and the next line begins anew
+abbrev pub IsEnded : Option PartialItem → Option Item → Option PartialItem → Type 0
+IsEnded None i new = (i ≡ None) × (new ≡ None)
+IsEnded (Some c) None new = (is_done c ≡ false) × (new ≡ Some c)
+IsEnded (Some c) (Some i) new =
+    (is_done c ≡ true) × (view_of i ≡ item_of_partial c) × (new ≡ None)
 
 -- what a line makes of it: to read on from here through the line is to read on from there; or the
 -- line ends the theorem or the definition; or it is the first with a fault
-abbrev pub TakesLine : Known → Option Coming → LineView → Result (Option Item) BookFault
-    → Option Coming → Type 0
+abbrev pub TakesLine : Known → Option PartialItem → LineView → Result (Option Item) BookFault
+    → Option PartialItem → Type 0
 TakesLine known old l (Ok None) new =
     (last : ℕ) (more : Rest)
     → item_from known last old (Ok l ∷ more) ≡ item_from known last new more
@@ -198,8 +198,8 @@ TakesLine known old l (Err f) new =
 
 -- what the lines that come make of it: all are taken, and none has a fault; or a theorem or a
 -- definition ends, and these are left
-abbrev pub ReadsOn : Known → Option Coming → Rest → Result (Option Item) BookFault
-    → Option Coming → Rest → Type 0
+abbrev pub ReadsOn : Known → Option PartialItem → Rest → Result (Option Item) BookFault
+    → Option PartialItem → Rest → Type 0
 ReadsOn known old lines (Ok None) new left =
     (left ≡ []) × HaveNoFault lines
     × ((last : ℕ) (more : Rest)
@@ -211,6 +211,6 @@ ReadsOn known old lines (Err f) new left =
     (last : ℕ) (more : Rest) → BookFails f (item_from known last old (lines ++ more))
 
 -- no lines come any more: that is a fault inside a theorem or a definition
-abbrev pub end_of : ℕ → Option Coming → Result (Unit {0}) BookFault
+abbrev pub end_of : ℕ → Option PartialItem → Result (Unit {0}) BookFault
 end_of line None = Ok tt
 end_of line (Some c) = Err (faults.Unended line)

@@ -17,7 +17,7 @@ use Rattle.e_book.specs.TheoremViews.{TheoremView}
 use Rattle.e_book.specs.Grammar.{is_skipped, put_at, Rest}
 use Rattle.e_names.specs.Taken.{nothing_known}
 use Rattle.e_names.specs.Titled.{Titled}
-use Rattle.e_book.specs.Definitions.{BookItem, OfTheorem, OfNotion, Coming, coming_after_words, whole, whole_or, at_end, item_from}
+use Rattle.e_book.specs.Definitions.{BookItem, OfTheorem, OfNotion, PartialItem, item_after_words, whole, whole_or, at_end, item_from}
 use Rattle.e_line.proofs.base.Bound.{bind_ok}
 use Rattle.e_commands.specs.Outcome.{and_theorem, and_notion, Defines, Takes, Accepted, IsOutcome, end_line_number, lines_of_book}
 use Rattle.e_commands.specs.declared.blocks.BookResult.{BookResult}
@@ -40,7 +40,7 @@ pair i rest = (i, rest)
 pub same_found : (i j : BookItem) (xs ys : Rest) → found i xs ≡ found j ys → pair i xs ≡ pair j ys
 same_found i j xs ys e = cc
 
-pub at_end_found : (last : ℕ) (s : Option Coming) (i : BookItem) (rest : Rest) → at_end last s ≡ found i rest → ⊥
+pub at_end_found : (last : ℕ) (s : Option PartialItem) (i : BookItem) (rest : Rest) → at_end last s ≡ found i rest → ⊥
 at_end_found last None i rest e = cc
 at_end_found last (Some c) i rest e = cc
 
@@ -61,25 +61,25 @@ by_skip P true r q a h skipped read = skipped refl h
 by_skip P false r q a h skipped read = read h
 
 -- where something is read, the lines are good if those after it are
-good_before : (known : Known) (last : ℕ) (s : Option Coming) (lines : Rest) (i : BookItem) (rest : Rest) → item_from known last s lines ≡ found i rest → HaveNoFault rest → HaveNoFault lines
+good_before : (known : Known) (last : ℕ) (s : Option PartialItem) (lines : Rest) (i : BookItem) (rest : Rest) → item_from known last s lines ≡ found i rest → HaveNoFault rest → HaveNoFault lines
 good_before known last s [] i rest h good = absurd (at_end_found last s i rest h)
 good_before known last s (Err f ∷ lines) i rest h good = absurd cc
 good_before known last s (Ok l ∷ lines) i rest h good =
     let words = tokens_of l.bytes in
-    by_skip (HaveNoFault lines) (is_skipped words) (item_from known last s lines) (put_at l.number (coming_after_words known s words) >>= λ c. whole_or (whole c) lines (item_from known last (Some c) lines)) (found i rest) h
+    by_skip (HaveNoFault lines) (is_skipped words) (item_from known last s lines) (put_at l.number (item_after_words known s words) >>= λ c. whole_or (whole c) lines (item_from known last (Some c) lines)) (found i rest) h
     (λ skip e. good_before known last s lines i rest e good)
-    (λ q. let a = bind_ok (put_at l.number (coming_after_words known s words)) (λ c. whole_or (whole c) lines (item_from known last (Some c) lines)) (Some (i, rest)) q in
+    (λ q. let a = bind_ok (put_at l.number (item_after_words known s words)) (λ c. whole_or (whole c) lines (item_from known last (Some c) lines)) (Some (i, rest)) q in
     by_found (HaveNoFault lines) (whole a.0) i lines rest (item_from known last (Some a.0) lines) a.2 (λ ends e. subst HaveNoFault (sym e) good) (λ e. good_before known last (Some a.0) lines i rest e good))
 
 -- where none is read any more, all lines are good
-good_at_end : (known : Known) (last : ℕ) (s : Option Coming) (lines : Rest) → item_from known last s lines ≡ none_left → HaveNoFault lines
+good_at_end : (known : Known) (last : ℕ) (s : Option PartialItem) (lines : Rest) → item_from known last s lines ≡ none_left → HaveNoFault lines
 good_at_end known last s [] h = tt
 good_at_end known last s (Err f ∷ lines) h = absurd cc
 good_at_end known last s (Ok l ∷ lines) h =
     let words = tokens_of l.bytes in
-    by_skip (HaveNoFault lines) (is_skipped words) (item_from known last s lines) (put_at l.number (coming_after_words known s words) >>= λ c. whole_or (whole c) lines (item_from known last (Some c) lines)) none_left h
+    by_skip (HaveNoFault lines) (is_skipped words) (item_from known last s lines) (put_at l.number (item_after_words known s words) >>= λ c. whole_or (whole c) lines (item_from known last (Some c) lines)) none_left h
     (λ skip e. good_at_end known last s lines e)
-    (λ q. let a = bind_ok (put_at l.number (coming_after_words known s words)) (λ c. whole_or (whole c) lines (item_from known last (Some c) lines)) None q in
+    (λ q. let a = bind_ok (put_at l.number (item_after_words known s words)) (λ c. whole_or (whole c) lines (item_from known last (Some c) lines)) None q in
     by_none (HaveNoFault lines) (whole a.0) lines (item_from known last (Some a.0) lines) a.2 (λ e. good_at_end known last (Some a.0) lines e))
 
 good_defined : (last : ℕ) (known : Known) (lines : Rest) (ns : List Titled) (now : Known) (rest : Rest) → Defines last known lines ns now rest → HaveNoFault rest → HaveNoFault lines

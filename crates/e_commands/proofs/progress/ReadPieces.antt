@@ -8,7 +8,7 @@ use Rattle.e_text.specs.Lines.{Bounds, Spot, HaveNoFault, IsClosed, IsOpen, line
 use Rattle.e_text.proofs.Fronts.{lines_of-front}
 use Rattle.e_text.proofs.ClosedTexts.{closed_both, closed_after, then_good, good_both, fault_is_last, then_some}
 use Rattle.e_text.proofs.LinesOfTexts.{lines_of-take}
-use Rattle.e_book.specs.declared.coming.Coming.{Coming}
+use Rattle.e_book.specs.declared.partial_item.PartialItem.{PartialItem}
 use Rattle.e_book.specs.Definitions.{BookItem}
 use Rattle.e_book.specs.inner.Machine.{at_end}
 use Rattle.e_book.specs.Grammar.{Rest}
@@ -238,7 +238,7 @@ last_grew old new last result (inr c) e = absurd (let f : status.WriteFault ≡ 
 -- ---- what was taken is handled
 
 -- what has come is no whole theorem or definition
-machine_ends : (last : ℕ) (c : Option Coming) (i : BookItem) (rest : Rest) → at_end last c ≡ Ok (Some (i, rest)) → ⊥
+machine_ends : (last : ℕ) (c : Option PartialItem) (i : BookItem) (rest : Rest) → at_end last c ≡ Ok (Some (i, rest)) → ⊥
 machine_ends last None i rest e = cc
 machine_ends last (Some c) i rest e = cc
 
@@ -257,7 +257,7 @@ handled_now read old b u new book s unended =
         known = b.known;
         rest = s.reaches.tail ++ [];
         begins = h.begins;
-        none = λ i after e. machine_ends (end_line_number lines) b.reading.coming i after (sym (s.reaches.reads (end_line_number lines) []) ∙ tied b (end_line_number lines) (s.reaches.tail ++ []) book ∙ e);
+        none = λ i after e. machine_ends (end_line_number lines) b.reading.partial_item i after (sym (s.reaches.reads (end_line_number lines) []) ∙ tied b (end_line_number lines) (s.reaches.tail ++ []) book ∙ e);
         grew = h.grew;
       },
     )

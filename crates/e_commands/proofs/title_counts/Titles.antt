@@ -35,7 +35,7 @@ use Rattle.e_line.specs.Items.{has_item, items_of, define_of, placing_of, line_w
 use Rattle.e_book.specs.Open.{Open, Head, Stating, Proving, Splitting, Proved, Ended}
 use Rattle.e_book.specs.Counts.{all_kept, limits_kept}
 use Rattle.e_book.specs.Grammar.{begins, empty_head, is_empty, next, line_after, theorem_ended, is_skipped, put_at, Rest}
-use Rattle.e_book.specs.Definitions.{BookItem, OfTheorem, OfNotion, Coming, InTheorem, InDefinition, Defined, has_notion_title, after_first_line, says_more, still_defined, meant, ends_definition, plain_line, written_out, counted, after_listed_line, next_line, coming_after_words, whole, whole_or, item_from}
+use Rattle.e_book.specs.Definitions.{BookItem, OfTheorem, OfNotion, PartialItem, InTheorem, InDefinition, Defined, has_notion_title, after_first_line, says_more, still_defined, meant, ends_definition, plain_line, written_out, counted, after_listed_line, next_line, item_after_words, whole, whole_or, item_from}
 use Rattle.e_line.proofs.base.Bound.{bind_ok, ok_is, read_ok}
 use Rattle.e_line.proofs.base.Choices.{either, passed, of_reading}
 use Rattle.e_names.proofs.titles.FreshTitles.{was_free}
@@ -63,13 +63,13 @@ abbrev is_title_line : BookLine → Bool
 is_title_line (Plain (rawlines.Theorem t)) = true
 is_title_line l = false
 
-abbrev coming_ok : Coming → Result Coming FaultKind
-coming_ok c = Ok c
+abbrev partial_ok : PartialItem → Result PartialItem FaultKind
+partial_ok c = Ok c
 
 abbrev open_ok : Open → Result Open FaultKind
 open_ok o = Ok o
 
-abbrev refusal_of : FaultKind → Result Coming FaultKind
+abbrev refusal_of : FaultKind → Result PartialItem FaultKind
 refusal_of k = Err k
 
 -- ---- no other word begins a line with a title
@@ -225,7 +225,7 @@ line_title (w ∷ ws) l e = line_by w ws l (bytes_eq w (codes "theorem")) refl e
 -- ---- a line with a title begins a theorem, and each other goes on
 
 -- a theorem comes, not a definition
-abbrev says_theorem : Coming → Bool
+abbrev says_theorem : PartialItem → Bool
 says_theorem (InTheorem o n) = true
 says_theorem (InDefinition h n) = false
 says_theorem (Defined t) = false
@@ -234,11 +234,11 @@ abbrev is_theorem : BookItem → Bool
 is_theorem (OfTheorem t) = true
 is_theorem (OfNotion n) = false
 
-theorem_begun : (known : Known) (b : Bool) (f : RawLine) (c : Coming) → cond b (refusal_of NameTaken) (begins known.theorems f >>= λ o. coming_ok (InTheorem o 0)) ≡ Ok c → says_theorem c ≡ true
+theorem_begun : (known : Known) (b : Bool) (f : RawLine) (c : PartialItem) → cond b (refusal_of NameTaken) (begins known.theorems f >>= λ o. partial_ok (InTheorem o 0)) ≡ Ok c → says_theorem c ≡ true
 theorem_begun known true f c e = absurd cc
 theorem_begun known false f c e = of_reading (λ d. says_theorem d ≡ true) (begins known.theorems f) (λ o. InTheorem o 0) c (λ o k. refl) e
 
-definition_begun : (known : Known) (b : Bool) (t : List ℕ) (r : Result (Unit {0}) FaultKind) (c : Coming) → cond b (refusal_of NameTaken) (r >>= λ kept. coming_ok (InDefinition (empty_head t) 0)) ≡ Ok c → says_theorem c ≡ false
+definition_begun : (known : Known) (b : Bool) (t : List ℕ) (r : Result (Unit {0}) FaultKind) (c : PartialItem) → cond b (refusal_of NameTaken) (r >>= λ kept. partial_ok (InDefinition (empty_head t) 0)) ≡ Ok c → says_theorem c ≡ false
 definition_begun known true t r c e = absurd cc
 definition_begun known false t r c e = of_reading (λ d. says_theorem d ≡ false) r (λ kept. InDefinition (empty_head t) 0) c (λ kept k. refl) e
 
@@ -246,50 +246,50 @@ no_theorem_begun : (known : List TitledStatement) (f : RawLine) (o : Open) → i
 no_theorem_begun known (rawlines.Theorem t) o h e = absurd cc
 no_theorem_begun known f o h e = absurd cc
 
-plain_begun : (known : Known) (f : RawLine) (c : Coming) (b : Bool) → is_title_line (Plain f) ≡ b → after_first_line known (Plain f) ≡ Ok c → b ≡ says_theorem c
+plain_begun : (known : Known) (f : RawLine) (c : PartialItem) (b : Bool) → is_title_line (Plain f) ≡ b → after_first_line known (Plain f) ≡ Ok c → b ≡ says_theorem c
 plain_begun known f c true is e = sym (theorem_begun known (has_notion_title known.notions f) f c e)
 plain_begun known f c false is e =
-    let free = was_free (has_notion_title known.notions f) (begins known.theorems f >>= λ o. coming_ok (InTheorem o 0)) c e in
-    let o = bind_ok (begins known.theorems f) (λ o. coming_ok (InTheorem o 0)) c free.1 in
+    let free = was_free (has_notion_title known.notions f) (begins known.theorems f >>= λ o. partial_ok (InTheorem o 0)) c e in
+    let o = bind_ok (begins known.theorems f) (λ o. partial_ok (InTheorem o 0)) c free.1 in
     absurd (no_theorem_begun known.theorems f o.0 is o.1)
 
-first_kind : (known : Known) (l : BookLine) (c : Coming) → after_first_line known l ≡ Ok c → is_title_line l ≡ says_theorem c
+first_kind : (known : Known) (l : BookLine) (c : PartialItem) → after_first_line known l ≡ Ok c → is_title_line l ≡ says_theorem c
 first_kind known (Plain f) c e = plain_begun known f c (is_title_line (Plain f)) refl e
 first_kind known (Define t) c e =
     sym (definition_begun known (is_taken known t) t (all_kept ((nat_le (length known.notions + 1) most_notions, limits.Notions) ∷ [])) c e)
 first_kind known (Listed line is) c e = absurd cc
 
 -- what comes goes on as what it is
-counted_kind : (n : ℕ) (b c : Coming) → counted n b ≡ Ok c → says_theorem b ≡ says_theorem c
+counted_kind : (n : ℕ) (b c : PartialItem) → counted n b ≡ Ok c → says_theorem b ≡ says_theorem c
 counted_kind n (InTheorem o m) c e =
     of_reading (λ d. true ≡ says_theorem d) (all_kept ((nat_le (m + n) most_expanded, limits.Expanded) ∷ [])) (λ kept. InTheorem o (m + n)) c (λ kept k. refl) e
 counted_kind n (InDefinition h m) c e =
     of_reading (λ d. false ≡ says_theorem d) (all_kept ((nat_le (m + n) most_expanded, limits.Expanded) ∷ [])) (λ kept. InDefinition h (m + n)) c (λ kept k. refl) e
 counted_kind n (Defined t) c e = absurd cc
 
-still_kind : (n : ℕ) (o : Open) (c : Coming) → still_defined n o ≡ Ok c → says_theorem c ≡ false
+still_kind : (n : ℕ) (o : Open) (c : PartialItem) → still_defined n o ≡ Ok c → says_theorem c ≡ false
 still_kind n (Stating h) c e = ap says_theorem (sym (ok_is (InDefinition h n) c e))
 still_kind n o c e = absurd cc
 
-ended_kind : (h : Head) (f : RawLine) (c : Coming) → ends_definition h f ≡ Ok c → says_theorem c ≡ false
-ended_kind h rawlines.End c e = either (λ d. says_theorem d ≡ false) (is_empty h.statement.shown) (refusal_of Malformed) (coming_ok (Defined (meant h))) c e (λ k. absurd cc) (λ k. ap says_theorem (sym (ok_is (Defined (meant h)) c k)))
+ended_kind : (h : Head) (f : RawLine) (c : PartialItem) → ends_definition h f ≡ Ok c → says_theorem c ≡ false
+ended_kind h rawlines.End c e = either (λ d. says_theorem d ≡ false) (is_empty h.statement.shown) (refusal_of Malformed) (partial_ok (Defined (meant h))) c e (λ k. absurd cc) (λ k. ap says_theorem (sym (ok_is (Defined (meant h)) c k)))
 ended_kind h f c e = absurd cc
 
-plain_kind : (known : Known) (b : Coming) (f : RawLine) (c : Coming) → plain_line known b f ≡ Ok c → says_theorem b ≡ says_theorem c
+plain_kind : (known : Known) (b : PartialItem) (f : RawLine) (c : PartialItem) → plain_line known b f ≡ Ok c → says_theorem b ≡ says_theorem c
 plain_kind known (InTheorem o n) f c e = of_reading (λ d. true ≡ says_theorem d) (line_after known.theorems (Some o) f) (λ m. InTheorem m n) c (λ m k. refl) e
 plain_kind known (InDefinition h n) f c e =
-    let more : Result Coming FaultKind = line_after known.theorems (Some (Stating h)) f >>= λ o. still_defined n o in
+    let more : Result PartialItem FaultKind = line_after known.theorems (Some (Stating h)) f >>= λ o. still_defined n o in
     sym (either (λ d. says_theorem d ≡ false) (says_more f) more (ends_definition h f) c e
     (λ k. let o = bind_ok (line_after known.theorems (Some (Stating h)) f) (λ o. still_defined n o) c k in still_kind n o.0 c o.2)
     (ended_kind h f c))
 plain_kind known (Defined t) f c e = absurd cc
 
-then_counted : (known : Known) (b : Coming) (w : RawLine × ℕ) (c : Coming) → (plain_line known b w.0 >>= λ d. counted w.1 d) ≡ Ok c → says_theorem b ≡ says_theorem c
+then_counted : (known : Known) (b : PartialItem) (w : RawLine × ℕ) (c : PartialItem) → (plain_line known b w.0 >>= λ d. counted w.1 d) ≡ Ok c → says_theorem b ≡ says_theorem c
 then_counted known b w c e =
     let d = bind_ok (plain_line known b w.0) (λ d. counted w.1 d) c e in
     plain_kind known b w.0 d.0 d.1 ∙ counted_kind w.1 d.0 c d.2
 
-listed_kind : (known : Known) (b : Coming) (line : Listing) (is : List RawItem) (c : Coming) → after_listed_line known b line is ≡ Ok c → says_theorem b ≡ says_theorem c
+listed_kind : (known : Known) (b : PartialItem) (line : Listing) (is : List RawItem) (c : PartialItem) → after_listed_line known b line is ≡ Ok c → says_theorem b ≡ says_theorem c
 listed_kind known (InTheorem o n) line is c e =
     let w = bind_ok (written_out known o line is) (λ w. plain_line known (InTheorem o n) w.0 >>= λ d. counted w.1 d) c e in
     then_counted known (InTheorem o n) w.0 c w.2
@@ -306,19 +306,19 @@ no_next known (Splitting h around) t m e = absurd cc
 no_next known (Proved h script) t m e = absurd cc
 no_next known (Ended e) t m k = absurd cc
 
-no_title_inside : (known : Known) (b : Coming) (t : List ℕ) (c : Coming) → plain_line known b (rawlines.Theorem t) ≡ Ok c → ⊥
+no_title_inside : (known : Known) (b : PartialItem) (t : List ℕ) (c : PartialItem) → plain_line known b (rawlines.Theorem t) ≡ Ok c → ⊥
 no_title_inside known (InTheorem o n) t c e =
-    let m = bind_ok (line_after known.theorems (Some o) (rawlines.Theorem t)) (λ m. coming_ok (InTheorem m n)) c e in
+    let m = bind_ok (line_after known.theorems (Some o) (rawlines.Theorem t)) (λ m. partial_ok (InTheorem m n)) c e in
     let a = bind_ok (next known.theorems o (rawlines.Theorem t)) (λ m. all_kept (limits_kept known.theorems (rawlines.Theorem t) m) >>= λ kept. open_ok m) m.0 m.1 in
     no_next known.theorems o t a.0 a.1
 no_title_inside known (InDefinition h n) t c e = absurd cc
 no_title_inside known (Defined s) t c e = absurd cc
 
-plain_later : (known : Known) (b : Coming) (f : RawLine) (c : Coming) → plain_line known b f ≡ Ok c → is_title_line (Plain f) ≡ false
+plain_later : (known : Known) (b : PartialItem) (f : RawLine) (c : PartialItem) → plain_line known b f ≡ Ok c → is_title_line (Plain f) ≡ false
 plain_later known b (rawlines.Theorem t) c e = absurd (no_title_inside known b t c e)
 plain_later known b f c e = refl
 
-later_kind : (known : Known) (b : Coming) (l : BookLine) (c : Coming) → next_line known b l ≡ Ok c → (is_title_line l ≡ false) × (says_theorem b ≡ says_theorem c)
+later_kind : (known : Known) (b : PartialItem) (l : BookLine) (c : PartialItem) → next_line known b l ≡ Ok c → (is_title_line l ≡ false) × (says_theorem b ≡ says_theorem c)
 later_kind known b (Plain f) c e = (plain_later known b f c e, plain_kind known b f c e)
 later_kind known b (Define t) c e = absurd cc
 later_kind known b (Listed line is) c e = (refl, listed_kind known b line is c e)
@@ -341,16 +341,16 @@ abbrev none_left : Answer
 none_left = Ok None
 
 -- how many titles come up to the end of this, by what has come of it; and it is what has come
-abbrev begun : Option Coming → BookItem → ℕ
+abbrev begun : Option PartialItem → BookItem → ℕ
 begun None i = one_if (is_theorem i)
 begun (Some c) i = 0
 
-abbrev IsOf : Option Coming → BookItem → Type 0
+abbrev IsOf : Option PartialItem → BookItem → Type 0
 IsOf None i = Unit {0}
 IsOf (Some c) i = says_theorem c ≡ is_theorem i
 
 -- what a line says of what comes next: it has a title where a theorem begins, and is of what has come
-line_begun : (known : Known) (s : Option Coming) (words : List (List ℕ)) (c : Coming) (i : BookItem) → coming_after_words known s words ≡ Ok c → says_theorem c ≡ is_theorem i → (one_if (has_title words) ≡ begun s i) × IsOf s i
+line_begun : (known : Known) (s : Option PartialItem) (words : List (List ℕ)) (c : PartialItem) (i : BookItem) → item_after_words known s words ≡ Ok c → says_theorem c ≡ is_theorem i → (one_if (has_title words) ≡ begun s i) × IsOf s i
 line_begun known None words c i e k =
     let l = bind_ok (book_line_of words) (λ l. after_first_line known l) c e in
     (ap one_if (line_title words l.0 l.1 ∙ first_kind known l.0 c l.2 ∙ k), tt)
@@ -359,7 +359,7 @@ line_begun known (Some b) words c i e k =
     let p = later_kind known b l.0 c l.2 in
     (ap one_if (line_title words l.0 l.1 ∙ p.0), p.1 ∙ k)
 
-put_is : (n : ℕ) (r : Result Coming FaultKind) (c : Coming) → put_at n r ≡ Ok c → r ≡ Ok c
+put_is : (n : ℕ) (r : Result PartialItem FaultKind) (c : PartialItem) → put_at n r ≡ Ok c → r ≡ Ok c
 put_is n (Ok x) c e = cc
 put_is n (Err k) c e = absurd cc
 
@@ -367,30 +367,30 @@ ended_theorem : (o : Option TheoremView) (i : BookItem) → option_map OfTheorem
 ended_theorem None i e = absurd cc
 ended_theorem (Some t) i e = let j : OfTheorem t ≡ i = cc in ap is_theorem j
 
-whole_kind : (c : Coming) (i : BookItem) → whole c ≡ Some i → says_theorem c ≡ is_theorem i
+whole_kind : (c : PartialItem) (i : BookItem) → whole c ≡ Some i → says_theorem c ≡ is_theorem i
 whole_kind (InTheorem o n) i e = ended_theorem (theorem_ended o) i e
 whole_kind (InDefinition h n) i e = absurd cc
 whole_kind (Defined t) i e = let j : OfNotion t ≡ i = cc in ap is_theorem j
 
 -- the count up to the end, and the lines after it
-pub record Counts (s : Option Coming) (lines : Rest) (i : BookItem) (rest : Rest) : Type 0 where
+pub record Counts (s : Option PartialItem) (lines : Rest) (i : BookItem) (rest : Rest) : Type 0 where
   pub count : titles lines ≡ begun s i + titles rest
   pub same : IsOf s i
 
-count_found : (known : Known) (last : ℕ) (s : Option Coming) (lines : Rest) (i : BookItem) (rest : Rest) → item_from known last s lines ≡ found i rest → Counts s lines i rest
+count_found : (known : Known) (last : ℕ) (s : Option PartialItem) (lines : Rest) (i : BookItem) (rest : Rest) → item_from known last s lines ≡ found i rest → Counts s lines i rest
 count_found known last s [] i rest h = absurd (at_end_found last s i rest h)
 count_found known last s (Err f ∷ lines) i rest h = absurd cc
 count_found known last s (Ok l ∷ lines) i rest h =
     let words = tokens_of l.bytes in
     let all : titles (Ok l ∷ lines) ≡ one_if (has_title words) + titles lines = refl in
-    by_skip (Counts s (Ok l ∷ lines) i rest) (is_skipped words) (item_from known last s lines) (put_at l.number (coming_after_words known s words) >>= λ c. whole_or (whole c) lines (item_from known last (Some c) lines)) (found i rest) h
+    by_skip (Counts s (Ok l ∷ lines) i rest) (is_skipped words) (item_from known last s lines) (put_at l.number (item_after_words known s words) >>= λ c. whole_or (whole c) lines (item_from known last (Some c) lines)) (found i rest) h
     (λ skip e.
     let none : one_if (has_title words) ≡ 0 = ap one_if (skipped_title words skip) in
     let more = count_found known last s lines i rest e in
     record { count = omega (arith, all, none, more.count); same = more.same })
     (λ q.
-    let a = bind_ok (put_at l.number (coming_after_words known s words)) (λ c. whole_or (whole c) lines (item_from known last (Some c) lines)) (Some (i, rest)) q in
-    let said = put_is l.number (coming_after_words known s words) a.0 a.1 in
+    let a = bind_ok (put_at l.number (item_after_words known s words)) (λ c. whole_or (whole c) lines (item_from known last (Some c) lines)) (Some (i, rest)) q in
+    let said = put_is l.number (item_after_words known s words) a.0 a.1 in
     by_found (Counts s (Ok l ∷ lines) i rest) (whole a.0) i lines rest (item_from known last (Some a.0) lines) a.2
     (λ ends e.
     let b = line_begun known s words a.0 i said (whole_kind a.0 i ends) in
@@ -402,15 +402,15 @@ count_found known last s (Ok l ∷ lines) i rest h =
     record { count = omega (arith, all, b.0, later); same = b.1 }))
 
 -- the lines do not end inside a theorem or a definition
-never_none : (known : Known) (last : ℕ) (c : Coming) (lines : Rest) → item_from known last (Some c) lines ≡ none_left → ⊥
+never_none : (known : Known) (last : ℕ) (c : PartialItem) (lines : Rest) → item_from known last (Some c) lines ≡ none_left → ⊥
 never_none known last c [] h = absurd cc
 never_none known last c (Err f ∷ lines) h = absurd cc
 never_none known last c (Ok l ∷ lines) h =
     let words = tokens_of l.bytes in
-    by_skip ⊥ (is_skipped words) (item_from known last (Some c) lines) (put_at l.number (coming_after_words known (Some c) words) >>= λ d. whole_or (whole d) lines (item_from known last (Some d) lines)) none_left h
+    by_skip ⊥ (is_skipped words) (item_from known last (Some c) lines) (put_at l.number (item_after_words known (Some c) words) >>= λ d. whole_or (whole d) lines (item_from known last (Some d) lines)) none_left h
     (λ skip e. never_none known last c lines e)
     (λ q.
-    let a = bind_ok (put_at l.number (coming_after_words known (Some c) words)) (λ d. whole_or (whole d) lines (item_from known last (Some d) lines)) None q in
+    let a = bind_ok (put_at l.number (item_after_words known (Some c) words)) (λ d. whole_or (whole d) lines (item_from known last (Some d) lines)) None q in
     by_none ⊥ (whole a.0) lines (item_from known last (Some a.0) lines) a.2 (λ e. never_none known last a.0 lines e))
 
 -- and where none is read any more, no line has a title
@@ -420,12 +420,12 @@ count_end known last (Err f ∷ lines) h = absurd cc
 count_end known last (Ok l ∷ lines) h =
     let words = tokens_of l.bytes in
     let all : titles (Ok l ∷ lines) ≡ one_if (has_title words) + titles lines = refl in
-    by_skip (titles (Ok l ∷ lines) ≡ 0) (is_skipped words) (item_from known last None lines) (put_at l.number (coming_after_words known None words) >>= λ c. whole_or (whole c) lines (item_from known last (Some c) lines)) none_left h
+    by_skip (titles (Ok l ∷ lines) ≡ 0) (is_skipped words) (item_from known last None lines) (put_at l.number (item_after_words known None words) >>= λ c. whole_or (whole c) lines (item_from known last (Some c) lines)) none_left h
     (λ skip e.
     let none : one_if (has_title words) ≡ 0 = ap one_if (skipped_title words skip) in
     omega (arith, all, none, count_end known last lines e))
     (λ q.
-    let a = bind_ok (put_at l.number (coming_after_words known None words)) (λ c. whole_or (whole c) lines (item_from known last (Some c) lines)) None q in
+    let a = bind_ok (put_at l.number (item_after_words known None words)) (λ c. whole_or (whole c) lines (item_from known last (Some c) lines)) None q in
     absurd (by_none ⊥ (whole a.0) lines (item_from known last (Some a.0) lines) a.2 (λ e. never_none known last a.0 lines e)))
 
 -- ---- the whole

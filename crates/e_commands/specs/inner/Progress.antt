@@ -5,14 +5,14 @@ use Rattle.std.specs.List.{list_all}
 use Rattle.e_io.specs.Bytes.{Grew}
 use Rattle.e_text.specs.Lines.{Ahead, HaveNoFault, IsClosed}
 use Rattle.e_deriv.specs.Fitting.{is_small_statement}
-use Rattle.e_book.specs.declared.coming.Coming.{Coming}
+use Rattle.e_book.specs.declared.partial_item.PartialItem.{PartialItem}
 use Rattle.e_names.specs.declared.known.Known.{Known}
 use Rattle.e_line.specs.declared.fault.BookFault.TheVariants.{Unended}
 use Rattle.e_names.specs.TitledStatements.{stated_by}
 use Rattle.e_names.specs.Taken.{nothing_known}
 use Rattle.e_names.specs.Titled.{are_notions}
 use Rattle.e_book.specs.Grammar.{last_line, Rest}
-use Rattle.e_book.specs.inner.Machine.{FitsComing, item_from, IsBegun}
+use Rattle.e_book.specs.inner.Machine.{FitsPartial, item_from, IsBegun}
 use Rattle.e_commands.specs.declared.book.Book.{Book}
 use Rattle.e_commands.specs.declared.pieces.Untaken.{Untaken}
 use Rattle.e_commands.specs.declared.blocks.BookResult.{BookResult}
@@ -37,7 +37,12 @@ pub record History (lines : Rest) (old : Option (List ℕ)) (known : Known) (res
 -- before the first line
 abbrev pub first_book : Book
 first_book =
-    record { known = nothing_known; reading = record { coming = None }; theorems = 0; steps = 0 }
+    record {
+      known = nothing_known;
+      reading = record { partial_item = None };
+      theorems = 0;
+      steps = 0;
+    }
 
 -- what is known of a book between two lines
 pub record IsBook (b : Book) : Type 0 where
@@ -46,8 +51,8 @@ pub record IsBook (b : Book) : Type 0 where
   pub count : length b.known.theorems ≡ b.theorems
   pub most : b.theorems ≤ 500
   pub steps : b.steps ≤ 1024 * b.theorems
-  pub coming : IfSome b.reading.coming (FitsComing b.known)
-  pub begun : IsBegun b.known b.reading.coming
+  pub partial_item : IfSome b.reading.partial_item (FitsPartial b.known)
+  pub begun : IsBegun b.known b.reading.partial_item
 
 -- By what comes: all lines of the book, and those that remain. Whatever comes, the theorems so far
 -- are the first of all lines, and to read the next one from its first line is to read on from what
@@ -57,7 +62,7 @@ pub record Reaches (all remaining : Rest → Rest) (old : Option (List ℕ)) (b 
   pub tail : Rest
   pub history : (more : Rest) → History (all more) old b.known (tail ++ remaining more) new b.steps
   pub reads : (last : ℕ) (more : Rest) → item_from b.known last None (tail ++ remaining more)
-      ≡ item_from b.known last b.reading.coming (remaining more)
+      ≡ item_from b.known last b.reading.partial_item (remaining more)
 
 -- the next theorem or definition is taken, and these lines are left; or the blocks end or break off
 -- at it
@@ -82,7 +87,7 @@ pub record AreTaken (old new : Ahead) : Type 0 where
   pub line : new.line ≡ last_line old
 
 -- how a book ends where no lines come any more
-abbrev pub result_at : ℕ → Option Coming → ℕ → ℕ → BookResult
+abbrev pub result_at : ℕ → Option PartialItem → ℕ → ℕ → BookResult
 result_at line None theorems steps = All theorems steps
 result_at line (Some d) theorems steps = Faulty (Unended line)
 

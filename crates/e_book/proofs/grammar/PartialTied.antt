@@ -20,7 +20,7 @@ use Rattle.e_names.specs.declared.known.Known.{Known}
 use Rattle.e_book.specs.declared.parser.Section.{Section}
 use Rattle.e_book.specs.declared.parser.Section.TheVariants as places
 use Rattle.e_book.specs.declared.parser.TheoremParser.{TheoremParser}
-use Rattle.e_book.specs.declared.coming.Coming.{Coming as Held}
+use Rattle.e_book.specs.declared.partial_item.PartialItem.{PartialItem as Held}
 use Rattle.e_line.specs.Reading.{◌>>=◌, with_front}
 use Rattle.e_names.specs.TitledStatements.{TitledStatement}
 use Rattle.e_names.specs.Taken.{is_taken}
@@ -37,12 +37,12 @@ use Rattle.e_names.specs.Meanings.{items_in}
 use Rattle.e_book.specs.Open.{Head, Open, Stating, Proving, BySuperposition}
 use Rattle.e_book.specs.Counts.{context_at, limits_kept, all_kept}
 use Rattle.e_book.specs.Grammar.{empty_head, begins, with_new, none_given, none_made, at_its_place, states, goes_on as goes_on_there, next, line_after, is_empty, Rest, is_skipped, put_at}
-use Rattle.e_book.specs.Definitions.{BookItem, Coming, InTheorem, InDefinition, Defined, has_notion_title, after_first_line, says_more, still_defined, ends_definition, plain_line, written_out, counted, after_listed_line, next_line, coming_after_words, Answer, OfTheorem, OfNotion, whole, whole_or, item_from}
+use Rattle.e_book.specs.Definitions.{BookItem, PartialItem, InTheorem, InDefinition, Defined, has_notion_title, after_first_line, says_more, still_defined, ends_definition, plain_line, written_out, counted, after_listed_line, next_line, item_after_words, Answer, OfTheorem, OfNotion, whole, whole_or, item_from}
 use Rattle.e_line.specs.Faults.{at_line}
 use Rattle.e_book.specs.Book.{is_last}
 use Rattle.e_book.specs.ParserViews.{statement_of_parser, entry_of_parser}
 use Rattle.e_book.specs.inner.Machine as machine
-use Rattle.e_book.specs.inner.Machine.{names_at_place, head_names, line_written_out, coming, begins_theorem, begins_definition, is_showing, defines_on, with_parser, goes_on, lists, line_step, notion_of_parser, item_of_coming}
+use Rattle.e_book.specs.inner.Machine.{names_at_place, head_names, line_written_out, partial_item, begins_theorem, begins_definition, is_showing, defines_on, with_parser, goes_on, lists, line_step, notion_of_parser, item_of_partial}
 use Rattle.e_line.proofs.base.Bound.{bind_ok, ok_is, read_ok}
 use Rattle.e_book.proofs.grammar.LimitTests.{by_test, then_limits}
 use Rattle.e_book.proofs.grammar.ParserState.{around_of, head_of, open_there, open_of, BlockOf, UnprovedOf, Stands, Body, Tied, Alike}
@@ -53,15 +53,15 @@ use Rattle.e_line.proofs.read_lines.LinesByWord.{LineSaid, line_read_as}
 
 -- ---- what the parser holds is what has been said
 
-abbrev pub definition_there : TheoremParser → ℕ → Section → Coming
+abbrev pub definition_there : TheoremParser → ℕ → Section → PartialItem
 definition_there d n places.Done = Defined (notion_of_parser d)
 definition_there d n p = InDefinition (head_of d) n
 
-abbrev pub said_by : Bool → TheoremParser → ℕ → Coming
+abbrev pub said_by : Bool → TheoremParser → ℕ → PartialItem
 said_by true d n = definition_there d n d.section
 said_by false d n = InTheorem (open_of d) n
 
-abbrev pub said_of : Held → Coming
+abbrev pub said_of : Held → PartialItem
 said_of c = said_by c.defines c.parser c.expanded
 
 -- a definition has no proof
@@ -73,25 +73,25 @@ abbrev pub TiedBy : List TitledStatement → Bool → TheoremParser → Type 0
 TiedBy known true d = FewNamed d.names × DefinitionTied d.section d
 TiedBy known false d = Tied known d
 
-abbrev pub TiedComing : Known → Held → Type 0
-TiedComing known c = TiedBy known.theorems c.defines c.parser
+abbrev pub TiedPartial : Known → Held → Type 0
+TiedPartial known c = TiedBy known.theorems c.defines c.parser
 
 -- the parser's answer to a line, and the grammar's: one fault, or what the parser holds is what has been said
-abbrev pub AlikeComing : Known → Result Held FaultKind → Result Coming FaultKind → Type 0
-AlikeComing known (Ok e) (Ok n) = (said_of e ≡ n) × TiedComing known e
-AlikeComing known (Ok e) (Err k) = ⊥
-AlikeComing known (Err j) (Ok n) = ⊥
-AlikeComing known (Err j) (Err k) = j ≡ k
+abbrev pub AlikePartial : Known → Result Held FaultKind → Result PartialItem FaultKind → Type 0
+AlikePartial known (Ok e) (Ok n) = (said_of e ≡ n) × TiedPartial known e
+AlikePartial known (Ok e) (Err k) = ⊥
+AlikePartial known (Err j) (Ok n) = ⊥
+AlikePartial known (Err j) (Err k) = j ≡ k
 
 -- after what both read alike
-both : {A : Type 0} (known : Known) (r : Result A FaultKind) (f : A → Result Held FaultKind) (g : A → Result Coming FaultKind) → ((x : A) → r ≡ Ok x → AlikeComing known (f x) (g x)) → AlikeComing known (r >>= f) (r >>= g)
+both : {A : Type 0} (known : Known) (r : Result A FaultKind) (f : A → Result Held FaultKind) (g : A → Result PartialItem FaultKind) → ((x : A) → r ≡ Ok x → AlikePartial known (f x) (g x)) → AlikePartial known (r >>= f) (r >>= g)
 both known (Ok x) f g h = h x refl
 both known (Err k) f g h = refl
 
 -- ---- a theorem
 
 in_theorem : (known : Known) (c : Held) (n : ℕ) (r : Result TheoremParser FaultKind) (q : Result Open FaultKind) → c.defines ≡ false → c.expanded ≡ n → Alike known.theorems r q
-    → AlikeComing known (r >>= λ d. Ok (with_parser c d)) (q >>= λ o. Ok (InTheorem o n))
+    → AlikePartial known (r >>= λ d. Ok (with_parser c d)) (q >>= λ o. Ok (InTheorem o n))
 in_theorem known c n (Ok d) (Ok o) t e a = (ap (λ (b : Bool). said_by b d c.expanded) t ∙ ap (λ (m : ℕ). InTheorem (open_of d) m) e ∙ ap (λ (x : Open). InTheorem x n) a.0, subst (λ (b : Bool). TiedBy known.theorems b d) (sym t) a.1)
 in_theorem known c n (Err j) (Err k) t e a = a
 in_theorem known c n (Ok d) (Err k) t e a = absurd a
@@ -166,15 +166,15 @@ body_tied known d places.Showing s t = (t.1, t.2)
 body_tied known d p s t = absurd s
 
 in_definition : (known : Known) (c : Held) (h : Head) (f : RawLine) (n : ℕ) (r : Result TheoremParser FaultKind) → c.defines ≡ true → c.expanded ≡ n → says_more f ≡ true → Alike known.theorems r (line_after known.theorems (Some (Stating h)) f)
-    → AlikeComing known (r >>= λ d. Ok (with_parser c d)) (line_after known.theorems (Some (Stating h)) f >>= λ o. still_defined n o)
+    → AlikePartial known (r >>= λ d. Ok (with_parser c d)) (line_after known.theorems (Some (Stating h)) f >>= λ o. still_defined n o)
 in_definition known c h f n r t e m a = by r (line_after known.theorems (Some (Stating h)) f) (λ o k. stating_after known.theorems h f o m k) a where
   by : (r : Result TheoremParser FaultKind) (q : Result Open FaultKind) → ((o : Open) → q ≡ Ok o → (g : Head) × (o ≡ Stating g)) → Alike known.theorems r q
-      → AlikeComing known (r >>= λ d. Ok (with_parser c d)) (q >>= λ o. still_defined n o)
+      → AlikePartial known (r >>= λ d. Ok (with_parser c d)) (q >>= λ o. still_defined n o)
   by (Ok d) (Ok o) s a =
       let g = s o refl in
       let st = stating_parser d d.section g.0 (a.0 ∙ g.1) in
       let still : still_defined n o ≡ Ok (InDefinition (head_of d) n) = ap (still_defined n) (sym a.0 ∙ head_there d d.section st) in
-      subst (λ (x : Result Coming FaultKind). AlikeComing known (Ok (with_parser c d)) x) (sym still) (
+      subst (λ (x : Result PartialItem FaultKind). AlikePartial known (Ok (with_parser c d)) x) (sym still) (
         ap (λ (b : Bool). said_by b d c.expanded) t ∙ definition_at d c.expanded d.section st ∙ ap (λ (k : ℕ). InDefinition (head_of d) k) e,
         subst (λ (b : Bool). TiedBy known.theorems b d) (sym t) (a.1.names, tied_body known.theorems d d.section st a.1.body),
       )
@@ -189,7 +189,7 @@ by_place false r = refl
 
 -- the last line of a definition
 ends_alike : (known : Known) (c : Held) (d : TheoremParser) (p : Section) → d.section ≡ p → c.defines ≡ true → FewNamed d.names → DefinitionTied p d → IsStating p
-    → AlikeComing known ((right_count (is_showing p) >>= λ right. Ok (record d { section = places.Done })) >>= λ x. Ok (with_parser c x)) (ends_definition (head_of d) rawlines.End)
+    → AlikePartial known ((right_count (is_showing p) >>= λ right. Ok (record d { section = places.Done })) >>= λ x. Ok (with_parser c x)) (ends_definition (head_of d) rawlines.End)
 ends_alike known c d places.Declaring at t few body s = let none : is_empty d.shown ≡ true = body.1.2 in rw none refl
 ends_alike known c d places.Giving at t few body s = let none : is_empty d.shown ≡ true = body.1.2 in rw none refl
 ends_alike known c d places.Making at t few body s = let none : is_empty d.shown ≡ true = body.1.1 in rw none refl
@@ -211,16 +211,16 @@ stating_shows known d raws = by_place (line_may_come d.section (rawlines.Show ra
 
 -- more is said in a definition
 more_said : (known : Known) (c : Held) (f : RawLine) → IsStating c.parser.section → c.defines ≡ true → says_more f ≡ true → FewNamed c.parser.names → DefinitionTied c.parser.section c.parser → HasItems f → defines_on c.parser f ≡ step known.theorems c.parser f
-    → AlikeComing known (defines_on c.parser f >>= λ x. Ok (with_parser c x)) (line_after known.theorems (Some (Stating (head_of c.parser))) f >>= λ o. still_defined c.expanded o)
+    → AlikePartial known (defines_on c.parser f >>= λ x. Ok (with_parser c x)) (line_after known.theorems (Some (Stating (head_of c.parser))) f >>= λ o. still_defined c.expanded o)
 more_said known c f st t m few body some is =
     let d = c.parser in
     let tied : Tied known.theorems d = record { names = few; body = body_tied known.theorems d d.section st body } in
     let alike = subst (λ (o : Open). Alike known.theorems (step known.theorems d f) (line_after known.theorems (Some o) f)) (head_there d d.section st) (step_alike known.theorems d f tied some) in
-    subst (λ (r : Result TheoremParser FaultKind). AlikeComing known (r >>= λ x. Ok (with_parser c x)) (line_after known.theorems (Some (Stating (head_of d))) f >>= λ o. still_defined c.expanded o)) (sym is)
+    subst (λ (r : Result TheoremParser FaultKind). AlikePartial known (r >>= λ x. Ok (with_parser c x)) (line_after known.theorems (Some (Stating (head_of d))) f >>= λ o. still_defined c.expanded o)) (sym is)
     (in_definition known c (head_of d) f c.expanded (step known.theorems d f) t refl m alike)
 
 plain_stating : (known : Known) (c : Held) (f : RawLine) → IsStating c.parser.section → c.defines ≡ true → FewNamed c.parser.names → DefinitionTied c.parser.section c.parser → HasItems f
-    → AlikeComing known (defines_on c.parser f >>= λ x. Ok (with_parser c x)) (plain_line known (InDefinition (head_of c.parser) c.expanded) f)
+    → AlikePartial known (defines_on c.parser f >>= λ x. Ok (with_parser c x)) (plain_line known (InDefinition (head_of c.parser) c.expanded) f)
 unfolding defines_on
 plain_stating known c (rawlines.Declare sort new) st t few body some = more_said known c (rawlines.Declare sort new) st t refl few body some (stating_declares known.theorems c.parser sort new)
 plain_stating known c (rawlines.Show raws) st t few body some = more_said known c (rawlines.Show raws) st t refl few body some (stating_shows known.theorems c.parser raws)
@@ -228,7 +228,7 @@ plain_stating known c rawlines.End st t few body some = ends_alike known c c.par
 plain_stating known c f st t few body some = refl
 
 -- after its last line nothing may come
-plain_done : (known : Known) (c : Held) (d : TheoremParser) (f : RawLine) → d.section ≡ places.Done → AlikeComing known (defines_on d f >>= λ x. Ok (with_parser c x)) (plain_line known (Defined (notion_of_parser d)) f)
+plain_done : (known : Known) (c : Held) (d : TheoremParser) (f : RawLine) → d.section ≡ places.Done → AlikePartial known (defines_on d f >>= λ x. Ok (with_parser c x)) (plain_line known (Defined (notion_of_parser d)) f)
 unfolding defines_on
 plain_done known c d (rawlines.Declare sort new) at = rw at refl
 plain_done known c d (rawlines.Show raws) at = rw at refl
@@ -236,13 +236,13 @@ plain_done known c d rawlines.End at = rw at refl
 plain_done known c d f at = refl
 
 at_stating : (known : Known) (c : Held) (p : Section) (f : RawLine) → c.parser.section ≡ p → IsStating p → c.defines ≡ true → FewNamed c.parser.names → DefinitionTied p c.parser → HasItems f
-    → AlikeComing known (defines_on c.parser f >>= λ x. Ok (with_parser c x)) (plain_line known (definition_there c.parser c.expanded p) f)
+    → AlikePartial known (defines_on c.parser f >>= λ x. Ok (with_parser c x)) (plain_line known (definition_there c.parser c.expanded p) f)
 at_stating known c p f at st t few body some =
-    subst (λ (x : Coming). AlikeComing known (defines_on c.parser f >>= λ x. Ok (with_parser c x)) (plain_line known x f)) (sym (definition_at c.parser c.expanded p st))
+    subst (λ (x : PartialItem). AlikePartial known (defines_on c.parser f >>= λ x. Ok (with_parser c x)) (plain_line known x f)) (sym (definition_at c.parser c.expanded p st))
     (plain_stating known c f (subst IsStating (sym at) st) t few (subst (λ (q : Section). DefinitionTied q c.parser) (sym at) body) some)
 
 plain_at : (known : Known) (c : Held) (p : Section) (f : RawLine) → c.parser.section ≡ p → c.defines ≡ true → FewNamed c.parser.names → DefinitionTied p c.parser → HasItems f
-    → AlikeComing known (defines_on c.parser f >>= λ x. Ok (with_parser c x)) (plain_line known (definition_there c.parser c.expanded p) f)
+    → AlikePartial known (defines_on c.parser f >>= λ x. Ok (with_parser c x)) (plain_line known (definition_there c.parser c.expanded p) f)
 plain_at known c places.Done f at t few body some = plain_done known c c.parser f at
 plain_at known c places.Declaring f at t few body some = at_stating known c places.Declaring f at tt t few body some
 plain_at known c places.Giving f at t few body some = at_stating known c places.Giving f at tt t few body some
@@ -253,11 +253,11 @@ plain_at known c places.Splitting f at t few body some = absurd body.0
 plain_at known c places.Closed f at t few body some = absurd body.0
 
 plain_by : (b : Bool) (known : Known) (c : Held) (f : RawLine) → c.defines ≡ b → TiedBy known.theorems b c.parser → HasItems f
-    → AlikeComing known (cond b (defines_on c.parser f >>= λ d. Ok (with_parser c d)) (step known.theorems c.parser f >>= λ d. Ok (with_parser c d))) (plain_line known (said_by b c.parser c.expanded) f)
+    → AlikePartial known (cond b (defines_on c.parser f >>= λ d. Ok (with_parser c d)) (step known.theorems c.parser f >>= λ d. Ok (with_parser c d))) (plain_line known (said_by b c.parser c.expanded) f)
 plain_by true known c f t tied some = plain_at known c c.parser.section f refl t tied.0 tied.1 some
 plain_by false known c f t tied some = in_theorem known c c.expanded (step known.theorems c.parser f) (line_after known.theorems (Some (open_of c.parser)) f) t refl (step_alike known.theorems c.parser f tied some)
 
-plain_alike : (known : Known) (c : Held) (f : RawLine) → TiedComing known c → HasItems f → AlikeComing known (goes_on known c f) (plain_line known (said_of c) f)
+plain_alike : (known : Known) (c : Held) (f : RawLine) → TiedPartial known c → HasItems f → AlikePartial known (goes_on known c f) (plain_line known (said_of c) f)
 unfolding goes_on
 plain_alike known c f tied some = plain_by c.defines known c f refl tied some
 
@@ -444,23 +444,23 @@ GoesOn c = (c.defines ≡ false) ⊎ IsStating c.parser.section
 abbrev add_count : ℕ → Held → Result Held FaultKind
 add_count k e = within (e.expanded + k) most_expanded limits.Expanded >>= λ few. Ok (record e { expanded = e.expanded + k })
 
-limit_by : (known : Known) (f : Held) (n : Coming) (a : ℕ) → AlikeComing known (Ok f) (Ok n) → AlikeComing known (within a most_expanded limits.Expanded >>= λ few. Ok f) (all_kept ((leb a most_expanded, limits.Expanded) ∷ []) >>= λ kept. Ok n)
+limit_by : (known : Known) (f : Held) (n : PartialItem) (a : ℕ) → AlikePartial known (Ok f) (Ok n) → AlikePartial known (within a most_expanded limits.Expanded >>= λ few. Ok f) (all_kept ((leb a most_expanded, limits.Expanded) ∷ []) >>= λ kept. Ok n)
 limit_by known f n a h =
-    by_test (λ (over under : Bool). AlikeComing known (cond over (Err (Limit limits.Expanded)) (read_ok tt) >>= λ few. Ok f) (all_kept ((under, limits.Expanded) ∷ []) >>= λ kept. Ok n)) a most_expanded refl (λ le. h)
+    by_test (λ (over under : Bool). AlikePartial known (cond over (Err (Limit limits.Expanded)) (read_ok tt) >>= λ few. Ok f) (all_kept ((under, limits.Expanded) ∷ []) >>= λ kept. Ok n)) a most_expanded refl (λ le. h)
 
-counted_by : (known : Known) (e : Held) (k : ℕ) (b : Bool) → e.defines ≡ b → GoesOn e → TiedBy known.theorems b e.parser → AlikeComing known (add_count k e) (counted k (said_by b e.parser e.expanded))
+counted_by : (known : Known) (e : Held) (k : ℕ) (b : Bool) → e.defines ≡ b → GoesOn e → TiedBy known.theorems b e.parser → AlikePartial known (add_count k e) (counted k (said_by b e.parser e.expanded))
 counted_by known e k false t on tied =
     limit_by known (record e { expanded = e.expanded + k }) (InTheorem (open_of e.parser) (e.expanded + k)) (e.expanded + k)
     (ap (λ (b : Bool). said_by b e.parser (e.expanded + k)) t, subst (λ (b : Bool). TiedBy known.theorems b e.parser) (sym t) tied)
 counted_by known e k true t (inl h) tied = absurd (let no : true ≡ false = sym t ∙ h in cc)
 counted_by known e k true t (inr st) tied =
     let is : said_by true e.parser e.expanded ≡ InDefinition (head_of e.parser) e.expanded = definition_at e.parser e.expanded e.parser.section st in
-    subst (λ (n : Coming). AlikeComing known (add_count k e) (counted k n)) (sym is)
+    subst (λ (n : PartialItem). AlikePartial known (add_count k e) (counted k n)) (sym is)
     (limit_by known (record e { expanded = e.expanded + k }) (InDefinition (head_of e.parser) (e.expanded + k)) (e.expanded + k)
     (ap (λ (b : Bool). said_by b e.parser (e.expanded + k)) t ∙ definition_at e.parser (e.expanded + k) e.parser.section st, subst (λ (b : Bool). TiedBy known.theorems b e.parser) (sym t) tied))
 
-then_counted : (known : Known) (k : ℕ) (r : Result Held FaultKind) (q : Result Coming FaultKind) → ((e : Held) → r ≡ Ok e → GoesOn e) → AlikeComing known r q → AlikeComing known (r >>= λ e. add_count k e) (q >>= λ n. counted k n)
-then_counted known k (Ok e) (Ok n) on a = subst (λ (x : Coming). AlikeComing known (add_count k e) (counted k x)) a.0 (counted_by known e k e.defines refl (on e refl) a.1)
+then_counted : (known : Known) (k : ℕ) (r : Result Held FaultKind) (q : Result PartialItem FaultKind) → ((e : Held) → r ≡ Ok e → GoesOn e) → AlikePartial known r q → AlikePartial known (r >>= λ e. add_count k e) (q >>= λ n. counted k n)
+then_counted known k (Ok e) (Ok n) on a = subst (λ (x : PartialItem). AlikePartial known (add_count k e) (counted k x)) a.0 (counted_by known e k e.defines refl (on e refl) a.1)
 then_counted known k (Err i) (Err j) on a = a
 then_counted known k (Ok e) (Err j) on a = absurd a
 then_counted known k (Err i) (Ok n) on a = absurd a
@@ -495,19 +495,19 @@ goes_on_stays known c e f show h = stays known c e c.defines f refl show h
 abbrev take_out : Known → Held → Listing → List RawItem → Result Held FaultKind
 take_out known c line is = line_written_out known.notions c.parser line is >>= λ w. goes_on known c w.0 >>= λ e. add_count w.1 e
 
-abbrev take_said : Known → Open → Coming → Listing → List RawItem → Result Coming FaultKind
+abbrev take_said : Known → Open → PartialItem → Listing → List RawItem → Result PartialItem FaultKind
 take_said known o n line is = written_out known o line is >>= λ w. plain_line known n w.0 >>= λ x. counted w.1 x
 
-listed_on : (known : Known) (c : Held) (o : Open) (line : Listing) (is : List RawItem) (n : Coming) → are_notions known.notions ≡ true → 0 < length is → TiedComing known c → said_of c ≡ n → (c.defines ≡ true → is_show line ≡ true)
-    → line_written_out known.notions c.parser line is ≡ written_out known o line is → AlikeComing known (take_out known c line is) (take_said known o n line is)
+listed_on : (known : Known) (c : Held) (o : Open) (line : Listing) (is : List RawItem) (n : PartialItem) → are_notions known.notions ≡ true → 0 < length is → TiedPartial known c → said_of c ≡ n → (c.defines ≡ true → is_show line ≡ true)
+    → line_written_out known.notions c.parser line is ≡ written_out known o line is → AlikePartial known (take_out known c line is) (take_said known o n line is)
 listed_on known c o line is n all some tied said show same =
-    subst (λ (r : Result (RawLine × ℕ) FaultKind). AlikeComing known (r >>= λ w. goes_on known c w.0 >>= λ e. add_count w.1 e) (take_said known o n line is)) (sym same)
+    subst (λ (r : Result (RawLine × ℕ) FaultKind). AlikePartial known (r >>= λ w. goes_on known c w.0 >>= λ e. add_count w.1 e) (take_said known o n line is)) (sym same)
     (both known (written_out known o line is) (λ w. goes_on known c w.0 >>= λ e. add_count w.1 e) (λ w. plain_line known n w.0 >>= λ x. counted w.1 x)
     (λ w q. then_counted known w.1 (goes_on known c w.0) (plain_line known n w.0) (λ e h. goes_on_stays known c e w.0 (λ t. out_shows known o line is w (show t) q) h)
-    (subst (λ (x : Coming). AlikeComing known (goes_on known c w.0) (plain_line known x w.0)) said (plain_alike known c w.0 tied (out_has known o line is w all some q)))))
+    (subst (λ (x : PartialItem). AlikePartial known (goes_on known c w.0) (plain_line known x w.0)) said (plain_alike known c w.0 tied (out_has known o line is w all some q)))))
 
 listed_stating : (known : Known) (c : Held) (line : Listing) (is : List RawItem) (s : Bool) → is_show line ≡ s → are_notions known.notions ≡ true → 0 < length is → IsStating c.parser.section → c.defines ≡ true → FewNamed c.parser.names → DefinitionTied c.parser.section c.parser
-    → AlikeComing known (right_count s >>= λ right. take_out known c line is) (cond s (take_said known (Stating (head_of c.parser)) (InDefinition (head_of c.parser) c.expanded) line is) (Err Malformed))
+    → AlikePartial known (right_count s >>= λ right. take_out known c line is) (cond s (take_said known (Stating (head_of c.parser)) (InDefinition (head_of c.parser) c.expanded) line is) (Err Malformed))
 listed_stating known c line is true show all some st t few body =
     let d = c.parser in
     let tied : Tied known.theorems d = record { names = few; body = body_tied known.theorems d d.section st body } in
@@ -523,18 +523,18 @@ not_ready known c listings.Show is at = rw at refl
 not_ready known c listings.Claim is at = rw at refl
 not_ready known c (listings.Superpose args new) is at = rw at refl
 
-listed_done : (known : Known) (c : Held) (line : Listing) (is : List RawItem) (s : Bool) → c.parser.section ≡ places.Done → AlikeComing known (right_count s >>= λ right. take_out known c line is) (Err Malformed)
+listed_done : (known : Known) (c : Held) (line : Listing) (is : List RawItem) (s : Bool) → c.parser.section ≡ places.Done → AlikePartial known (right_count s >>= λ right. take_out known c line is) (Err Malformed)
 listed_done known c line is false at = refl
-listed_done known c line is true at = subst (λ (r : Result Held FaultKind). AlikeComing known r (Err Malformed)) (sym (not_ready known c line is at)) refl
+listed_done known c line is true at = subst (λ (r : Result Held FaultKind). AlikePartial known r (Err Malformed)) (sym (not_ready known c line is at)) refl
 
 listed_there : (known : Known) (c : Held) (p : Section) (line : Listing) (is : List RawItem) → c.parser.section ≡ p → IsStating p → are_notions known.notions ≡ true → 0 < length is → c.defines ≡ true → FewNamed c.parser.names → DefinitionTied p c.parser
-    → AlikeComing known (right_count (is_show line) >>= λ right. take_out known c line is) (after_listed_line known (definition_there c.parser c.expanded p) line is)
+    → AlikePartial known (right_count (is_show line) >>= λ right. take_out known c line is) (after_listed_line known (definition_there c.parser c.expanded p) line is)
 listed_there known c p line is at st all some t few body =
-    subst (λ (x : Coming). AlikeComing known (right_count (is_show line) >>= λ right. take_out known c line is) (after_listed_line known x line is)) (sym (definition_at c.parser c.expanded p st))
+    subst (λ (x : PartialItem). AlikePartial known (right_count (is_show line) >>= λ right. take_out known c line is) (after_listed_line known x line is)) (sym (definition_at c.parser c.expanded p st))
     (listed_stating known c line is (is_show line) refl all some (subst IsStating (sym at) st) t few (subst (λ (q : Section). DefinitionTied q c.parser) (sym at) body))
 
 listed_at : (known : Known) (c : Held) (p : Section) (line : Listing) (is : List RawItem) → c.parser.section ≡ p → are_notions known.notions ≡ true → 0 < length is → c.defines ≡ true → FewNamed c.parser.names → DefinitionTied p c.parser
-    → AlikeComing known (right_count (is_show line) >>= λ right. take_out known c line is) (after_listed_line known (definition_there c.parser c.expanded p) line is)
+    → AlikePartial known (right_count (is_show line) >>= λ right. take_out known c line is) (after_listed_line known (definition_there c.parser c.expanded p) line is)
 listed_at known c places.Done line is at all some t few body = listed_done known c line is (is_show line) at
 listed_at known c places.Declaring line is at all some t few body = listed_there known c places.Declaring line is at tt all some t few body
 listed_at known c places.Giving line is at all some t few body = listed_there known c places.Giving line is at tt all some t few body
@@ -545,35 +545,35 @@ listed_at known c places.Splitting line is at all some t few body = absurd body.
 listed_at known c places.Closed line is at all some t few body = absurd body.0
 
 listed_by : (b : Bool) (known : Known) (c : Held) (line : Listing) (is : List RawItem) → c.defines ≡ b → are_notions known.notions ≡ true → 0 < length is → TiedBy known.theorems b c.parser
-    → AlikeComing known (right_count (not b || is_show line) >>= λ right. take_out known c line is) (after_listed_line known (said_by b c.parser c.expanded) line is)
+    → AlikePartial known (right_count (not b || is_show line) >>= λ right. take_out known c line is) (after_listed_line known (said_by b c.parser c.expanded) line is)
 listed_by true known c line is t all some tied = listed_at known c c.parser.section line is refl all some t tied.0 tied.1
 listed_by false known c line is t all some tied =
     listed_on known c (open_of c.parser) line is (InTheorem (open_of c.parser) c.expanded) all some (subst (λ (b : Bool). TiedBy known.theorems b c.parser) (sym t) tied) (ap (λ (b : Bool). said_by b c.parser c.expanded) t)
     (λ h. absurd (let no : true ≡ false = sym h ∙ t in cc)) (written_alike known c.parser line is tied)
 
-listed_alike : (known : Known) (c : Held) (line : Listing) (is : List RawItem) → are_notions known.notions ≡ true → 0 < length is → TiedComing known c → AlikeComing known (lists known c line is) (after_listed_line known (said_of c) line is)
+listed_alike : (known : Known) (c : Held) (line : Listing) (is : List RawItem) → are_notions known.notions ≡ true → 0 < length is → TiedPartial known c → AlikePartial known (lists known c line is) (after_listed_line known (said_of c) line is)
 unfolding lists
 listed_alike known c line is all some tied = listed_by c.defines known c line is refl all some tied
 
 -- ---- each line
 
-next_alike : (known : Known) (c : Held) (words : List (List ℕ)) (l : BookLine) → are_notions known.notions ≡ true → TiedComing known c → LineSaid words l → AlikeComing known (machine.step known c l) (next_line known (said_of c) l)
+next_alike : (known : Known) (c : Held) (words : List (List ℕ)) (l : BookLine) → are_notions known.notions ≡ true → TiedPartial known c → LineSaid words l → AlikePartial known (machine.step known c l) (next_line known (said_of c) l)
 unfolding machine.step
 next_alike known c words (Plain f) all tied said = plain_alike known c f tied (items_read words f said)
 next_alike known c words (Define t) all tied said = refl
 next_alike known c words (Listed line is) all tied said = listed_alike known c line is all said.1 tied
 
 -- the first line
-taken_or : (known : Known) (b : Bool) (r : Result Held FaultKind) (q : Result Coming FaultKind) → AlikeComing known r q → AlikeComing known (cond b (Err NameTaken) r) (cond b (Err NameTaken) q)
+taken_or : (known : Known) (b : Bool) (r : Result Held FaultKind) (q : Result PartialItem FaultKind) → AlikePartial known r q → AlikePartial known (cond b (Err NameTaken) r) (cond b (Err NameTaken) q)
 taken_or known true r q a = refl
 taken_or known false r q a = a
 
-first_theorem : (known : Known) (f : RawLine) → AlikeComing known (begins_theorem known f) (after_first_line known (Plain f))
+first_theorem : (known : Known) (f : RawLine) → AlikePartial known (begins_theorem known f) (after_first_line known (Plain f))
 unfolding begins_theorem
 first_theorem known f =
-    taken_or known (has_notion_title known.notions f) (begin known.theorems f >>= λ d. Ok (coming false d)) (begins known.theorems f >>= λ o. Ok (InTheorem o 0)) (begun_by (begin known.theorems f) (begins known.theorems f) (begin_alike known.theorems f))
+    taken_or known (has_notion_title known.notions f) (begin known.theorems f >>= λ d. Ok (partial_item false d)) (begins known.theorems f >>= λ o. Ok (InTheorem o 0)) (begun_by (begin known.theorems f) (begins known.theorems f) (begin_alike known.theorems f))
   where
-    begun_by : (r : Result TheoremParser FaultKind) (q : Result Open FaultKind) → Alike known.theorems r q → AlikeComing known (r >>= λ d. Ok (coming false d)) (q >>= λ o. Ok (InTheorem o 0))
+    begun_by : (r : Result TheoremParser FaultKind) (q : Result Open FaultKind) → Alike known.theorems r q → AlikePartial known (r >>= λ d. Ok (partial_item false d)) (q >>= λ o. Ok (InTheorem o 0))
     begun_by (Ok d) (Ok o) a = (ap (λ (x : Open). InTheorem x 0) a.0, a.1)
     begun_by (Err j) (Err k) a = a
     begun_by (Ok d) (Err k) a = absurd a
@@ -583,16 +583,16 @@ nothing_tied : (t : List ℕ) → FewNamed (with_title t).names × DefinitionTie
 nothing_tied t =
     (record { points = omega arith; lines = omega arith; circles = omega arith }, (tt, (refl, refl, refl), record { steps = refl; blocks = refl; lines = refl; facts = refl; terms = refl; few_facts = omega arith; few_terms = omega arith }))
 
-first_definition : (known : Known) (t : List ℕ) → AlikeComing known (begins_definition known t) (after_first_line known (Define t))
+first_definition : (known : Known) (t : List ℕ) → AlikePartial known (begins_definition known t) (after_first_line known (Define t))
 unfolding begins_definition
 first_definition known t =
-    let f : Held = coming true (with_title t) in
+    let f : Held = partial_item true (with_title t) in
     let n = InDefinition (empty_head t) 0 in
     taken_or known (is_taken known t) (within (length known.notions + 1) most_notions limits.Notions >>= λ few. Ok f) (all_kept ((leb (length known.notions + 1) most_notions, limits.Notions) ∷ []) >>= λ kept. Ok n)
-    (by_test (λ (over under : Bool). AlikeComing known (cond over (Err (Limit limits.Notions)) (read_ok tt) >>= λ few. Ok f) (all_kept ((under, limits.Notions) ∷ []) >>= λ kept. Ok n)) (length known.notions + 1) most_notions refl
+    (by_test (λ (over under : Bool). AlikePartial known (cond over (Err (Limit limits.Notions)) (read_ok tt) >>= λ few. Ok f) (all_kept ((under, limits.Notions) ∷ []) >>= λ kept. Ok n)) (length known.notions + 1) most_notions refl
     (λ le. (refl, nothing_tied t)))
 
-first_alike : (known : Known) (l : BookLine) → AlikeComing known (machine.begins known l) (after_first_line known l)
+first_alike : (known : Known) (l : BookLine) → AlikePartial known (machine.begins known l) (after_first_line known l)
 unfolding machine.begins
 first_alike known (Plain f) = first_theorem known f
 first_alike known (Define t) = first_definition known t
@@ -600,15 +600,15 @@ first_alike known (Listed line is) = refl
 
 -- ---- a line by its words
 
-abbrev pub said : Option Held → Option Coming
+abbrev pub said : Option Held → Option PartialItem
 said None = None
 said (Some c) = Some (said_of c)
 
 abbrev pub TiedSoFar : Known → Option Held → Type 0
 TiedSoFar known None = Unit {0}
-TiedSoFar known (Some c) = TiedComing known c
+TiedSoFar known (Some c) = TiedPartial known c
 
-words_alike : (known : Known) (o : Option Held) (words : List (List ℕ)) → are_notions known.notions ≡ true → TiedSoFar known o → AlikeComing known (line_step known o words) (coming_after_words known (said o) words)
+words_alike : (known : Known) (o : Option Held) (words : List (List ℕ)) → are_notions known.notions ≡ true → TiedSoFar known o → AlikePartial known (line_step known o words) (item_after_words known (said o) words)
 unfolding line_step
 words_alike known None words all t = both known (book_line_of words) (λ l. machine.begins known l) (λ l. after_first_line known l) (λ l e. first_alike known l)
 words_alike known (Some c) words all t = both known (book_line_of words) (λ l. machine.step known c l) (λ l. next_line known (said_of c) l) (λ l e. next_alike known c words l all t (line_read_as words l e))
@@ -634,18 +634,18 @@ definition_ends : (d : TheoremParser) (n : ℕ) (p : Section) (lines : Rest) (x 
 definition_ends d n places.Done lines x y e = refl
 definition_ends d n p lines x y e = e
 
-coming_ends : (b : Bool) (d : TheoremParser) (n : ℕ) (lines : Rest) (x y : Answer) → x ≡ y
+partial_ends : (b : Bool) (d : TheoremParser) (n : ℕ) (lines : Rest) (x y : Answer) → x ≡ y
     → cond (is_last d.section) (found (cond b (OfNotion (notion_of_parser d)) (OfTheorem (entry_of_parser d))) lines) x ≡ whole_or (whole (said_by b d n)) lines y
-coming_ends true d n lines x y e = definition_ends d n d.section lines x y e
-coming_ends false d n lines x y e = theorem_ends d n d.section lines x y e
+partial_ends true d n lines x y e = definition_ends d n d.section lines x y e
+partial_ends false d n lines x y e = theorem_ends d n d.section lines x y e
 
-after_alike : (known : Known) (last number : ℕ) (lines : Rest) (r : Result Held FaultKind) (q : Result Coming FaultKind) → AlikeComing known r q
-    → ((e : Held) → TiedComing known e → machine.item_from known last (Some e) lines ≡ item_from known last (Some (said_of e)) lines)
-    → (put_at number r >>= λ c. cond (machine.is_done c) (found (item_of_coming c) lines) (machine.item_from known last (Some c) lines))
+after_alike : (known : Known) (last number : ℕ) (lines : Rest) (r : Result Held FaultKind) (q : Result PartialItem FaultKind) → AlikePartial known r q
+    → ((e : Held) → TiedPartial known e → machine.item_from known last (Some e) lines ≡ item_from known last (Some (said_of e)) lines)
+    → (put_at number r >>= λ c. cond (machine.is_done c) (found (item_of_partial c) lines) (machine.item_from known last (Some c) lines))
     ≡ (put_at number q >>= λ n. whole_or (whole n) lines (item_from known last (Some n) lines))
 after_alike known last number lines (Ok e) (Ok n) a more =
-    coming_ends e.defines e.parser e.expanded lines (machine.item_from known last (Some e) lines) (item_from known last (Some (said_of e)) lines) (more e a.1)
-    ∙ ap (λ (x : Coming). whole_or (whole x) lines (item_from known last (Some x) lines)) a.0
+    partial_ends e.defines e.parser e.expanded lines (machine.item_from known last (Some e) lines) (item_from known last (Some (said_of e)) lines) (more e a.1)
+    ∙ ap (λ (x : PartialItem). whole_or (whole x) lines (item_from known last (Some x) lines)) a.0
 after_alike known last number lines (Err j) (Err k) a more = ap (λ (x : FaultKind). wrong_at number x) a
 after_alike known last number lines (Ok e) (Err k) a more = absurd a
 after_alike known last number lines (Err j) (Ok n) a more = absurd a
@@ -658,18 +658,18 @@ read_alike known last (Some c) (Err f ∷ lines) all t = refl
 read_alike known last None (Ok line ∷ lines) all t =
     let words = tokens_of line.bytes in
     in_case (is_skipped words) (machine.item_from known last None lines)
-    (put_at line.number (line_step known None words) >>= λ c. cond (machine.is_done c) (found (item_of_coming c) lines) (machine.item_from known last (Some c) lines))
-    (item_from known last None lines) (put_at line.number (coming_after_words known None words) >>= λ n. whole_or (whole n) lines (item_from known last (Some n) lines))
+    (put_at line.number (line_step known None words) >>= λ c. cond (machine.is_done c) (found (item_of_partial c) lines) (machine.item_from known last (Some c) lines))
+    (item_from known last None lines) (put_at line.number (item_after_words known None words) >>= λ n. whole_or (whole n) lines (item_from known last (Some n) lines))
     (read_alike known last None lines all t)
-    (after_alike known last line.number lines (line_step known None words) (coming_after_words known None words) (words_alike known None words all t) (λ e u. read_alike known last (Some e) lines all u))
+    (after_alike known last line.number lines (line_step known None words) (item_after_words known None words) (words_alike known None words all t) (λ e u. read_alike known last (Some e) lines all u))
 read_alike known last (Some c) (Ok line ∷ lines) all t =
     let words = tokens_of line.bytes in
-    let n : Coming = said_of c in
+    let n : PartialItem = said_of c in
     in_case (is_skipped words) (machine.item_from known last (Some c) lines)
-    (put_at line.number (line_step known (Some c) words) >>= λ x. cond (machine.is_done x) (found (item_of_coming x) lines) (machine.item_from known last (Some x) lines))
-    (item_from known last (Some n) lines) (put_at line.number (coming_after_words known (Some n) words) >>= λ x. whole_or (whole x) lines (item_from known last (Some x) lines))
+    (put_at line.number (line_step known (Some c) words) >>= λ x. cond (machine.is_done x) (found (item_of_partial x) lines) (machine.item_from known last (Some x) lines))
+    (item_from known last (Some n) lines) (put_at line.number (item_after_words known (Some n) words) >>= λ x. whole_or (whole x) lines (item_from known last (Some x) lines))
     (read_alike known last (Some c) lines all t)
-    (after_alike known last line.number lines (line_step known (Some c) words) (coming_after_words known (Some n) words) (words_alike known (Some c) words all t) (λ e u. read_alike known last (Some e) lines all u))
+    (after_alike known last line.number lines (line_step known (Some c) words) (item_after_words known (Some n) words) (words_alike known (Some c) words all t) (λ e u. read_alike known last (Some e) lines all u))
 
 pub items_read_alike : (known : Known) (last : ℕ) (lines : Rest) → are_notions known.notions ≡ true → machine.item_from known last None lines ≡ item_from known last None lines
 items_read_alike known last lines all = read_alike known last None lines all tt

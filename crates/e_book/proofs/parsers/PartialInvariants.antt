@@ -29,7 +29,7 @@ use Rattle.e_names.specs.declared.known.Known.{Known}
 use Rattle.e_book.specs.declared.parser.Section.{Section}
 use Rattle.e_book.specs.declared.parser.Section.TheVariants as places
 use Rattle.e_book.specs.declared.parser.TheoremParser.{TheoremParser}
-use Rattle.e_book.specs.declared.coming.Coming.{Coming}
+use Rattle.e_book.specs.declared.partial_item.PartialItem.{PartialItem}
 use Rattle.e_line.specs.Reading.{◌>>=◌, with_front}
 use Rattle.e_names.specs.TitledStatements.{TitledStatement, is_known}
 use Rattle.e_names.specs.Taken.{is_taken}
@@ -46,12 +46,12 @@ use Rattle.e_names.specs.Meanings.{items_in}
 use Rattle.e_book.specs.Grammar.{Rest, is_skipped, put_at}
 use Rattle.e_book.specs.Definitions.{BookItem, OfTheorem, OfNotion, Answer, has_notion_title, IsWellFormedItem}
 use Rattle.e_book.specs.inner.Machine as machine
-use Rattle.e_book.specs.inner.Machine.{names_there, is_ready, line_written_out, coming, begins_theorem, begins_definition, is_showing, defines_on, with_parser, goes_on, lists, line_step, notion_of_parser, item_of_coming, item_from, is_done}
+use Rattle.e_book.specs.inner.Machine.{names_there, is_ready, line_written_out, partial_item, begins_theorem, begins_definition, is_showing, defines_on, with_parser, goes_on, lists, line_step, notion_of_parser, item_of_partial, item_from, is_done}
 use Rattle.e_line.proofs.base.Bound.{bind_ok, ok_is, read_ok, each_length}
 use Rattle.e_names.proofs.titles.FreshTitles.{neither, was_free}
 use Rattle.e_book.proofs.parsers.ParserFits.{HeadOf, Body, Good}
 use Rattle.e_book.proofs.grammar.StatementLines.{IsStating}
-use Rattle.e_book.proofs.grammar.ComingTied.{stating_declares, stating_shows}
+use Rattle.e_book.proofs.grammar.PartialTied.{stating_declares, stating_shows}
 use Rattle.e_names.proofs.read_lines.Citations.{counted}
 use Rattle.e_book.proofs.parsers.ParserInvariants.{keeps, keeps_begin, good_begun}
 use Rattle.e_book.proofs.fit_theorems.ReadSpelled.{Spelled, spelled_next, spelled_begin, done_spelled}
@@ -91,8 +91,8 @@ abbrev GoodBy : Known → Bool → TheoremParser → Type 0
 GoodBy known true d = GoodDefinition known d
 GoodBy known false d = GoodTheorem known d
 
-abbrev GoodComing : Known → Coming → Type 0
-GoodComing known c = GoodBy known c.defines c.parser
+abbrev GoodPartial : Known → PartialItem → Type 0
+GoodPartial known c = GoodBy known c.defines c.parser
 
 -- ---- a line of a theorem
 
@@ -189,16 +189,16 @@ definition_on known d e f g s h = absurd cc
 
 -- ---- a line without items
 
-plain_by : (b : Bool) (known : Known) (c e : Coming) (f : RawLine) → c.defines ≡ b → GoodBy known b c.parser → Said f
-    → cond b (defines_on c.parser f >>= λ d. Ok (with_parser c d)) (step known.theorems c.parser f >>= λ d. Ok (with_parser c d)) ≡ Ok e → GoodComing known e
+plain_by : (b : Bool) (known : Known) (c e : PartialItem) (f : RawLine) → c.defines ≡ b → GoodBy known b c.parser → Said f
+    → cond b (defines_on c.parser f >>= λ d. Ok (with_parser c d)) (step known.theorems c.parser f >>= λ d. Ok (with_parser c d)) ≡ Ok e → GoodPartial known e
 plain_by true known c e f t g s h =
     let d = bind_ok (defines_on c.parser f) (λ d. read_ok (with_parser c d)) e h in
-    subst (λ (x : Coming). GoodComing known x) (ok_is (with_parser c d.0) e d.2) (subst (λ (b : Bool). GoodBy known b d.0) (sym t) (definition_on known c.parser d.0 f g s d.1))
+    subst (λ (x : PartialItem). GoodPartial known x) (ok_is (with_parser c d.0) e d.2) (subst (λ (b : Bool). GoodBy known b d.0) (sym t) (definition_on known c.parser d.0 f g s d.1))
 plain_by false known c e f t g s h =
     let d = bind_ok (step known.theorems c.parser f) (λ d. read_ok (with_parser c d)) e h in
-    subst (λ (x : Coming). GoodComing known x) (ok_is (with_parser c d.0) e d.2) (subst (λ (b : Bool). GoodBy known b d.0) (sym t) (theorem_on known c.parser d.0 f g s d.1))
+    subst (λ (x : PartialItem). GoodPartial known x) (ok_is (with_parser c d.0) e d.2) (subst (λ (b : Bool). GoodBy known b d.0) (sym t) (theorem_on known c.parser d.0 f g s d.1))
 
-plain_kept : (known : Known) (c e : Coming) (f : RawLine) → GoodComing known c → Said f → goes_on known c f ≡ Ok e → GoodComing known e
+plain_kept : (known : Known) (c e : PartialItem) (f : RawLine) → GoodPartial known c → Said f → goes_on known c f ≡ Ok e → GoodPartial known e
 unfolding goes_on
 plain_kept known c e f g s h = plain_by c.defines known c e f refl g s h
 
@@ -220,20 +220,20 @@ out_said known d line is w all head some said e =
     raw_line_of listings.Claim raws h n s = (n, s)
     raw_line_of (listings.Superpose args new) raws h n s = (h.0, h.1, n, s)
 
-listed_kept : (known : Known) (c e : Coming) (line : Listing) (is : List RawItem) → are_notions known.notions ≡ true → GoodComing known c → ListingSaid line → 0 < length is → ItemsSaid is → lists known c line is ≡ Ok e → GoodComing known e
+listed_kept : (known : Known) (c e : PartialItem) (line : Listing) (is : List RawItem) → are_notions known.notions ≡ true → GoodPartial known c → ListingSaid line → 0 < length is → ItemsSaid is → lists known c line is ≡ Ok e → GoodPartial known e
 unfolding lists
 listed_kept known c e line is all g head some said h =
-    let add : (RawLine × ℕ) → Coming → Result Coming FaultKind = λ w x. within (x.expanded + w.1) most_expanded limits.Expanded >>= λ few. read_ok (record x { expanded = x.expanded + w.1 }) in
+    let add : (RawLine × ℕ) → PartialItem → Result PartialItem FaultKind = λ w x. within (x.expanded + w.1) most_expanded limits.Expanded >>= λ few. read_ok (record x { expanded = x.expanded + w.1 }) in
     let r = bind_ok (right_count (not c.defines || is_show line)) (λ right. line_written_out known.notions c.parser line is >>= λ w. goes_on known c w.0 >>= λ x. add w x) e h in
     let w = bind_ok (line_written_out known.notions c.parser line is) (λ w. goes_on known c w.0 >>= λ x. add w x) e r.2 in
     let x = bind_ok (goes_on known c w.0.0) (λ x. add w.0 x) e w.2 in
     let f = bind_ok (within (x.0.expanded + w.0.1) most_expanded limits.Expanded) (λ few. read_ok (record x.0 { expanded = x.0.expanded + w.0.1 })) e x.2 in
-    subst (λ (y : Coming). GoodComing known y) (ok_is (record x.0 { expanded = x.0.expanded + w.0.1 }) e f.2)
+    subst (λ (y : PartialItem). GoodPartial known y) (ok_is (record x.0 { expanded = x.0.expanded + w.0.1 }) e f.2)
     (plain_kept known c x.0 w.0.0 g (out_said known c.parser line is w.0 all head some said w.1) x.1)
 
 -- ---- each line
 
-next_kept : (known : Known) (c e : Coming) (words : List (List ℕ)) (l : BookLine) → are_notions known.notions ≡ true → GoodComing known c → LineSaid words l → machine.step known c l ≡ Ok e → GoodComing known e
+next_kept : (known : Known) (c e : PartialItem) (words : List (List ℕ)) (l : BookLine) → are_notions known.notions ≡ true → GoodPartial known c → LineSaid words l → machine.step known c l ≡ Ok e → GoodPartial known e
 unfolding machine.step
 next_kept known c e words (Plain f) all g said h = plain_kept known c e f g (form_said words f said) h
 next_kept known c e words (Define t) all g said h = absurd cc
@@ -244,33 +244,33 @@ unfolding begin
 free_title known (rawlines.Theorem t) d n b = ap (λ (x : List ℕ). defines known.notions x) (title_begun known.theorems t d b) ∙ n
 free_title known f d n b = absurd cc
 
-first_theorem : (known : Known) (e : Coming) (f : RawLine) → Said f → begins_theorem known f ≡ Ok e → GoodComing known e
+first_theorem : (known : Known) (e : PartialItem) (f : RawLine) → Said f → begins_theorem known f ≡ Ok e → GoodPartial known e
 unfolding begins_theorem
 first_theorem known e f s h =
-    let n = was_free (has_notion_title known.notions f) (begin known.theorems f >>= λ d. Ok (coming false d)) e h in
-    let d = bind_ok (begin known.theorems f) (λ d. read_ok (coming false d)) e n.1 in
-    subst (λ (x : Coming). GoodComing known x) (ok_is (coming false d.0) e d.2)
+    let n = was_free (has_notion_title known.notions f) (begin known.theorems f >>= λ d. Ok (partial_item false d)) e h in
+    let d = bind_ok (begin known.theorems f) (λ d. read_ok (partial_item false d)) e n.1 in
+    subst (λ (x : PartialItem). GoodPartial known x) (ok_is (partial_item false d.0) e d.2)
     (record { good = keeps_begin known.theorems f d.0 d.1; spelled = spelled_begin known.theorems f d.0 s d.1; title = free_title known f d.0 n.0 d.1 })
 
-first_definition : (known : Known) (e : Coming) (t : List ℕ) → begins_definition known t ≡ Ok e → GoodComing known e
+first_definition : (known : Known) (e : PartialItem) (t : List ℕ) → begins_definition known t ≡ Ok e → GoodPartial known e
 unfolding begins_definition
 first_definition known e t h =
-    let n = was_free (is_taken known t) (within (length known.notions + 1) most_notions limits.Notions >>= λ few. read_ok (coming true (with_title t))) e h in
-    let w = bind_ok (within (length known.notions + 1) most_notions limits.Notions) (λ few. read_ok (coming true (with_title t))) e n.1 in
+    let n = was_free (is_taken known t) (within (length known.notions + 1) most_notions limits.Notions >>= λ few. read_ok (partial_item true (with_title t))) e h in
+    let w = bind_ok (within (length known.notions + 1) most_notions limits.Notions) (λ few. read_ok (partial_item true (with_title t))) e n.1 in
     let good = good_begun known.theorems t (neither (is_known known.theorems t) (defines known.notions t) n.0).0 in
-    subst (λ (x : Coming). GoodComing known x) (ok_is (coming true (with_title t)) e w.2) (record { title = n.0; head = good.head; made = refl; states = (tt, good.body); means = tt })
+    subst (λ (x : PartialItem). GoodPartial known x) (ok_is (partial_item true (with_title t)) e w.2) (record { title = n.0; head = good.head; made = refl; states = (tt, good.body); means = tt })
 
-first_kept : (known : Known) (e : Coming) (words : List (List ℕ)) (l : BookLine) → LineSaid words l → machine.begins known l ≡ Ok e → GoodComing known e
+first_kept : (known : Known) (e : PartialItem) (words : List (List ℕ)) (l : BookLine) → LineSaid words l → machine.begins known l ≡ Ok e → GoodPartial known e
 unfolding machine.begins
 first_kept known e words (Plain f) said h = first_theorem known e f (form_said words f said) h
 first_kept known e words (Define t) said h = first_definition known e t h
 first_kept known e words (Listed line is) said h = absurd cc
 
-abbrev GoodSoFar : Known → Option Coming → Type 0
+abbrev GoodSoFar : Known → Option PartialItem → Type 0
 GoodSoFar known None = Unit {0}
-GoodSoFar known (Some c) = GoodComing known c
+GoodSoFar known (Some c) = GoodPartial known c
 
-line_kept : (known : Known) (o : Option Coming) (words : List (List ℕ)) (e : Coming) → are_notions known.notions ≡ true → GoodSoFar known o → line_step known o words ≡ Ok e → GoodComing known e
+line_kept : (known : Known) (o : Option PartialItem) (words : List (List ℕ)) (e : PartialItem) → are_notions known.notions ≡ true → GoodSoFar known o → line_step known o words ≡ Ok e → GoodPartial known e
 unfolding line_step
 line_kept known None words e all g h = let l = bind_ok (book_line_of words) (λ l. machine.begins known l) e h in first_kept known e words l.0 (line_read_as words l.0 l.1) l.2
 line_kept known (Some c) words e all g h = let l = bind_ok (book_line_of words) (λ l. machine.step known c l) e h in next_kept known c e words l.0 all g (line_read_as words l.0 l.1) l.2
@@ -307,7 +307,7 @@ whole_by : (b : Bool) (known : Known) (d : TheoremParser) → GoodBy known b d �
 whole_by true known d g a = definition_good known d g a
 whole_by false known d g a = (done_spelled known.theorems d g.good g.spelled a, g.title)
 
-whole_good : (known : Known) (c : Coming) → GoodComing known c → is_done c ≡ true → IsWellFormedItem known (item_of_coming c)
+whole_good : (known : Known) (c : PartialItem) → GoodPartial known c → is_done c ≡ true → IsWellFormedItem known (item_of_partial c)
 whole_good known c g a = whole_by c.defines known c.parser g a
 
 -- ---- all lines
@@ -324,25 +324,25 @@ either_read : (b : Bool) (x y z : Answer) → cond b x y ≡ z → ((b ≡ true)
 either_read true x y z e = inl (refl, e)
 either_read false x y z e = inr (refl, e)
 
-put_ok : (n : ℕ) (r : Result Coming FaultKind) (c : Coming) → put_at n r ≡ Ok c → r ≡ Ok c
+put_ok : (n : ℕ) (r : Result PartialItem FaultKind) (c : PartialItem) → put_at n r ≡ Ok c → r ≡ Ok c
 put_ok n (Ok x) c e = cc
 put_ok n (Err k) c e = absurd cc
 
-reading_good : (known : Known) (last : ℕ) (o : Option Coming) (lines rest : Rest) (i : BookItem) → are_notions known.notions ≡ true → GoodSoFar known o → item_from known last o lines ≡ found i rest → IsWellFormedItem known i
+reading_good : (known : Known) (last : ℕ) (o : Option PartialItem) (lines rest : Rest) (i : BookItem) → are_notions known.notions ≡ true → GoodSoFar known o → item_from known last o lines ≡ found i rest → IsWellFormedItem known i
 reading_good known last None [] rest i all g e = absurd cc
 reading_good known last (Some c) [] rest i all g e = absurd cc
 reading_good known last o (Err f ∷ lines) rest i all g e = absurd cc
 reading_good known last o (Ok line ∷ lines) rest i all g e =
     let words = tokens_of line.bytes in
-    let next : Result Coming BookFault = put_at line.number (line_step known o words) in
-    let then : Coming → Answer = λ c. cond (is_done c) (found (item_of_coming c) lines) (item_from known last (Some c) lines) in
+    let next : Result PartialItem BookFault = put_at line.number (line_step known o words) in
+    let then : PartialItem → Answer = λ c. cond (is_done c) (found (item_of_partial c) lines) (item_from known last (Some c) lines) in
     elim (either_read (is_skipped words) (item_from known last o lines) (next >>= then) (found i rest) e) [
       | inl s ↦ reading_good known last o lines rest i all g s.1
       | inr s ↦
           let c = bind_ok next then (Some (i, rest)) s.1 in
           let good = line_kept known o words c.0 all g (put_ok line.number (line_step known o words) c.0 c.1) in
-          elim (either_read (is_done c.0) (found (item_of_coming c.0) lines) (item_from known last (Some c.0) lines) (found i rest) c.2) [
-            | inl q ↦ subst (λ (x : BookItem). IsWellFormedItem known x) (same_item (item_of_coming c.0) i lines rest q.1) (whole_good known c.0 good q.0)
+          elim (either_read (is_done c.0) (found (item_of_partial c.0) lines) (item_from known last (Some c.0) lines) (found i rest) c.2) [
+            | inl q ↦ subst (λ (x : BookItem). IsWellFormedItem known x) (same_item (item_of_partial c.0) i lines rest q.1) (whole_good known c.0 good q.0)
             | inr q ↦ reading_good known last (Some c.0) lines rest i all good q.1
           ]
     ]

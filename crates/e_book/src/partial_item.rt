@@ -1,21 +1,22 @@
 //! A theorem or a definition while its lines come.
-ghost use Rattle.std.specs.Prelude.{◌≡◌, ◌≤◌, ◌+◌, [], IfOk, OnOk, IsTrue};
-ghost use Rattle.e_line.specs.Reading.{Gives, Moves};
+ghost use Rattle.std.specs.Prelude.{◌≡◌, ◌≤◌, ◌+◌, [], None, Some, IfOk, OnOk, IsTrue};
+ghost use Rattle.e_line.specs.Reading.{texts, Gives, Moves};
 ghost use Rattle.e_line.specs.Limits.{most_expanded};
 ghost use Rattle.e_names.specs.Titled.{are_notions};
 ghost use Rattle.e_line.specs.Items.{listing_raw_line, raw_superpose_line, is_show};
 ghost use Rattle.e_names.specs.Scope.{right_count};
 ghost use Rattle.e_book.specs.Definitions.{has_notion_title, OfNotion, view_of};
 ghost use Rattle.e_book.specs.Steps.{line_may_come, FitsScope};
-ghost use Rattle.e_book.specs.inner.Machine.{FitsComing, is_ready, line_written_out, begins};
-ghost use Rattle.e_book.specs.inner.Machine.{begins_theorem, begins_definition, step, goes_on};
-ghost use Rattle.e_book.specs.inner.Machine.{defines_on, lists, item_of_coming, notion_of_parser};
+ghost use Rattle.e_book.specs.inner.Machine.{FitsPartial, is_ready, line_written_out, line_step};
+ghost use Rattle.e_book.specs.inner.Machine.{begins_theorem, begins_definition, goes_on};
+ghost use Rattle.e_book.specs.inner.Machine.{defines_on, lists, item_of_partial, notion_of_parser};
 
 use crate::item::Item;
 use crate::limits::MAX_NOTIONS;
-use crate::parser::{Section, TheoremParser, allowed};
+use crate::parser::{Section, TheoremParser, line_may_come};
 use e_line::{
-    BookLine, FaultKind, LineError, Listing, RawItem, RawLine, RawLit, RawSuperpose, What, within,
+    BookLine, FaultKind, LineError, Listing, RawItem, RawLine, RawLit, RawSuperpose, What,
+    book_line_of, within,
 };
 use e_literal::Items;
 use e_names::{Known, MAX_EXPANDED, fresh, placed_in, put_items};
@@ -26,7 +27,7 @@ use std::mem;
 
 /// What has come of a theorem or of a definition.
 #[derive(Drop)]
-pub struct Coming {
+pub struct PartialItem {
     /// Whether it is a definition: what it means is what its parser shows.
     pub defines: bool,
     pub parser: TheoremParser,
@@ -85,30 +86,41 @@ struct Written {
     count: usize,
 }
 
-impl Coming {
-    /// The first line.
-    #[tactic(auto, unfolding(crate::specs::inner::Machine::begins))]
-    pub(crate) fn begin(alloc: Global, known: &Known, line: &BookLine) -> Result<Coming, LineError>
-        ensures value { Gives (λ c. c) result (begins known.now line.now) }
-        ensures fits { IfOk result (FitsComing known.now) }
+impl PartialItem {
+    /// The words of the first line.
+    #[tactic(auto, unfolding(crate::specs::inner::Machine::line_step, crate::specs::inner::Machine::begins))]
+    pub(crate) fn begin(
+        alloc: Global,
+        known: &Known,
+        words: &[&[u8]],
+    ) -> Result<PartialItem, LineError>
+        ensures value { Gives (λ c. c) result (line_step known.now None (texts words.now)) }
+        ensures fits { IfOk result (FitsPartial known.now) }
     {
-        match line {
-            BookLine::Plain(raw_line) => Coming::begin_theorem(alloc, known, raw_line),
-            BookLine::Define(title) => Coming::begin_definition(alloc, known, *title),
+        let line = book_line_of(alloc, words)?;
+        let begun = match &line {
+            BookLine::Plain(raw_line) => PartialItem::begin_theorem(alloc, known, raw_line),
+            BookLine::Define(title) => PartialItem::begin_definition(alloc, known, *title),
             BookLine::Listed(_, _) => Err(LineError::Fault(FaultKind::Malformed)),
-        }
+        };
+        mem::drop(line);
+        begun
     }
 
     #[tactic(auto, unfolding(crate::specs::inner::Machine::begins_theorem))]
-    fn begin_theorem(alloc: Global, known: &Known, raw_line: &RawLine) -> Result<Coming, LineError>
+    fn begin_theorem(
+        alloc: Global,
+        known: &Known,
+        raw_line: &RawLine,
+    ) -> Result<PartialItem, LineError>
         ensures value { Gives (λ c. c) result (begins_theorem known.now raw_line.now) }
-        ensures fits { IfOk result (FitsComing known.now) }
+        ensures fits { IfOk result (FitsPartial known.now) }
     {
         if has_notion_title(known, raw_line) {
             return Err(LineError::Fault(FaultKind::NameTaken));
         }
         let parser = TheoremParser::begin(alloc, &known.theorems, raw_line)?;
-        Ok(Coming {
+        Ok(PartialItem {
             defines: false,
             parser,
             expanded: 0,
@@ -116,9 +128,13 @@ impl Coming {
     }
 
     #[tactic(auto, unfolding(crate::specs::inner::Machine::begins_definition))]
-    fn begin_definition(alloc: Global, known: &Known, title: Title) -> Result<Coming, LineError>
+    fn begin_definition(
+        alloc: Global,
+        known: &Known,
+        title: Title,
+    ) -> Result<PartialItem, LineError>
         ensures value { Gives (λ c. c) result (begins_definition known.now title) }
-        ensures fits { IfOk result (FitsComing known.now) }
+        ensures fits { IfOk result (FitsPartial known.now) }
     {
         if known.is_taken(title) {
             return Err(LineError::Fault(FaultKind::NameTaken));
@@ -126,54 +142,43 @@ impl Coming {
         if known.notions.len() >= MAX_NOTIONS {
             return Err(LineError::Fault(FaultKind::Limit(What::Notions)));
         }
-        Ok(Coming {
+        Ok(PartialItem {
             defines: true,
-            parser: TheoremParser::begun(alloc, title),
+            parser: TheoremParser::with_title(alloc, title),
             expanded: 0,
         })
     }
 
-    /// What has come with the next line.
-    pub(crate) fn taking(
-        mut self,
+    /// Takes the words of the next line. After a fault it is not used again.
+    #[tactic(auto, unfolding(crate::specs::inner::Machine::line_step, crate::specs::inner::Machine::step))]
+    pub(crate) fn take(
+        &mut self,
         alloc: Global,
         known: &Known,
-        line: &BookLine,
-    ) -> Result<Coming, LineError>
-        requires coming { FitsComing known.now self }
+        words: &[&[u8]],
+    ) -> Result<(), LineError>
+        requires partial_item { FitsPartial known.now self.old }
         requires notions { IsTrue (are_notions known.now.notions) }
-        ensures value { Gives (λ c. c) result (step known.now self line.now) }
-        ensures fits { IfOk result (FitsComing known.now) }
+        ensures value { Moves result self.new
+            (line_step known.now (Some self.old) (texts words.now)) }
+        ensures fits { OnOk result (FitsPartial known.now self.new) }
     {
-        match self.step(alloc, known, line) {
-            Ok(()) => Ok(self),
-            Err(error) => {
-                mem::drop(self);
-                Err(error)
-            }
-        }
-    }
-
-    #[tactic(auto, unfolding(crate::specs::inner::Machine::step))]
-    fn step(&mut self, alloc: Global, known: &Known, line: &BookLine) -> Result<(), LineError>
-        requires coming { FitsComing known.now self.old }
-        requires notions { IsTrue (are_notions known.now.notions) }
-        ensures value { Moves result self.new (step known.now self.old line.now) }
-        ensures fits { OnOk result (FitsComing known.now self.new) }
-    {
-        match line {
+        let line = book_line_of(alloc, words)?;
+        let taken = match &line {
             BookLine::Plain(raw_line) => self.go_on(alloc, known, raw_line),
             BookLine::Define(_) => Err(LineError::Fault(FaultKind::Malformed)),
             BookLine::Listed(line, items) => self.list(alloc, known, line, items.items()),
-        }
+        };
+        mem::drop(line);
+        taken
     }
 
     /// A line without items.
     #[tactic(auto, unfolding(crate::specs::inner::Machine::goes_on))]
     fn go_on(&mut self, alloc: Global, known: &Known, raw_line: &RawLine) -> Result<(), LineError>
-        requires coming { FitsComing known.now self.old }
+        requires partial_item { FitsPartial known.now self.old }
         ensures value { Moves result self.new (goes_on known.now self.old raw_line.now) }
-        ensures fits { OnOk result (FitsComing known.now self.new) }
+        ensures fits { OnOk result (FitsPartial known.now self.new) }
     {
         if self.defines {
             return self.define(alloc, raw_line);
@@ -192,11 +197,11 @@ impl Coming {
     {
         match raw_line {
             RawLine::Declare(sort, names) => {
-                right_place(allowed(self.parser.section, raw_line))?;
+                right_place(line_may_come(self.parser.section, raw_line))?;
                 self.parser.on_declare(alloc, *sort, names.items())
             }
             RawLine::Show(raw) => {
-                right_place(allowed(self.parser.section, raw_line))?;
+                right_place(line_may_come(self.parser.section, raw_line))?;
                 self.parser.on_show(alloc, raw.items())
             }
             RawLine::End => {
@@ -218,10 +223,10 @@ impl Coming {
         line: &Listing,
         items: &[RawItem],
     ) -> Result<(), LineError>
-        requires coming { FitsComing known.now self.old }
+        requires partial_item { FitsPartial known.now self.old }
         requires notions { IsTrue (are_notions known.now.notions) }
         ensures value { Moves result self.new (lists known.now self.old line.now items.now) }
-        ensures fits { OnOk result (FitsComing known.now self.new) }
+        ensures fits { OnOk result (FitsPartial known.now self.new) }
     {
         right_place(!self.defines || is_show(line))?;
         let Written { raw_line, count } = self.write(alloc, known, line, items)?;
@@ -241,13 +246,13 @@ impl Coming {
         line: &Listing,
         items: &[RawItem],
     ) -> Result<Written, LineError>
-        requires coming { FitsComing known.now self.now }
+        requires partial_item { FitsPartial known.now self.now }
         requires notions { IsTrue (are_notions known.now.notions) }
         ensures value { Gives (λ w. (w.raw_line, w.count)) result
             (line_written_out known.now.notions self.now.parser line.now items.now) }
         ensures count { IfOk result (λ w. w.count ≤ most_expanded + 1) }
     {
-        self.parser.ready(line)?;
+        self.parser.check_head(line)?;
         let names = self.parser.names_there();
         let mut raws = Items::empty(alloc);
         let count = put_items(alloc, &known.notions, names, items, 0, &mut raws)?;
@@ -257,9 +262,9 @@ impl Coming {
 
     /// What the lines make, where the last has come.
     pub(crate) fn into_item(self, alloc: Global) -> Item
-        ensures { view_of result ≡ item_of_coming self }
+        ensures { view_of result ≡ item_of_partial self }
     {
-        let Coming {
+        let PartialItem {
             defines,
             parser,
             ..
@@ -283,7 +288,7 @@ fn into_definition(alloc: Global, mut parser: TheoremParser) -> Item
 }
 
 /// Whether a line that takes literals may come at a place.
-fn may_come(section: Section, line: &Listing) -> bool
+fn listing_may_come(section: Section, line: &Listing) -> bool
     ensures { result ≡ line_may_come section (listing_raw_line line.now []) }
 {
     match line {
@@ -307,11 +312,11 @@ fn is_show(line: &Listing) -> bool
 impl TheoremParser {
     /// Whether a line that takes literals may come here, and then the names before them, from left
     /// to right.
-    fn ready(&self, line: &Listing) -> Result<(), LineError>
+    fn check_head(&self, line: &Listing) -> Result<(), LineError>
         requires { FitsScope self.now }
         ensures { Gives (λ u. u) result (is_ready self.now line.now) }
     {
-        right_place(may_come(self.section, line))?;
+        right_place(listing_may_come(self.section, line))?;
         match line {
             Listing::Superpose { args, new } => {
                 placed_in(&self.in_scope, args.items())?;
