@@ -29,7 +29,7 @@ use Rattle.e_names.specs.Scope.{scope_of_names, objects_of_sorts}
 use Rattle.e_names.specs.Titled.{are_notions, notion_of}
 use Rattle.e_names.specs.TitledStatements.{TitledStatement, stated_by}
 use Rattle.e_book.specs.Open.{Head, Stating}
-use Rattle.e_book.specs.Definitions.{Coming, InTheorem, after_listed_line}
+use Rattle.e_book.specs.Definitions.{PartialItem, InTheorem, after_listed_line}
 use Rattle.e_book.specs.TheoremViews.{TheoremView}
 use Rattle.e_book.specs.HasSpelling.{HasSpelling}
 use Rattle.e_trim.specs.Trimmed.{trimmed}
@@ -57,7 +57,7 @@ with_listed line ls h = h
 abbrev pub ItemsAddWhatTheyMean : Type 0
 ItemsAddWhatTheyMean =
     (known : Known) (h : Head) (n : ℕ) (line : Listing) (raw : RawAs) (notion : Notion)
-    (args : List Obj) (c : Coming) → AreNames h.names.points → AreNames h.names.lines
+    (args : List Obj) (c : PartialItem) → AreNames h.names.points → AreNames h.names.lines
     → AreNames h.names.circles → NamesDiffer h.names → IsTrue (are_notions known.notions)
     → notion_of known.notions raw.title ≡ Some notion
     → objects_of_sorts h.names notion.declared raw.args ≡ Ok args

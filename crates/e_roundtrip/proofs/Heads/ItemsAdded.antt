@@ -31,7 +31,7 @@ use Rattle.e_names.proofs.read_lines.ItemsWritten.{meant, meant_good, within, we
 use Rattle.e_names.proofs.resolution.Lookups.{InOrder, in_order}
 use Rattle.e_book.specs.Open.{Head, Open, Stating}
 use Rattle.e_book.specs.Counts.{all_kept, limits_kept}
-use Rattle.e_book.specs.Definitions.{Coming, InTheorem, written_out, plain_line, counted}
+use Rattle.e_book.specs.Definitions.{PartialItem, InTheorem, written_out, plain_line, counted}
 use Rattle.e_book.specs.Grammar.{next, line_after, states, at_its_place, none_made}
 use Rattle.e_roundtrip.specs.Laws.{with_listed, ItemsAddWhatTheyMean}
 
@@ -89,17 +89,17 @@ listed_is h Show raws ls o read e = show_is h raws ls o read e
 listed_is h Claim raws ls o read e = absurd cc
 listed_is h (Superpose args new) raws ls o read e = absurd cc
 
-record IsCounted (o : Open) (n : ℕ) (c : Coming) : Type 0 where
+record IsCounted (o : Open) (n : ℕ) (c : PartialItem) : Type 0 where
   is : InTheorem o n ≡ c
   few : n ≤ most_expanded
 
-counted_is : (k : ℕ) (o : Open) (n : ℕ) (c : Coming) → counted k (InTheorem o n) ≡ Ok c → IsCounted o (n + k) c
+counted_is : (k : ℕ) (o : Open) (n : ℕ) (c : PartialItem) → counted k (InTheorem o n) ≡ Ok c → IsCounted o (n + k) c
 counted_is k o n c e =
     let a = bind_ok (all_kept ((leb (n + k) most_expanded, limits.Expanded) ∷ [])) (λ kept. read_ok (InTheorem o (n + k))) c e in
     record { is = ok_is (InTheorem o (n + k)) c a.2; few = leb-true (n + k) most_expanded (kept_true (leb (n + k) most_expanded) limits.Expanded a.0 a.1) }
 
 -- the line is taken: then the literals are there
-taken_is : (known : Known) (h : Head) (n k : ℕ) (line : Listing) (raws : List RawLit) (ls : List Lit) (c : Coming) → lits_in h.names raws ≡ Ok ls
+taken_is : (known : Known) (h : Head) (n k : ℕ) (line : Listing) (raws : List RawLit) (ls : List Lit) (c : PartialItem) → lits_in h.names raws ≡ Ok ls
     → (plain_line known (InTheorem (Stating h) n) (listing_raw_line line raws) >>= λ c. counted k c) ≡ Ok c → IsCounted (Stating (with_listed line ls h)) (n + k) c
 taken_is known h n k line raws ls c read e =
     let f = listing_raw_line line raws in
@@ -136,7 +136,7 @@ one_item notions ns raw p e =
     }
 
 -- the line with these literals written out is taken
-added : (known : Known) (h : Head) (n : ℕ) (line : Listing) (raw : RawAs) (notion : Notion) (args : List Obj) (c : Coming) (ls : List Lit) → InOrder h.names → are_notions known.notions ≡ true → notion_of known.notions raw.title ≡ Some notion
+added : (known : Known) (h : Head) (n : ℕ) (line : Listing) (raw : RawAs) (notion : Notion) (args : List Obj) (c : PartialItem) (ls : List Lit) → InOrder h.names → are_notions known.notions ≡ true → notion_of known.notions raw.title ≡ Some notion
     → objects_of_sorts h.names notion.declared raw.args ≡ Ok args → meant_in known.notions h.names (most_expanded + 1 - 0) raw ≡ Ok ls
     → (plain_line known (InTheorem (Stating h) n) (listing_raw_line line (map (raw_of h.names) ls)) >>= λ d. counted (0 + length ls) d) ≡ Ok c →
     let given = expanded notion args (scope_of_names h.names) in c ≡ InTheorem (Stating (with_listed line given h)) (n + length given)
