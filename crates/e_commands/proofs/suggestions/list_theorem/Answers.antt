@@ -11,16 +11,26 @@ all-requires-clause-few c = omega (arith, c.len-declared.ensures, c.if-declared-
 
 pub returns-then-more-clause-listed : goal.returns-then-more-clause-listed
 returns-then-more-clause-listed c =
-    let first = subst (SuggestedIs (stated c.args.statement.now) c.args.place.now.context c.args.left) c.in-Found.is c.in_ok-choices.ensures.suggested in
-    (c.in-Found.choices, search rules, search rules, omega (arith, c.len-declared.ensures, c.if-declared-gt-MOST_DECLARED.false),
-    subst (λ (more : Bool). AreFirstChoices (stated c.args.statement.now) c.args.place.now.context.scope c.args.place.now.context.facts c.args.left c.in-Found.choices more) c.if-more.true first)
+    let first = subst (SuggestedIs (stated c.args.statement.now) c.args.place.now.context c.args.left) c.in-Found.is c.in_ok-choices.ensures.suggested in (
+      c.in-Found.choices,
+      search rules,
+      search rules,
+      omega (arith, c.len-declared.ensures, c.if-declared-gt-MOST_DECLARED.false),
+      subst (λ (more : Bool). AreFirstChoices (stated c.args.statement.now) c.args.place.now.context.scope c.args.place.now.context.facts c.args.left c.in-Found.choices more) c.if-more.true first,
+    )
 
 pub returns-in-Found-clause-listed : goal.returns-in-Found-clause-listed
 returns-in-Found-clause-listed c =
-    let first = subst (SuggestedIs (stated c.args.statement.now) c.args.place.now.context c.args.left) c.in-Found.is c.in_ok-choices.ensures.suggested in
-    (c.in-Found.choices, search rules, search rules, omega (arith, c.len-count.ensures, first.few),
-    inr (omega (arith, c.len-declared.ensures, c.if-declared-gt-MOST_DECLARED.false),
-    subst (λ (more : Bool). AreFirstChoices (stated c.args.statement.now) c.args.place.now.context.scope c.args.place.now.context.facts c.args.left c.in-Found.choices more) c.if-more.false first))
+    let first = subst (SuggestedIs (stated c.args.statement.now) c.args.place.now.context c.args.left) c.in-Found.is c.in_ok-choices.ensures.suggested in (
+      c.in-Found.choices,
+      search rules,
+      search rules,
+      omega (arith, c.len-count.ensures, first.few),
+      inr (
+        omega (arith, c.len-declared.ensures, c.if-declared-gt-MOST_DECLARED.false),
+        subst (λ (more : Bool). AreFirstChoices (stated c.args.statement.now) c.args.place.now.context.scope c.args.place.now.context.facts c.args.left c.in-Found.choices more) c.if-more.false first,
+      ),
+    )
 
 pub returns-clause-listed : goal.returns-clause-listed
 returns-clause-listed c = (
