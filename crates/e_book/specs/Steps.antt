@@ -47,34 +47,34 @@ use Rattle.e_names.specs.Scope.{scope_of_names, fresh, lit_in, lits_in, by_in, l
 use Rattle.e_names.specs.Applies.{count_blanks, apply_in}
 
 -- which lines may come at a place
-abbrev pub allowed : Section → RawLine → Bool
-allowed Declaring (rawlines.Declare sort ns) = true
-allowed Declaring (rawlines.Given ls) = true
-allowed Declaring (rawlines.Made sort ns) = true
-allowed Declaring (rawlines.Show ls) = true
-allowed Giving (rawlines.Given ls) = true
-allowed Giving (rawlines.Made sort ns) = true
-allowed Giving (rawlines.Show ls) = true
-allowed Making (rawlines.Made sort ns) = true
-allowed Making (rawlines.Show ls) = true
-allowed Showing (rawlines.Show ls) = true
-allowed Showing rawlines.Proof = true
-allowed Proving (rawlines.By r ns l) = true
-allowed Proving (rawlines.Hence l) = true
-allowed Proving (rawlines.Let l) = true
-allowed Proving (rawlines.Apply a) = true
-allowed Proving (rawlines.Qed ns) = true
-allowed Proving rawlines.Contradiction = true
-allowed Proving (rawlines.Claim ls) = true
-allowed Proving (rawlines.Superpose s) = true
-allowed Proving (rawlines.Cases l) = true
-allowed Splitting rawlines.Else = true
-allowed Closed rawlines.End = true
-allowed section raw_line = false
+abbrev pub line_may_come : Section → RawLine → Bool
+line_may_come Declaring (rawlines.Declare sort ns) = true
+line_may_come Declaring (rawlines.Given ls) = true
+line_may_come Declaring (rawlines.Made sort ns) = true
+line_may_come Declaring (rawlines.Show ls) = true
+line_may_come Giving (rawlines.Given ls) = true
+line_may_come Giving (rawlines.Made sort ns) = true
+line_may_come Giving (rawlines.Show ls) = true
+line_may_come Making (rawlines.Made sort ns) = true
+line_may_come Making (rawlines.Show ls) = true
+line_may_come Showing (rawlines.Show ls) = true
+line_may_come Showing rawlines.Proof = true
+line_may_come Proving (rawlines.By r ns l) = true
+line_may_come Proving (rawlines.Hence l) = true
+line_may_come Proving (rawlines.Let l) = true
+line_may_come Proving (rawlines.Apply a) = true
+line_may_come Proving (rawlines.Qed ns) = true
+line_may_come Proving rawlines.Contradiction = true
+line_may_come Proving (rawlines.Claim ls) = true
+line_may_come Proving (rawlines.Superpose s) = true
+line_may_come Proving (rawlines.Cases l) = true
+line_may_come Splitting rawlines.Else = true
+line_may_come Closed rawlines.End = true
+line_may_come section raw_line = false
 
 -- the names with new ones for objects of a sort
-unfoldable pub declared : Names → Sort → List (List ℕ) → Result Names FaultKind
-declared ns sort new = do
+unfoldable pub with_declared : Names → Sort → List (List ℕ) → Result Names FaultKind
+with_declared ns sort new = do
   free ← fresh ns [] new
   few ← within (length (names_of_sort ns sort) + length new) (most_of sort) (what_of sort)
   Ok (with_names ns sort (names_of_sort ns sort ++ new))
@@ -104,8 +104,8 @@ with_terms d raws = do
 
 -- a construction: its names, then the limits of objects, of steps and of facts. Its new objects are
 -- in scope after it.
-unfoldable pub built : TheoremParser → RawLet → Result TheoremParser FaultKind
-built d raw = do
+unfoldable pub after_let : TheoremParser → RawLet → Result TheoremParser FaultKind
+after_let d raw = do
   construction ← let_in d.in_scope raw
   let after = named d.in_scope (sorts_made construction) raw.new
   few ← few_objects after
@@ -114,9 +114,9 @@ built d raw = do
 
 -- a theorem is used within the limits of objects, of steps, of facts, of monomials and of blanks.
 -- What it shows are facts, and its made objects are in scope after the line.
-unfoldable pub used_by : TheoremParser → StatementView → ℕ → List (Option Obj) → List (List ℕ)
+unfoldable pub with_use : TheoremParser → StatementView → ℕ → List (Option Obj) → List (List ℕ)
     → Result TheoremParser FaultKind
-used_by d t theorem args new = do
+with_use d t theorem args new = do
   let after = named d.in_scope t.made new
   few ← few_objects after
   e ← with_step (record d { in_scope = after }) (Applied theorem args new []) (length t.shown)
@@ -125,11 +125,11 @@ used_by d t theorem args new = do
   Ok (record e { terms = n })
 
 -- an earlier theorem: its title and the names, then the limits
-unfoldable pub applied : List TitledStatement → TheoremParser → RawApply
+unfoldable pub after_apply : List TitledStatement → TheoremParser → RawApply
     → Result TheoremParser FaultKind
-applied known d raw = do
+after_apply known d raw = do
   a ← apply_in known d.in_scope raw
-  used_by d (theorem_of known a.0) a.0 a.1 raw.new
+  with_use d (theorem_of known a.0) a.0 a.1 raw.new
 
 -- ---- blocks inside a block
 
@@ -139,8 +139,8 @@ outer_of d kind =
     record { steps = d.steps; in_scope = d.in_scope; facts = d.facts; terms = d.terms; kind = kind }
 
 -- an inner block begins, in which this many literals are facts at once
-abbrev pub interrupted : TheoremParser → BlockKind → ℕ → TheoremParser
-interrupted d kind given =
+abbrev pub inside_block : TheoremParser → BlockKind → ℕ → TheoremParser
+inside_block d kind given =
     record d {
       lines = d.lines + 1;
       blocks = outer_of d kind ∷ d.blocks;
@@ -165,47 +165,47 @@ terms_inside d given raws = do
   terms_after d.terms given
 
 -- a line that begins an inner block, within these limits
-unfoldable pub deeper : TheoremParser → BlockKind → ℕ → Result TheoremParser FaultKind
-deeper d kind given = do
+unfoldable pub inside_if_room : TheoremParser → BlockKind → ℕ → Result TheoremParser FaultKind
+inside_if_room d kind given = do
   few ← within (d.lines + 1) most_steps limits.Steps
   shallow ← within (length d.blocks + 2) most_depth limits.Depth
   none ← within (d.facts + given) most_facts limits.Facts
-  Ok (interrupted d kind given)
+  Ok (inside_block d kind given)
 
 -- a claim: its literals are facts only after its block
-unfoldable pub claimed : TheoremParser → List RawLit → Result TheoremParser FaultKind
-claimed d raws = do
+unfoldable pub after_claim : TheoremParser → List RawLit → Result TheoremParser FaultKind
+after_claim d raws = do
   ls ← lits_in d.in_scope raws
-  e ← deeper d (kind.Claim ls) 0
+  e ← inside_if_room d (kind.Claim ls) 0
   few ← few_monos raws
   Ok e
 
 -- the block of a superposition begins with these names and facts
-unfoldable pub copies_begun : TheoremParser → BlockKind → Names → (given : List Lit)
+unfoldable pub after_copies : TheoremParser → BlockKind → Names → (given : List Lit)
     → (shown : List RawLit) → Result TheoremParser FaultKind
-copies_begun d what after given shown = do
-  e ← deeper d what (length given)
+after_copies d what after given shown = do
+  e ← inside_if_room d what (length given)
   few ← few_monos shown
   n ← terms_after e.terms given
   Ok (record e { in_scope = after; terms = n })
 
 -- a superposition: its block begins with the copied points and what it gives
-unfoldable pub superposed : TheoremParser → RawSuperpose → Result TheoremParser FaultKind
-superposed d raw = do
+unfoldable pub after_superpose : TheoremParser → RawSuperpose → Result TheoremParser FaultKind
+after_superpose d raw = do
   p ← superpose_in d.in_scope raw
   let given = superposing.gives_of_superposition p.0 (scope_of_names d.in_scope)
   let after = named d.in_scope superposing.sorts_copied raw.new
   objects ← few_objects after
-  e ← deeper d (kind.Superpose p.0 raw.new p.1) (length given)
+  e ← inside_if_room d (kind.Superpose p.0 raw.new p.1) (length given)
   few ← few_monos raw.shown
   n ← terms_after e.terms given
   Ok (record e { in_scope = after; terms = n })
 
 -- a split: its first block begins with the literal
-unfoldable pub split : TheoremParser → RawLit → Result TheoremParser FaultKind
-split d raw = do
+unfoldable pub after_cases : TheoremParser → RawLit → Result TheoremParser FaultKind
+after_cases d raw = do
   l ← lit_in d.in_scope raw
-  e ← deeper d (kind.First l) 1
+  e ← inside_if_room d (kind.First l) 1
   with_terms e (raw ∷ [])
 
 -- the counts after a block that shows these literals: the limits of facts and of monomials
@@ -217,9 +217,9 @@ counted_from d facts terms shown = do
   Ok (record d { facts = facts + length shown; terms = n })
 
 -- what a block shows is a step of the block around it
-unfoldable pub resumed : TheoremParser → OpenBlock → List OpenBlock → List Lit → PlainStep
+unfoldable pub after_inner_block : TheoremParser → OpenBlock → List OpenBlock → List Lit → PlainStep
     → Result TheoremParser FaultKind
-resumed d o os shown s = do
+after_inner_block d o os shown s = do
   e ← counted_from d o.facts o.terms shown
   Ok (record e { steps = o.steps ++ s ∷ []; in_scope = o.in_scope; blocks = os })
 
@@ -228,9 +228,10 @@ resumed d o os shown s = do
 -- around it.
 abbrev pub closed_inside : TheoremParser → OpenBlock → List OpenBlock → Script
     → (CloseLine → Result TheoremParser FaultKind) → BlockKind → Result TheoremParser FaultKind
-closed_inside d o os inner close (kind.Claim shown) = resumed d o os shown (Claimed shown inner)
+closed_inside d o os inner close (kind.Claim shown) =
+    after_inner_block d o os shown (Claimed shown inner)
 closed_inside d o os inner close (kind.Superpose superposition names shown) =
-    resumed d o os shown (Copied superposition names shown [] inner)
+    after_inner_block d o os shown (Copied superposition names shown [] inner)
 closed_inside d o os inner close (kind.First lit) =
     Ok (record d {
       steps = [];
@@ -243,13 +244,13 @@ closed_inside d o os inner close (kind.First lit) =
 closed_inside d o os inner close (kind.Second lit first) = close (closes.Cases lit first inner)
 
 -- the block with these steps inside these blocks is closed
-unfoldable pub closed : TheoremParser → List OpenBlock → List PlainStep → CloseLine
+unfoldable pub parser_after_close : TheoremParser → List OpenBlock → List PlainStep → CloseLine
     → Result TheoremParser FaultKind
-closed d [] steps close =
+parser_after_close d [] steps close =
     Ok (record d { steps = steps; blocks = []; close = close; section = Closed })
-closed d (o ∷ os) steps close =
+parser_after_close d (o ∷ os) steps close =
     closed_inside d o os (all_before steps (script_of_close close))
-    (λ c. closed d os o.steps c) o.kind
+    (λ c. parser_after_close d os o.steps c) o.kind
 
 -- a block that an inner one interrupts, with what began that one
 abbrev pub outer_with : Saved → BlockKind → OpenBlock
@@ -296,89 +297,91 @@ ClosesInside d o close (Err e) new =
     → Fails e (closed_inside d o d.blocks (all_before d.steps (script_of_close close)) again o.kind)
 
 -- a close line: the limit of steps, and what it closes
-unfoldable pub shut : TheoremParser → CloseLine → Result TheoremParser FaultKind
-shut d close =
+unfoldable pub after_close_line : TheoremParser → CloseLine → Result TheoremParser FaultKind
+after_close_line d close =
     within (d.lines + 1) most_steps limits.Steps
-    >>= λ few. closed (record d { lines = d.lines + 1 }) d.blocks d.steps close
+    >>= λ few. parser_after_close (record d { lines = d.lines + 1 }) d.blocks d.steps close
 
 -- declared objects
-abbrev pub declares : TheoremParser → Sort → List (List ℕ) → Result TheoremParser FaultKind
-declares d sort ns =
-    declared d.names sort ns >>= λ names. Ok (record d {
+abbrev pub after_declare : TheoremParser → Sort → List (List ℕ) → Result TheoremParser FaultKind
+after_declare d sort ns =
+    with_declared d.names sort ns >>= λ names. Ok (record d {
       names = names;
       declared = d.declared ++ replicate (length ns) sort;
     })
 
 -- given literals: their names, then the limits
-abbrev pub supposes : TheoremParser → List RawLit → Result TheoremParser FaultKind
-supposes d raws =
+abbrev pub after_given : TheoremParser → List RawLit → Result TheoremParser FaultKind
+after_given d raws =
     with_front d.given (lits_in d.names raws)
     >>= λ ls. within (d.facts + length raws) most_facts limits.Facts
     >>= λ few. with_terms (record d { given = ls; facts = d.facts + length raws; section = Giving })
     raws
 
 -- made objects
-abbrev pub makes : TheoremParser → Sort → List (List ℕ) → Result TheoremParser FaultKind
-makes d sort ns =
-    declared d.names sort ns >>= λ names. Ok (record d {
+abbrev pub after_made : TheoremParser → Sort → List (List ℕ) → Result TheoremParser FaultKind
+after_made d sort ns =
+    with_declared d.names sort ns >>= λ names. Ok (record d {
       names = names;
       made = d.made ++ replicate (length ns) sort;
       section = Making;
     })
 
 -- shown literals
-abbrev pub shows : TheoremParser → List RawLit → Result TheoremParser FaultKind
-shows d raws =
+abbrev pub after_show : TheoremParser → List RawLit → Result TheoremParser FaultKind
+after_show d raws =
     with_front d.shown (lits_in d.names raws) >>= λ ls. few_monos raws
     >>= λ few. Ok (record d { shown = ls; section = Showing })
 
 -- the proof begins with the declared objects, and the names of the made ones are free again
-abbrev pub proof_begun : TheoremParser → Result TheoremParser FaultKind
-proof_begun d =
+abbrev pub after_proof : TheoremParser → Result TheoremParser FaultKind
+after_proof d =
     Ok (record d {
       in_scope = declared_names (stated (statement_of_parser d)) d.names;
       section = Proving;
     })
 
 -- a citation: its rule, its names and its literal, then the limits
-abbrev pub cited : TheoremParser → List ℕ → List (List ℕ) → RawLit → Result TheoremParser FaultKind
-cited d r ns l = by_in d.in_scope r ns l >>= λ b. with_step d (Cited b) 1
+abbrev pub after_by : TheoremParser → List ℕ → List (List ℕ) → RawLit
+    → Result TheoremParser FaultKind
+after_by d r ns l = by_in d.in_scope r ns l >>= λ b. with_step d (Cited b) 1
 
 -- a literal that is to be allowed: its names, then the limits
-abbrev pub inferred : TheoremParser → RawLit → Result TheoremParser FaultKind
-inferred d raw =
+abbrev pub after_hence : TheoremParser → RawLit → Result TheoremParser FaultKind
+after_hence d raw =
     lit_in d.in_scope raw >>= λ l. with_step d (Inferred l None) 1 >>= λ e. with_terms e (raw ∷ [])
 
 -- the close by qed: its objects, then the limit of steps
-abbrev pub concluded : TheoremParser → List (List ℕ) → Result TheoremParser FaultKind
-concluded d ns =
-    qed_in d.in_scope (made_in d.blocks d.made) ns >>= λ objects. shut d (closes.Qed objects)
+abbrev pub after_qed : TheoremParser → List (List ℕ) → Result TheoremParser FaultKind
+after_qed d ns =
+    qed_in d.in_scope (made_in d.blocks d.made) ns
+    >>= λ objects. after_close_line d (closes.Qed objects)
 
-unfoldable pub stepped : List TitledStatement → TheoremParser → RawLine
+unfoldable pub after_line : List TitledStatement → TheoremParser → RawLine
     → Result TheoremParser FaultKind
-stepped known d (rawlines.Theorem t) = Err Malformed
-stepped known d (rawlines.Declare sort ns) = declares d sort ns
-stepped known d (rawlines.Given raws) = supposes d raws
-stepped known d (rawlines.Made sort ns) = makes d sort ns
-stepped known d (rawlines.Show raws) = shows d raws
-stepped known d rawlines.Proof = proof_begun d
-stepped known d (rawlines.By r ns l) = cited d r ns l
-stepped known d (rawlines.Hence raw) = inferred d raw
-stepped known d (rawlines.Let raw) = built d raw
-stepped known d (rawlines.Apply raw) = applied known d raw
-stepped known d (rawlines.Qed ns) = concluded d ns
-stepped known d rawlines.Contradiction = shut d closes.Contradiction
-stepped known d (rawlines.Claim raws) = claimed d raws
-stepped known d (rawlines.Superpose raw) = superposed d raw
-stepped known d (rawlines.Cases raw) = split d raw
-stepped known d rawlines.Else = Ok (record d { section = Proving })
-stepped known d rawlines.End = Ok (record d { section = Done })
+after_line known d (rawlines.Theorem t) = Err Malformed
+after_line known d (rawlines.Declare sort ns) = after_declare d sort ns
+after_line known d (rawlines.Given raws) = after_given d raws
+after_line known d (rawlines.Made sort ns) = after_made d sort ns
+after_line known d (rawlines.Show raws) = after_show d raws
+after_line known d rawlines.Proof = after_proof d
+after_line known d (rawlines.By r ns l) = after_by d r ns l
+after_line known d (rawlines.Hence raw) = after_hence d raw
+after_line known d (rawlines.Let raw) = after_let d raw
+after_line known d (rawlines.Apply raw) = after_apply known d raw
+after_line known d (rawlines.Qed ns) = after_qed d ns
+after_line known d rawlines.Contradiction = after_close_line d closes.Contradiction
+after_line known d (rawlines.Claim raws) = after_claim d raws
+after_line known d (rawlines.Superpose raw) = after_superpose d raw
+after_line known d (rawlines.Cases raw) = after_cases d raw
+after_line known d rawlines.Else = Ok (record d { section = Proving })
+after_line known d rawlines.End = Ok (record d { section = Done })
 
 -- a line at its place: its form there, then its names from left to right, then the limits
 unfoldable pub step : List TitledStatement → TheoremParser → RawLine
     → Result TheoremParser FaultKind
 step known d raw_line =
-    if allowed d.section raw_line then stepped known d raw_line else Err Malformed
+    if line_may_come d.section raw_line then after_line known d raw_line else Err Malformed
 
 -- how many names there are
 abbrev pub count_names : Names → ℕ
@@ -424,8 +427,8 @@ abbrev pub no_names : Names
 no_names = record { points = []; lines = []; circles = [] }
 
 -- a theorem of which only the title has come
-abbrev pub begun : List ℕ → TheoremParser
-begun title =
+abbrev pub with_title : List ℕ → TheoremParser
+with_title title =
     record {
       title = title;
       names = no_names;
@@ -447,5 +450,5 @@ begun title =
 unfoldable pub begin : List TitledStatement → RawLine → Result TheoremParser FaultKind
 begin known (rawlines.Theorem t) =
     if is_known known t then Err NameTaken else
-    (within (length known + 1) most_theorems limits.Theorems >>= λ few. Ok (begun t))
+    (within (length known + 1) most_theorems limits.Theorems >>= λ few. Ok (with_title t))
 begin known raw_line = Err Malformed

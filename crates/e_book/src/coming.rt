@@ -6,7 +6,7 @@ ghost use Rattle.e_names.specs.Titled.{are_notions};
 ghost use Rattle.e_line.specs.Items.{listing_raw_line, raw_superpose_line, is_show};
 ghost use Rattle.e_names.specs.Scope.{right_count};
 ghost use Rattle.e_book.specs.Definitions.{has_notion_title, OfNotion, view_of};
-ghost use Rattle.e_book.specs.Steps.{allowed, FitsScope};
+ghost use Rattle.e_book.specs.Steps.{line_may_come, FitsScope};
 ghost use Rattle.e_book.specs.inner.Machine.{FitsComing, is_ready, line_written_out, begins};
 ghost use Rattle.e_book.specs.inner.Machine.{begins_theorem, begins_definition, step, goes_on};
 ghost use Rattle.e_book.specs.inner.Machine.{defines_on, lists, item_of_coming, notion_of_parser};
@@ -284,7 +284,7 @@ fn into_definition(alloc: Global, mut parser: TheoremParser) -> Item
 
 /// Whether a line that takes literals may come at a place.
 fn may_come(section: Section, line: &Listing) -> bool
-    ensures { result ≡ allowed section (listing_raw_line line.now []) }
+    ensures { result ≡ line_may_come section (listing_raw_line line.now []) }
 {
     match line {
         Listing::Given => matches!(section, Section::Declaring | Section::Giving),

@@ -74,10 +74,11 @@ impl TheoremParser {
     ghost use Rattle.e_deriv.specs.PlainStep.{plain_step, Claimed, Copied, all_before};
     ghost use Rattle.e_line.specs.Limits.{most_depth, most_terms};
     ghost use Rattle.e_book.specs.LineLimits.{few_objects};
-    ghost use Rattle.e_book.specs.Steps.{FitsScope, FitsOuter, HasRoom, ClosesInside, concluded};
-    ghost use Rattle.e_book.specs.Steps.{room_inside, terms_inside, interrupted, begun_with};
-    ghost use Rattle.e_book.specs.Steps.{begun_terms, claimed, superposed, copies_begun, split};
-    ghost use Rattle.e_book.specs.Steps.{outer_with, resumed, second_begun, closed, shut};
+    ghost use Rattle.e_book.specs.Steps.{FitsScope, FitsOuter, HasRoom, ClosesInside};
+    ghost use Rattle.e_book.specs.Steps.{after_qed, room_inside, terms_inside, inside_block};
+    ghost use Rattle.e_book.specs.Steps.{begun_with, begun_terms, after_claim, after_superpose};
+    ghost use Rattle.e_book.specs.Steps.{after_copies, after_cases, outer_with, after_inner_block};
+    ghost use Rattle.e_book.specs.Steps.{second_begun, parser_after_close, after_close_line};
     ghost use Rattle.e_book.specs.Blocks.{made_in};
     ghost use Rattle.e_book.specs.ParserViews.{script_of_close};
 
@@ -124,7 +125,7 @@ impl TheoremParser {
         requires begun { begun_with kind ≤ given }
         requires terms { self.old.terms + begun_terms kind ≤ most_terms }
         ensures value { OnOk result
-            (self.new ≡ record (interrupted self.old kind given) { in_scope = inside }) }
+            (self.new ≡ record (inside_block self.old kind given) { in_scope = inside }) }
         ensures fits { OnOk result (FitsScope self.new) }
     {
         let outer = OpenBlock {
@@ -151,7 +152,7 @@ impl TheoremParser {
         requires room { HasRoom self.old given }
         requires begun { begun_with kind ≤ given }
         requires terms { self.old.terms + begun_terms kind ≤ most_terms }
-        ensures value { OnOk result (self.new ≡ interrupted self.old kind given) }
+        ensures value { OnOk result (self.new ≡ inside_block self.old kind given) }
         ensures fits { OnOk result (FitsScope self.new) }
     {
         match self.in_scope.copy(alloc) {
@@ -166,7 +167,7 @@ impl TheoremParser {
     /// A claim: its literals, and then the limits.
     pub(crate) fn on_claim(&mut self, alloc: Global, raw: &[RawLit]) -> Result<(), LineError>
         requires { FitsScope self.old }
-        ensures value { Moves result self.new (claimed self.old raw.now) }
+        ensures value { Moves result self.new (after_claim self.old raw.now) }
         ensures fits { OnOk result (FitsScope self.new) }
     {
         let mut shown = Items::empty(alloc);
@@ -183,7 +184,7 @@ impl TheoremParser {
     }
 
     /// The literals of a claim, and then the limits of the block that begins with it.
-    #[tactic(auto, unfolding(crate::specs::Steps::claimed, crate::specs::Steps::deeper, crate::specs::Steps::room_inside))]
+    #[tactic(auto, unfolding(crate::specs::Steps::after_claim, crate::specs::Steps::inside_if_room, crate::specs::Steps::room_inside))]
     fn put_claimed(
         &self,
         alloc: Global,
@@ -192,8 +193,8 @@ impl TheoremParser {
     ) -> Result<(), LineError>
         requires parser { FitsScope self.now }
         requires empty { shown.old ≡ [] }
-        ensures value { Gives (λ u. interrupted self.now (BlockKind.Claim shown.new) 0) result
-            (claimed self.now raw.now) }
+        ensures value { Gives (λ u. inside_block self.now (BlockKind.Claim shown.new) 0) result
+            (after_claim self.now raw.now) }
         ensures room { OnOk result (HasRoom self.now 0) }
     {
         put_lits(alloc, &self.in_scope, raw, shown)?;
@@ -203,14 +204,14 @@ impl TheoremParser {
     }
 
     /// A superposition: its objects, new names and literals, and then the limits.
-    #[tactic(auto, unfolding(crate::specs::Steps::superposed))]
+    #[tactic(auto, unfolding(crate::specs::Steps::after_superpose))]
     pub(crate) fn on_superpose(
         &mut self,
         alloc: Global,
         raw: &RawSuperpose,
     ) -> Result<(), LineError>
         requires { FitsScope self.old }
-        ensures value { Moves result self.new (superposed self.old raw.now) }
+        ensures value { Moves result self.new (after_superpose self.old raw.now) }
         ensures fits { OnOk result (FitsScope self.new) }
     {
         let names = Items::new(Vec::from_slice(alloc, raw.new.items())?);
@@ -259,7 +260,7 @@ impl TheoremParser {
         requires begun { begun_with kind ≡ 0 }
         requires terms { begun_terms kind ≡ 0 }
         ensures value { Moves result self.new
-            (copies_begun self.old kind after given.now shown.now) }
+            (after_copies self.old kind after given.now shown.now) }
         ensures fits { OnOk result (FitsScope self.new) }
     {
         let terms = match self.terms_inside(given, shown) {
@@ -279,7 +280,7 @@ impl TheoremParser {
     #[tactic(auto, using(crate::proofs::grammar::BlockBegins::begun_with_lit, crate::proofs::grammar::BlockBegins::few_inside, crate::proofs::grammar::BlockBegins::split_few))]
     pub(crate) fn on_cases(&mut self, alloc: Global, raw: &RawLit) -> Result<(), LineError>
         requires { FitsScope self.old }
-        ensures value { Moves result self.new (split self.old raw.now) }
+        ensures value { Moves result self.new (after_cases self.old raw.now) }
         ensures fits { OnOk result (FitsScope self.new) }
     {
         let lit = lit_in(alloc, &self.in_scope, raw)?;
@@ -299,7 +300,7 @@ impl TheoremParser {
     /// The close by `qed`: its objects, and then the limit of steps.
     pub(crate) fn on_qed(&mut self, alloc: Global, names: &[Name]) -> Result<(), LineError>
         requires { FitsScope self.old }
-        ensures value { Moves result self.new (concluded self.old names.now) }
+        ensures value { Moves result self.new (after_qed self.old names.now) }
         ensures fits { OnOk result (FitsScope self.new) }
     {
         let objects = qed_in(alloc, &self.in_scope, self.goal_made(), names)?;
@@ -317,10 +318,10 @@ impl TheoremParser {
     }
 
     /// A close line: the limit of steps, and what it closes.
-    #[tactic(auto, unfolding(crate::specs::Steps::shut))]
+    #[tactic(auto, unfolding(crate::specs::Steps::after_close_line))]
     pub(crate) fn on_close(&mut self, alloc: Global, close: CloseLine) -> Result<(), LineError>
         requires { FitsScope self.old }
-        ensures value { Moves result self.new (shut self.old close) }
+        ensures value { Moves result self.new (after_close_line self.old close) }
         ensures fits { OnOk result (FitsScope self.new) }
     {
         if let Err(error) = within(self.lines + 1, MAX_STEPS, What::Steps) {
@@ -332,11 +333,11 @@ impl TheoremParser {
     }
 
     /// The open block is closed, and with the second block of a split the block around it too.
-    #[tactic(auto, unfolding(crate::specs::Steps::closed))]
+    #[tactic(auto, unfolding(crate::specs::Steps::parser_after_close))]
     fn close_block(&mut self, alloc: Global, close: CloseLine) -> Result<(), LineError>
         requires { FitsScope self.old }
         ensures value { Moves result self.new
-            (closed self.old self.old.blocks self.old.steps close) }
+            (parser_after_close self.old self.old.blocks self.old.steps close) }
         ensures fits { OnOk result (FitsScope self.new) }
     {
         let Some(outer) = self.blocks.pop() else {
@@ -440,8 +441,8 @@ impl TheoremParser {
         requires parser { FitsScope self.old }
         requires outer { FitsOuter (outer_with around (BlockKind.Claim shown)) }
         ensures value { Moves result self.new
-            (resumed self.old (outer_with around (BlockKind.Claim shown)) self.old.blocks shown
-            (Claimed shown inner)) }
+            (after_inner_block self.old (outer_with around (BlockKind.Claim shown)) self.old.blocks
+            shown (Claimed shown inner)) }
         ensures fits { OnOk result (FitsScope self.new) }
     {
         if let Err(error) = around.add_facts(shown.items()) {
@@ -470,9 +471,9 @@ impl TheoremParser {
         requires parser { FitsScope self.old }
         requires outer { FitsOuter
             (outer_with around (BlockKind.Superpose superposition names shown)) }
-        ensures value { Moves result self.new
-            (resumed self.old (outer_with around (BlockKind.Superpose superposition names shown))
-            self.old.blocks shown (Copied superposition names shown [] inner)) }
+        ensures value { Moves result self.new (after_inner_block self.old
+            (outer_with around (BlockKind.Superpose superposition names shown)) self.old.blocks
+            shown (Copied superposition names shown [] inner)) }
         ensures fits { OnOk result (FitsScope self.new) }
     {
         if let Err(error) = around.add_facts(shown.items()) {

@@ -6,7 +6,7 @@ ghost use Rattle.e_construct.specs.Construct.{gives_of_construction};
 ghost use Rattle.e_names.specs.Scope.{names_of_sort, with_names};
 ghost use Rattle.e_deriv.specs.Naming.{named};
 ghost use Rattle.e_book.specs.LineLimits.{few_objects, FewNamed};
-ghost use Rattle.e_book.specs.Steps.{allowed, declared, no_names, count_names};
+ghost use Rattle.e_book.specs.Steps.{line_may_come, with_declared, no_names, count_names};
 
 use crate::blocks::BlockStack;
 use crate::limits::{
@@ -72,7 +72,7 @@ pub struct TheoremParser {
 
 /// Whether a line may come in this section.
 pub(crate) fn allowed(section: Section, raw_line: &RawLine) -> bool
-    ensures { result ≡ allowed section raw_line.now }
+    ensures { result ≡ line_may_come section raw_line.now }
 {
     match raw_line {
         RawLine::Theorem(_) => false,
@@ -126,11 +126,11 @@ fn append_names(names: &mut Names, sort: Sort, new: &[Name]) -> Result<(), Alloc
 }
 
 /// New objects of a sort: names that are free, and the limit of the sort.
-#[tactic(auto, unfolding(crate::specs::Steps::declared))]
+#[tactic(auto, unfolding(crate::specs::Steps::with_declared))]
 pub fn declare(names: &mut Names, sort: Sort, new: &[Name]) -> Result<(), LineError>
     requires { FewNamed names.old }
     ensures count { OnOk result (count_names names.new ≡ count_names names.old + length new.now) }
-    ensures value { Moves result names.new (declared names.old sort new.now) }
+    ensures value { Moves result names.new (with_declared names.old sort new.now) }
     ensures fits { OnOk result (FewNamed names.new) }
 {
     fresh(names, new)?;
@@ -169,9 +169,10 @@ impl TheoremParser {
     ghost use Rattle.e_theorem.specs.Statements.{stated};
     ghost use Rattle.e_line.specs.Limits.{most_theorems};
     ghost use Rattle.e_book.specs.LineLimits.{few_objects};
-    ghost use Rattle.e_book.specs.Steps.{FitsScope, begin, begun, step, stepped, declares};
-    ghost use Rattle.e_book.specs.Steps.{supposes, makes, shows, proof_begun, cited, inferred};
-    ghost use Rattle.e_book.specs.Steps.{with_step, with_terms, built, used_by, applied};
+    ghost use Rattle.e_book.specs.Steps.{FitsScope, begin, with_title, step, after_line};
+    ghost use Rattle.e_book.specs.Steps.{after_declare, after_given, after_made, after_show};
+    ghost use Rattle.e_book.specs.Steps.{after_proof, after_by, after_hence, with_step};
+    ghost use Rattle.e_book.specs.Steps.{with_terms, after_let, with_use, after_apply};
     ghost use Rattle.e_book.specs.ParserViews.{entry_of_parser};
     ghost use Rattle.e_book.specs.TheoremViews.{entry_of};
     ghost use Rattle.e_book.specs.inner.Machine.{names_there};
@@ -201,7 +202,7 @@ impl TheoremParser {
 
     /// What has come where only the title has.
     pub(crate) fn begun(alloc: Global, title: Title) -> TheoremParser
-        ensures value { result ≡ begun title }
+        ensures value { result ≡ with_title title }
         ensures fits { FitsScope result }
     {
         TheoremParser {
@@ -252,7 +253,7 @@ impl TheoremParser {
         self.stepped(alloc, known, raw_line)
     }
 
-    #[tactic(auto, unfolding(crate::specs::Steps::stepped))]
+    #[tactic(auto, unfolding(crate::specs::Steps::after_line))]
     fn stepped(
         &mut self,
         alloc: Global,
@@ -261,7 +262,7 @@ impl TheoremParser {
     ) -> Result<(), LineError>
         requires parser { FitsScope self.old }
         requires known { length known.now ≤ most_theorems }
-        ensures value { Moves result self.new (stepped known.now self.old raw_line.now) }
+        ensures value { Moves result self.new (after_line known.now self.old raw_line.now) }
         ensures fits { OnOk result (FitsScope self.new) }
     {
         match raw_line {
@@ -299,7 +300,7 @@ impl TheoremParser {
         names: &[Name],
     ) -> Result<(), LineError>
         requires { FitsScope self.old }
-        ensures value { Moves result self.new (declares self.old sort names.now) }
+        ensures value { Moves result self.new (after_declare self.old sort names.now) }
         ensures fits { OnOk result (FitsScope self.new) }
     {
         declare(&mut self.names, sort, names)?;
@@ -311,7 +312,7 @@ impl TheoremParser {
     /// Made objects.
     fn on_made(&mut self, alloc: Global, sort: Sort, names: &[Name]) -> Result<(), LineError>
         requires { FitsScope self.old }
-        ensures value { Moves result self.new (makes self.old sort names.now) }
+        ensures value { Moves result self.new (after_made self.old sort names.now) }
         ensures fits { OnOk result (FitsScope self.new) }
     {
         declare(&mut self.names, sort, names)?;
@@ -324,7 +325,7 @@ impl TheoremParser {
     /// Shown literals: their names, and then the limits of each.
     pub(crate) fn on_show(&mut self, alloc: Global, raw: &[RawLit]) -> Result<(), LineError>
         requires { FitsScope self.old }
-        ensures value { Moves result self.new (shows self.old raw.now) }
+        ensures value { Moves result self.new (after_show self.old raw.now) }
         ensures fits { OnOk result (FitsScope self.new) }
     {
         put_lits(alloc, &self.names, raw, &mut self.shown)?;
@@ -336,7 +337,7 @@ impl TheoremParser {
     /// The proof begins with the declared objects.
     fn on_proof(&mut self, alloc: Global) -> Result<(), LineError>
         requires { FitsScope self.old }
-        ensures value { Moves result self.new (proof_begun self.old) }
+        ensures value { Moves result self.new (after_proof self.old) }
         ensures fits { OnOk result (FitsScope self.new) }
     {
         let scope = grown(NOTHING, self.declared.items());
@@ -349,7 +350,7 @@ impl TheoremParser {
     /// Given literals: their names, and then the limits of facts and of monomials.
     fn on_given(&mut self, alloc: Global, raw: &[RawLit]) -> Result<(), LineError>
         requires { FitsScope self.old }
-        ensures value { Moves result self.new (supposes self.old raw.now) }
+        ensures value { Moves result self.new (after_given self.old raw.now) }
         ensures fits { OnOk result (FitsScope self.new) }
     {
         put_lits(alloc, &self.names, raw, &mut self.given)?;
@@ -365,7 +366,7 @@ impl TheoremParser {
     #[tactic(auto, unfolding(e_deriv::specs::PlainStep::plain_step))]
     fn on_hence(&mut self, alloc: Global, raw: &RawLit) -> Result<(), LineError>
         requires { FitsScope self.old }
-        ensures value { Moves result self.new (inferred self.old raw.now) }
+        ensures value { Moves result self.new (after_hence self.old raw.now) }
         ensures fits { OnOk result (FitsScope self.new) }
     {
         let lit = lit_in(alloc, &self.in_scope, raw)?;
@@ -382,7 +383,7 @@ impl TheoremParser {
         lit: &RawLit,
     ) -> Result<(), LineError>
         requires { FitsScope self.old }
-        ensures value { Moves result self.new (cited self.old rule args.now lit.now) }
+        ensures value { Moves result self.new (after_by self.old rule args.now lit.now) }
         ensures fits { OnOk result (FitsScope self.new) }
     {
         let by = by_in(alloc, &self.in_scope, rule, args, lit)?;
@@ -391,10 +392,10 @@ impl TheoremParser {
 
     /// A construction: its names, and then the limits of objects, of steps and of facts. Its new
     /// objects are in scope after it.
-    #[tactic(auto, unfolding(crate::specs::Steps::built, e_deriv::specs::PlainStep::plain_step))]
+    #[tactic(auto, unfolding(crate::specs::Steps::after_let, e_deriv::specs::PlainStep::plain_step))]
     fn on_let(&mut self, alloc: Global, raw: &RawLet) -> Result<(), LineError>
         requires { FitsScope self.old }
-        ensures value { Moves result self.new (built self.old raw.now) }
+        ensures value { Moves result self.new (after_let self.old raw.now) }
         ensures fits { OnOk result (FitsScope self.new) }
     {
         let construction = let_in(alloc, &self.in_scope, raw)?;
@@ -446,11 +447,11 @@ impl TheoremParser {
     }
 
     /// The use of an earlier theorem: its title and the names, and then the limits.
-    #[tactic(auto, unfolding(crate::specs::Steps::applied))]
+    #[tactic(auto, unfolding(crate::specs::Steps::after_apply))]
     fn on_apply(&mut self, alloc: Global, known: &Theorems, raw: &RawApply) -> Result<(), LineError>
         requires parser { FitsScope self.old }
         requires known { length known.now ≤ most_theorems }
-        ensures value { Moves result self.new (applied known.now self.old raw.now) }
+        ensures value { Moves result self.new (after_apply known.now self.old raw.now) }
         ensures fits { OnOk result (FitsScope self.new) }
     {
         let application = apply_in(alloc, known, &self.in_scope, raw)?;
@@ -460,7 +461,7 @@ impl TheoremParser {
 
     /// A theorem is used: the limits of objects, of steps, of facts, of monomials and of blanks.
     /// What it shows are facts, and its made objects are in scope after the line.
-    #[tactic(auto, unfolding(crate::specs::Steps::used_by, e_deriv::specs::PlainStep::plain_step))]
+    #[tactic(auto, unfolding(crate::specs::Steps::with_use, e_deriv::specs::PlainStep::plain_step))]
     fn use_theorem(
         &mut self,
         alloc: Global,
@@ -469,8 +470,8 @@ impl TheoremParser {
         new: &[Name],
     ) -> Result<(), LineError>
         requires { FitsScope self.old }
-        ensures value { Moves result self.new
-            (used_by self.old (stated statement.now) application.theorem application.args new.now) }
+        ensures value { Moves result self.new (with_use self.old
+            (stated statement.now) application.theorem application.args new.now) }
         ensures fits { OnOk result (FitsScope self.new) }
     {
         let names = match self.bring_in(alloc, statement.made.items(), new) {

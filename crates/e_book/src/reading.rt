@@ -13,7 +13,7 @@ ghost use Rattle.e_book.specs.inner.Machine.{TakesWords, TakesLine, ReadsOn, end
 use crate::coming::Coming;
 use crate::item::Item;
 use crate::parser::Section;
-use e_line::{BookFault, LineError, book_line_of, collected, of_line};
+use e_line::{BookFault, LineError, book_line_of, of_line, words_of_line};
 use e_names::Known;
 use e_text::{Line, Lines};
 use std::alloc::Global;
@@ -105,7 +105,7 @@ impl Reading {
             (view_of_line line.now) result self.new.coming }
         ensures fits { OnOk result (IfSome self.new.coming (FitsComing known.now)) }
     {
-        let words = collected(alloc, line.bytes)?;
+        let words = words_of_line(alloc, line.bytes)?;
         self.take_tokens(alloc, known, line, &words)
     }
 

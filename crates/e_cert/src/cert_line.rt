@@ -179,7 +179,7 @@ fn may_differ(row: &RawRow) -> bool
     matches!(row, RawRow::Fact(_) | RawRow::Goal | RawRow::FactAt(_))
 }
 
-fn bare(words: Words, cert_line: CertLine) -> Result<CertLine, LineError>
+fn bare_cert_line(words: Words, cert_line: CertLine) -> Result<CertLine, LineError>
     ensures { Gives (λ m. m) result (bare_cert_line words.entry cert_line) }
 {
     match words.end() {
@@ -252,7 +252,7 @@ fn cert_line_named(alloc: Global, word: &[u8], rest: &[&[u8]]) -> Result<CertLin
         return fact_cert_line_of(rest);
     }
     if is(word, b"metric") {
-        return bare(words, CertLine::Metric);
+        return bare_cert_line(words, CertLine::Metric);
     }
     if is(word, b"transfer") {
         return transfer_of(alloc, rest);
@@ -261,7 +261,7 @@ fn cert_line_named(alloc: Global, word: &[u8], rest: &[&[u8]]) -> Result<CertLin
         return Ok(CertLine::Clash(diagram_lit_of(alloc, rest)?));
     }
     if is(word, b"sum") {
-        return bare(words, CertLine::Sum);
+        return bare_cert_line(words, CertLine::Sum);
     }
     if is(word, b"differs") {
         return differs_of(alloc, rest);

@@ -13,13 +13,13 @@ use Rattle.e_line.specs.Limits.{most_of, what_of, within}
 use Rattle.e_line.specs.Reading.{◌>>=◌}
 use Rattle.e_names.specs.Scope.{fresh}
 use Rattle.e_book.specs.LineLimits.{FewNamed}
-use Rattle.e_book.specs.Steps.{declared}
+use Rattle.e_book.specs.Steps.{with_declared}
 use Rattle.e_line.proofs.base.Bound.{bind_ok, ok_is}
 use Rattle.e_drawing.specs.declared.plan.Plan.{Plan}
 use Rattle.e_drawing.specs.Plans.{FitsPlan}
 
-declared_is : (ns after : Names) (sort : Sort) (new : List (List ℕ)) → declared ns sort new ≡ Ok after → after ≡ with_names ns sort (names_of_sort ns sort ++ new)
-unfolding declared
+declared_is : (ns after : Names) (sort : Sort) (new : List (List ℕ)) → with_declared ns sort new ≡ Ok after → after ≡ with_names ns sort (names_of_sort ns sort ++ new)
+unfolding with_declared
 declared_is ns after sort new e =
     let rest = within (length (names_of_sort ns sort) + length new) (most_of sort) (what_of sort) >>= (λ few. Ok (with_names ns sort (names_of_sort ns sort ++ new))) in
     let a = bind_ok (fresh ns [] new) (λ free. rest) after e in
@@ -32,7 +32,7 @@ same_scope a b c = record { points = a; lines = b; circles = c }
 scopes_alike : (a b c x y z : ℕ) → a ≡ x → b ≡ y → c ≡ z → same_scope a b c ≡ same_scope x y z
 scopes_alike a b c x y z p q r = ap (λ n. same_scope n b c) p ∙ (ap (λ n. same_scope x n c) q ∙ ap (same_scope x y) r)
 
-pub point_named : (p : Plan) (name : List ℕ) (ns : Names) (a : Point) → FitsPlan p → declared p.names sorts.Point (name ∷ []) ≡ Ok ns → FewNamed ns
+pub point_named : (p : Plan) (name : List ℕ) (ns : Names) (a : Point) → FitsPlan p → with_declared p.names sorts.Point (name ∷ []) ≡ Ok ns → FewNamed ns
     → (length p.figure.points < 40) × FitsPlan (record p { names = ns; figure = with_point p.figure a })
 point_named p name ns a fit e few =
     let is = declared_is p.names ns sorts.Point (name ∷ []) e in
@@ -44,7 +44,7 @@ point_named p name ns a fit e few =
     (omega (arith, length-append p.figure.points (a ∷ []), points, more)) (lines ∙ sym (ap (λ (n : Names). length n.lines) is)) (circles ∙ sym (ap (λ (n : Names). length n.circles) is)) in
     (omega (arith, points, more, few.points), record { few = few; named = s })
 
-pub line_named : (p : Plan) (name : List ℕ) (ns : Names) (l : Straight) → FitsPlan p → declared p.names sorts.Line (name ∷ []) ≡ Ok ns → FewNamed ns
+pub line_named : (p : Plan) (name : List ℕ) (ns : Names) (l : Straight) → FitsPlan p → with_declared p.names sorts.Line (name ∷ []) ≡ Ok ns → FewNamed ns
     → (length p.figure.lines < 24) × FitsPlan (record p { names = ns; figure = with_line p.figure l })
 line_named p name ns l fit e few =
     let is = declared_is p.names ns sorts.Line (name ∷ []) e in
@@ -56,7 +56,7 @@ line_named p name ns l fit e few =
     (points ∙ sym (ap (λ (n : Names). length n.points) is)) (omega (arith, length-append p.figure.lines (l ∷ []), lines, more)) (circles ∙ sym (ap (λ (n : Names). length n.circles) is)) in
     (omega (arith, lines, more, few.lines), record { few = few; named = s })
 
-pub circle_named : (p : Plan) (name : List ℕ) (ns : Names) (c : Round) → FitsPlan p → declared p.names sorts.Circle (name ∷ []) ≡ Ok ns → FewNamed ns
+pub circle_named : (p : Plan) (name : List ℕ) (ns : Names) (c : Round) → FitsPlan p → with_declared p.names sorts.Circle (name ∷ []) ≡ Ok ns → FewNamed ns
     → (length p.figure.circles < 16) × FitsPlan (record p { names = ns; figure = with_circle p.figure c })
 circle_named p name ns c fit e few =
     let is = declared_is p.names ns sorts.Circle (name ∷ []) e in

@@ -15,7 +15,7 @@ use Rattle.e_line.specs.Reading.{◌>>=◌, with_front}
 use Rattle.e_names.specs.Scope.{lits_in, scope_of_names}
 use Rattle.e_line.specs.LineLimits.{or_limit}
 use Rattle.e_book.specs.LineLimits.{FewNamed}
-use Rattle.e_book.specs.Steps.{declared, no_names}
+use Rattle.e_book.specs.Steps.{with_declared, no_names}
 use Rattle.e_drawing.specs.declared.raw.RawLine.{RawLine}
 use Rattle.e_drawing.specs.declared.raw.RawLine.TheVariants as raw
 use Rattle.e_drawing.specs.declared.plan.Place.{Place}
@@ -51,19 +51,19 @@ allowed_in_plan place line = false
 
 unfoldable pub with_named_point : Plan → List ℕ → Point → Result Plan FaultKind
 with_named_point p name a = do
-  ns ← declared p.names sorts.Point (name ∷ [])
+  ns ← with_declared p.names sorts.Point (name ∷ [])
   few ← or_limit (is_small_point a) limits.Number
   Ok (record p { names = ns; figure = with_point p.figure a })
 
 unfoldable pub with_named_line : Plan → List ℕ → Straight → Result Plan FaultKind
 with_named_line p name l = do
-  ns ← declared p.names sorts.Line (name ∷ [])
+  ns ← with_declared p.names sorts.Line (name ∷ [])
   few ← or_limit (is_small_line l) limits.Number
   Ok (record p { names = ns; figure = with_line p.figure l })
 
 unfoldable pub with_named_circle : Plan → List ℕ → Round → Result Plan FaultKind
 with_named_circle p name c = do
-  ns ← declared p.names sorts.Circle (name ∷ [])
+  ns ← with_declared p.names sorts.Circle (name ∷ [])
   few ← or_limit (is_small_circle c) limits.Number
   Ok (record p { names = ns; figure = with_circle p.figure c })
 

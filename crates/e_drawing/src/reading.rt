@@ -10,7 +10,7 @@ ghost use Rattle.e_drawing.specs.Texts.{plan_at_end, words_step, plan_from, Plan
 use crate::plan::Plan;
 use crate::raw::line_of;
 use e_book::is_skipped;
-use e_line::{BookFault, LineError, collected, of_line};
+use e_line::{BookFault, LineError, of_line, words_of_line};
 use e_text::{Line, Lines};
 use std::alloc::Global;
 use std::mem;
@@ -57,7 +57,7 @@ fn take_line(alloc: Global, plan: &mut Plan, line: &Line) -> Result<(), BookFaul
     ensures takes { TakesPlanLine plan.old (view_of_line line.now) result plan.new }
     ensures fits { OnOk result (FitsPlan plan.new) }
 {
-    let words = collected(alloc, line.bytes)?;
+    let words = words_of_line(alloc, line.bytes)?;
     take_tokens(alloc, plan, line, &words)
 }
 

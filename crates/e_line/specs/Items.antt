@@ -69,8 +69,8 @@ placing_of head =
     >>= λ args. Ok (Superpose args new))
     else Err Malformed
 
-unfoldable pub listed : Listing → List (List ℕ) → Result BookLine FaultKind
-listed line words = do
+unfoldable pub line_with_items : Listing → List (List ℕ) → Result BookLine FaultKind
+line_with_items line words = do
   items ← items_of words
   Ok (Listed line items)
 
@@ -79,11 +79,11 @@ listed line words = do
 unfoldable pub line_named : List ℕ → List (List ℕ) → Result BookLine FaultKind
 line_named w ws =
     if bytes_eq w (codes "define") then define_of ws else
-    if bytes_eq w (codes "given") && has_item ws then listed Given ws else
-    if bytes_eq w (codes "show") && has_item ws then listed Show ws else
-    if bytes_eq w (codes "claim") && has_item ws then listed Claim ws else
+    if bytes_eq w (codes "given") && has_item ws then line_with_items Given ws else
+    if bytes_eq w (codes "show") && has_item ws then line_with_items Show ws else
+    if bytes_eq w (codes "claim") && has_item ws then line_with_items Claim ws else
     if bytes_eq w (codes "superpose") && has_item (drop 13 ws)
-    then (placing_of (take 13 ws) >>= λ line. listed line (drop 13 ws)) else
+    then (placing_of (take 13 ws) >>= λ line. line_with_items line (drop 13 ws)) else
     (raw_line_named w ws >>= λ f. Ok (Plain f))
 
 unfoldable pub book_line_of : List (List ℕ) → Result BookLine FaultKind

@@ -76,8 +76,8 @@ sign_first [] = Err Malformed
 sign_first (w ∷ ws) = or_malformed (sign_of w) >>= λ s. Ok (s, ws)
 
 -- two sides with a sign between them
-unfoldable pub compared : Bool → List (List ℕ) → Result RawLit FaultKind
-compared negated words = do
+unfoldable pub lit_of_sides : Bool → List (List ℕ) → Result RawLit FaultKind
+lit_of_sides negated words = do
   let n = position_or_len is_sign words
   s ← sign_first (drop n words)
   neg ← negation_of negated s.0
@@ -86,33 +86,35 @@ compared negated words = do
 
 -- ---- literals
 
-abbrev pub signed : Bool → RawAtom → RawLit
-signed neg a = record { neg = neg; atom = a }
+abbrev pub signed_lit : Bool → RawAtom → RawLit
+signed_lit neg a = record { neg = neg; atom = a }
 
 -- the first word says which relation it is; without such a word the literal compares
-unfoldable pub related : Bool → List ℕ → List (List ℕ) → Result RawLit FaultKind
-related negated w ws =
-    if bytes_eq w (codes "on") then (two_names ws >>= λ p. Ok (signed negated (On p.0 p.1))) else
+unfoldable pub lit_by_first_word : Bool → List ℕ → List (List ℕ) → Result RawLit FaultKind
+lit_by_first_word negated w ws =
+    if bytes_eq w (codes "on")
+    then (two_names ws >>= λ p. Ok (signed_lit negated (On p.0 p.1))) else
     if bytes_eq w (codes "inside")
-    then (two_names ws >>= λ p. Ok (signed negated (Inside p.0 p.1))) else
+    then (two_names ws >>= λ p. Ok (signed_lit negated (Inside p.0 p.1))) else
     if bytes_eq w (codes "center")
-    then (two_names ws >>= λ p. Ok (signed negated (Center p.0 p.1))) else
+    then (two_names ws >>= λ p. Ok (signed_lit negated (Center p.0 p.1))) else
     if bytes_eq w (codes "between")
-    then (three_names ws >>= λ p. Ok (signed negated (Between p.0 p.1 p.2))) else
+    then (three_names ws >>= λ p. Ok (signed_lit negated (Between p.0 p.1 p.2))) else
     if bytes_eq w (codes "same-side")
-    then (three_names ws >>= λ p. Ok (signed negated (Same p.0 p.1 p.2))) else
+    then (three_names ws >>= λ p. Ok (signed_lit negated (Same p.0 p.1 p.2))) else
     if bytes_eq w (codes "meets")
-    then (two_names ws >>= λ p. Ok (signed negated (Meets p.0 p.1)))
-    else compared negated (w ∷ ws)
+    then (two_names ws >>= λ p. Ok (signed_lit negated (Meets p.0 p.1)))
+    else lit_of_sides negated (w ∷ ws)
 
 unfoldable pub signed_of : Bool → List (List ℕ) → Result RawLit FaultKind
 signed_of negated [] = Err Malformed
-signed_of negated (w ∷ ws) = related negated w ws
+signed_of negated (w ∷ ws) = lit_by_first_word negated w ws
 
 -- a literal: not comes once before any form but those with != and <=
 unfoldable pub lit_of : List (List ℕ) → Result RawLit FaultKind
 lit_of [] = Err Malformed
-lit_of (w ∷ ws) = if bytes_eq w (codes "not") then signed_of true ws else related false w ws
+lit_of (w ∷ ws) =
+    if bytes_eq w (codes "not") then signed_of true ws else lit_by_first_word false w ws
 
 -- a literal of diagrams or of equal objects
 abbrev pub is_diagram_raw : RawAtom → Bool

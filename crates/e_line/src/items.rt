@@ -3,14 +3,14 @@
 ghost use Rattle.std.specs.Prelude.{◌≡◌, ◌&&◌, [], ◌∷◌};
 ghost use Rattle.std.specs.Str.{bytes_eq};
 ghost use Rattle.e_line.specs.Reading.{texts, Gives, Moves, with_front};
-ghost use Rattle.e_line.specs.Items.{as_of, item_of, items_of, begins_item, has_item};
-ghost use Rattle.e_line.specs.Items.{define_of, placing_of, listed, line_named, book_line_of};
+ghost use Rattle.e_line.specs.Items.{as_of, item_of, items_of, begins_item, has_item, define_of};
+ghost use Rattle.e_line.specs.Items.{placing_of, line_with_items, line_named, book_line_of};
 
 use crate::fault::{FaultKind, LineError};
 use crate::lets::{are_words_of, names_at};
 use crate::literal::{RawLit, lit_of};
 use crate::raw_line::{RawLine, raw_line_of};
-use crate::superposes::{parted, superposition_pieces};
+use crate::superposes::{head_and_lits, superposition_pieces};
 use crate::words::{Words, names_of, place_of};
 use e_literal::Items;
 use e_text::{Name, Title, is};
@@ -154,9 +154,9 @@ fn placing_of(alloc: Global, head: &[&[u8]]) -> Result<Listing, LineError>
     Ok(Listing::Superpose { args, new })
 }
 
-#[tactic(auto, unfolding(crate::specs::Items::listed))]
-fn listed(alloc: Global, line: Listing, words: &[&[u8]]) -> Result<BookLine, LineError>
-    ensures { Gives (λ l. l) result (listed line (texts words.now)) }
+#[tactic(auto, unfolding(crate::specs::Items::line_with_items))]
+fn line_with_items(alloc: Global, line: Listing, words: &[&[u8]]) -> Result<BookLine, LineError>
+    ensures { Gives (λ l. l) result (line_with_items line (texts words.now)) }
 {
     let items = match items_of(alloc, words) {
         Ok(items) => items,
@@ -191,17 +191,17 @@ fn line_named(
         return define_of(Words::new(rest));
     }
     if lists(word, b"given", rest) {
-        return listed(alloc, Listing::Given, rest);
+        return line_with_items(alloc, Listing::Given, rest);
     }
     if lists(word, b"show", rest) {
-        return listed(alloc, Listing::Show, rest);
+        return line_with_items(alloc, Listing::Show, rest);
     }
     if lists(word, b"claim", rest) {
-        return listed(alloc, Listing::Claim, rest);
+        return line_with_items(alloc, Listing::Claim, rest);
     }
-    let (head, after) = parted(rest);
+    let (head, after) = head_and_lits(rest);
     if lists(word, b"superpose", after) {
-        return listed(alloc, placing_of(alloc, head)?, after);
+        return line_with_items(alloc, placing_of(alloc, head)?, after);
     }
     Ok(BookLine::Plain(raw_line_of(alloc, words)?))
 }

@@ -32,4 +32,4 @@ pub use raw_line::{RawLine, raw_line_of};
 pub use strict::{exact_line_of, is_direct};
 pub use sum::{RawMono, RawTerm, term_of};
 pub use superposes::{RawSuperpose, superposition_pieces};
-pub use words::{Words, collected, names_of, sort_word};
+pub use words::{Words, names_of, sort_word, words_of_line};

@@ -3,8 +3,8 @@ ghost use Rattle.std.specs.Prelude.{◌≡◌, ◌∷◌, ◌≤◌, List, lengt
 ghost use Rattle.std.specs.List.{list_all, position_or_len};
 ghost use Rattle.e_line.specs.Reading.{texts, Gives, Moves, with_front};
 ghost use Rattle.e_line.specs.Literals.{sign_of, is_sign, single_name, sums_of, sides_of};
-ghost use Rattle.e_line.specs.Literals.{equal_sides, negation_of, sign_first, compared};
-ghost use Rattle.e_line.specs.Literals.{related, signed_of, lit_of, is_diagram_raw};
+ghost use Rattle.e_line.specs.Literals.{equal_sides, negation_of, sign_first, lit_of_sides};
+ghost use Rattle.e_line.specs.Literals.{lit_by_first_word, signed_of, lit_of, is_diagram_raw};
 ghost use Rattle.e_line.specs.Literals.{diagram_lit_of, diagram_lits_of, lits_of};
 
 use crate::fault::{FaultKind, LineError};
@@ -185,9 +185,9 @@ fn negation_of(negated: bool, sign: Sign) -> Result<bool, LineError>
 }
 
 /// Two sides with a sign between them.
-#[tactic(auto, unfolding(crate::specs::Literals::compared))]
-fn compared(alloc: Global, negated: bool, words: &[&[u8]]) -> Result<RawLit, LineError>
-    ensures { Gives (λ l. l) result (compared negated (texts words.now)) }
+#[tactic(auto, unfolding(crate::specs::Literals::lit_of_sides))]
+fn lit_of_sides(alloc: Global, negated: bool, words: &[&[u8]]) -> Result<RawLit, LineError>
+    ensures { Gives (λ l. l) result (lit_of_sides negated (texts words.now)) }
 {
     let (left, rest) = words.split_at(place_of_sign(words));
     let [sign, right @ ..] = rest else {
@@ -202,8 +202,8 @@ fn compared(alloc: Global, negated: bool, words: &[&[u8]]) -> Result<RawLit, Lin
 }
 
 /// A literal: a relation by its first word, or a comparison.
-#[tactic(auto, unfolding(crate::specs::Literals::related))]
-fn related(
+#[tactic(auto, unfolding(crate::specs::Literals::lit_by_first_word))]
+fn lit_by_first_word(
     alloc: Global,
     neg: bool,
     word: &[u8],
@@ -211,7 +211,7 @@ fn related(
     words: &[&[u8]],
 ) -> Result<RawLit, LineError>
     requires { texts words.now ≡ word.now ∷ texts rest.now }
-    ensures { Gives (λ l. l) result (related neg word.now (texts rest.now)) }
+    ensures { Gives (λ l. l) result (lit_by_first_word neg word.now (texts rest.now)) }
 {
     if is(word, b"on") {
         let (x, y) = two_names(rest)?;
@@ -243,7 +243,7 @@ fn related(
         let atom = RawAtom::Meets(x, y);
         return Ok(RawLit { neg, atom });
     }
-    compared(alloc, neg, words)
+    lit_of_sides(alloc, neg, words)
 }
 
 #[tactic(auto, unfolding(crate::specs::Literals::signed_of))]
@@ -252,7 +252,7 @@ fn signed_of(alloc: Global, neg: bool, words: &[&[u8]]) -> Result<RawLit, LineEr
 {
     match words {
         [] => Err(LineError::Fault(FaultKind::Malformed)),
-        [word, rest @ ..] => related(alloc, neg, word, rest, words),
+        [word, rest @ ..] => lit_by_first_word(alloc, neg, word, rest, words),
     }
 }
 
@@ -267,7 +267,7 @@ pub fn lit_of(alloc: Global, words: &[&[u8]]) -> Result<RawLit, LineError>
             if is(word, b"not") {
                 return signed_of(alloc, true, rest);
             }
-            related(alloc, false, word, rest, words)
+            lit_by_first_word(alloc, false, word, rest, words)
         }
     }
 }

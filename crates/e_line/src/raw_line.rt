@@ -2,7 +2,7 @@
 ghost use Rattle.std.specs.Prelude.{◌≡◌, List, length, IfOk, [], ◌∷◌, ◌==◌};
 ghost use Rattle.e_line.specs.Reading.{texts, Gives};
 ghost use Rattle.e_line.specs.RawLines.{declare_of, sort_of, made_of, by_of};
-ghost use Rattle.e_line.specs.RawLines.{raw_line_of, raw_line_named, theorem_line_of, bare};
+ghost use Rattle.e_line.specs.RawLines.{raw_line_of, raw_line_named, theorem_line_of, bare_line};
 
 use crate::applies::{RawApply, apply_of};
 use crate::fault::{FaultKind, LineError};
@@ -119,9 +119,9 @@ fn theorem_of(mut words: Words) -> Result<RawLine, LineError>
     Ok(RawLine::Theorem(title))
 }
 
-#[tactic(auto, unfolding(crate::specs::RawLines::bare))]
-fn bare(words: Words, raw_line: RawLine) -> Result<RawLine, LineError>
-    ensures { Gives (λ f. f) result (bare words.entry raw_line) }
+#[tactic(auto, unfolding(crate::specs::RawLines::bare_line))]
+fn bare_line(words: Words, raw_line: RawLine) -> Result<RawLine, LineError>
+    ensures { Gives (λ f. f) result (bare_line words.entry raw_line) }
 {
     match words.end() {
         Ok(()) => Ok(raw_line),
@@ -159,7 +159,7 @@ fn raw_line_named(alloc: Global, word: &[u8], rest: &[&[u8]]) -> Result<RawLine,
         return Ok(RawLine::Show(lits_of(alloc, rest)?));
     }
     if is(word, b"proof") {
-        return bare(words, RawLine::Proof);
+        return bare_line(words, RawLine::Proof);
     }
     if is(word, b"by") {
         return by_of(alloc, rest);
@@ -177,7 +177,7 @@ fn raw_line_named(alloc: Global, word: &[u8], rest: &[&[u8]]) -> Result<RawLine,
         return Ok(RawLine::Qed(names_of(alloc, rest)?));
     }
     if is(word, b"contradiction") {
-        return bare(words, RawLine::Contradiction);
+        return bare_line(words, RawLine::Contradiction);
     }
     if is(word, b"claim") {
         return Ok(RawLine::Claim(lits_of(alloc, rest)?));
@@ -189,10 +189,10 @@ fn raw_line_named(alloc: Global, word: &[u8], rest: &[&[u8]]) -> Result<RawLine,
         return Ok(RawLine::Cases(lit_of(alloc, rest)?));
     }
     if is(word, b"else") {
-        return bare(words, RawLine::Else);
+        return bare_line(words, RawLine::Else);
     }
     if is(word, b"end") {
-        return bare(words, RawLine::End);
+        return bare_line(words, RawLine::End);
     }
     Err(LineError::Fault(FaultKind::Malformed))
 }

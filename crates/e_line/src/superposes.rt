@@ -52,7 +52,7 @@ pub fn superposition_pieces() -> &'static [Piece]
 }
 
 /// The words up to `show`, and those after them.
-pub(crate) fn parted<'a, 'b>(words: &'a [&'b [u8]]) -> (&'a [&'b [u8]], &'a [&'b [u8]])
+pub(crate) fn head_and_lits<'a, 'b>(words: &'a [&'b [u8]]) -> (&'a [&'b [u8]], &'a [&'b [u8]])
     ensures head { texts result.0.now ≡ take 13 (texts words.now) }
     ensures rest { texts result.1.now ≡ drop 13 (texts words.now) }
 {
@@ -78,6 +78,6 @@ fn head_of(alloc: Global, head: &[&[u8]], rest: &[&[u8]]) -> Result<RawSuperpose
 pub(crate) fn superpose_of(alloc: Global, words: &[&[u8]]) -> Result<RawSuperpose, LineError>
     ensures { Gives (λ s. s) result (superpose_of (texts words.now)) }
 {
-    let (head, rest) = parted(words);
+    let (head, rest) = head_and_lits(words);
     head_of(alloc, head, rest)
 }

@@ -29,7 +29,7 @@ pub fn sort_word(sort: Sort) -> &'static [u8]
 
 /// The tokens of a line, kept in room for as many as the line can have. It fails only out of
 /// memory.
-pub fn collected(alloc: Global, line: &[u8]) -> Result<Vec<&[u8]>, AllocError>
+pub fn words_of_line(alloc: Global, line: &[u8]) -> Result<Vec<&[u8]>, AllocError>
     ensures { IfOk result (λ v. texts v.items ≡ tokens_of line.now) }
 {
     let mut words = Vec::with_capacity(alloc, line.len() / 2 + 1)?;

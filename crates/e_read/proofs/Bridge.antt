@@ -18,7 +18,7 @@ use Rattle.e_read.specs.declared.reading.BlockParser.{BlockParser}
 use Rattle.e_read.specs.Filled.{script_with_certs}
 use Rattle.e_read.specs.Laws.{begins_with_bar, is_of_theorem}
 use Rattle.e_read.specs.Text.{TextPiece, Derived, Last, garbled_at}
-use Rattle.e_read.specs.inner.Machine.{parser_after_line, derived, is_finished, finished, or_on, is_end, piece_from}
+use Rattle.e_read.specs.inner.Machine.{parser_after_line, theorem_with_certs, is_finished, finished_theorem, or_on, is_end, piece_from}
 use Rattle.e_read.proofs.TakenLines.{Stepped, line_taken, form_read, not_skipped, book_line, either}
 
 abbrev pub Answer : Type 0
@@ -72,24 +72,24 @@ pub goes_on : (t : Option TheoremView) (lines rest : List (Result LineView LineF
 goes_on None lines rest more u e = inr (refl, e)
 goes_on (Some x) lines rest more u e = inl (x, refl, e)
 
-pub unfinished : (parser : Option TheoremParser) (kept : List StepCerts) (x : TheoremView) → is_finished parser ≡ false → finished parser kept ≡ Some x → ⊥
+pub unfinished : (parser : Option TheoremParser) (kept : List StepCerts) (x : TheoremView) → is_finished parser ≡ false → finished_theorem parser kept ≡ Some x → ⊥
 unfinished None kept x h e = absurd cc
-unfinished (Some d) kept x h e = by_test (is_done d) (derived d kept) h e
+unfinished (Some d) kept x h e = by_test (is_done d) (theorem_with_certs d kept) h e
   where
     by_test : (b : Bool) (y : TheoremView) → b ≡ false → cond b (Some y) None ≡ Some x → ⊥
     by_test true y h e = absurd cc
     by_test false y h e = absurd cc
 
-pub still : (parser : Option TheoremParser) (kept : List StepCerts) → finished parser kept ≡ None → is_finished parser ≡ false
+pub still : (parser : Option TheoremParser) (kept : List StepCerts) → finished_theorem parser kept ≡ None → is_finished parser ≡ false
 still None kept e = refl
-still (Some d) kept e = open_still (is_done d) (derived d kept) e
+still (Some d) kept e = open_still (is_done d) (theorem_with_certs d kept) e
   where
     open_still : (b : Bool) (x : TheoremView) → let none : Option TheoremView = None in cond b (Some x) None ≡ none → b ≡ false
     open_still true x h = absurd cc
     open_still false x h = refl
 
-pub closed_is : (d : TheoremParser) (kept : List StepCerts) (x : TheoremView) → finished (Some d) kept ≡ Some x → (is_done d ≡ true) × (derived d kept ≡ x)
-closed_is d kept x e = by_test (is_done d) (derived d kept) e
+pub closed_is : (d : TheoremParser) (kept : List StepCerts) (x : TheoremView) → finished_theorem (Some d) kept ≡ Some x → (is_done d ≡ true) × (theorem_with_certs d kept ≡ x)
+closed_is d kept x e = by_test (is_done d) (theorem_with_certs d kept) e
   where
     by_test : (b : Bool) (y : TheoremView) → cond b (Some y) None ≡ Some x → (b ≡ true) × (y ≡ x)
     by_test true y h = (refl, cc)
@@ -106,13 +106,13 @@ plainly known last r [] rest t unended e = absurd cc
 plainly known last r (Err f ∷ lines) rest t unended e = absurd cc
 plainly known last r (Ok l ∷ lines) rest t unended e =
     let next : Result BlockParser ℕ = garbled_at l.number (parser_after_line known r l) in
-    let then : BlockParser → Result Answer ℕ = λ x. or_on (finished x.parser x.kept) lines (piece_from known last x lines) in
+    let then : BlockParser → Result Answer ℕ = λ x. or_on (finished_theorem x.parser x.kept) lines (piece_from known last x lines) in
     elim (either (is_end known r.parser l) (Ok (Last, lines)) (next >>= then) (derives t rest) e) [
       | inl p ↦ absurd (no_last lines rest t p.1)
       | inr p ↦
           let x = bind_ok next then (Derived t, rest) p.1 in
           let took = garbled_ok l.number (parser_after_line known r l) x.0 x.1 in
-          let goes = goes_on (finished x.0.parser x.0.kept) lines rest (piece_from known last x.0 lines) t x.2 in
+          let goes = goes_on (finished_theorem x.0.parser x.0.kept) lines rest (piece_from known last x.0 lines) t x.2 in
           elim (line_taken known r x.0 l took) [
             | inl c ↦
                 let same = c.2.parser in
@@ -137,7 +137,7 @@ plainly known last r (Ok l ∷ lines) rest t unended e =
     }
 
     step_plainly : (known : List TitledStatement) (last : ℕ) (r next : BlockParser) (l : LineView) (lines rest : List (Result LineView LineFault)) (t : TheoremView) → begins_with_bar (tokens_of l.bytes) ≡ false → Stepped known r next l.bytes
-        → ((x : TheoremView) × (finished next.parser next.kept ≡ Some x) × (derives x lines ≡ derives t rest)) ⊎ ((finished next.parser next.kept ≡ None) × (piece_from known last next lines ≡ derives t rest))
+        → ((x : TheoremView) × (finished_theorem next.parser next.kept ≡ Some x) × (derives x lines ≡ derives t rest)) ⊎ ((finished_theorem next.parser next.kept ≡ None) × (piece_from known last next lines ≡ derives t rest))
         → (is_finished next.parser ≡ false → piece_from known last next lines ≡ derives t rest → Plainly known last next.parser t lines rest)
         → Plainly known last r.parser t (Ok l ∷ lines) rest
     step_plainly known last r next l lines rest t bar s goes more =
@@ -148,7 +148,7 @@ plainly known last r (Ok l ∷ lines) rest t unended e =
         let parser_is : next.parser ≡ Some d = ap (λ (x : BlockParser). x.parser) s.next_is in
         elim goes [
           | inl q ↦
-              let c = closed_is d next.kept q.0 (sym (ap (λ (o : Option TheoremParser). finished o next.kept) parser_is) ∙ q.1) in
+              let c = closed_is d next.kept q.0 (sym (ap (λ (o : Option TheoremParser). finished_theorem o next.kept) parser_is) ∙ q.1) in
               let both = derived_is q.0 t lines rest q.2 in
               record {
                 front = Ok l ∷ [];

@@ -26,7 +26,7 @@ use Rattle.e_book.specs.Open.{Proving, made_inside}
 use Rattle.e_book.specs.Counts.{context_at}
 use Rattle.e_book.specs.declared.parser.Section.{Section}
 use Rattle.e_book.specs.declared.parser.Section.TheVariants as places
-use Rattle.e_book.specs.Steps.{allowed, stepped, step}
+use Rattle.e_book.specs.Steps.{line_may_come, after_line, step}
 use Rattle.e_book.specs.Grammar.{theorem_ended}
 use Rattle.e_book.specs.Book.{is_last, is_done}
 use Rattle.e_book.proofs.grammar.ParserState.{opener_of, around_of, head_of, open_there, open_of, BlockOf, Body, Tied}
@@ -140,7 +140,7 @@ IsOutside places.Proving = ⊥
 IsOutside p = Unit {0}
 
 abbrev Takes : List TitledStatement → Section → TheoremParser → RawLine → TheoremParser → Type 0
-Takes known p d f e = cond (allowed p f) (stepped known d f) (Err Malformed) ≡ Ok e
+Takes known p d f e = cond (line_may_come p f) (after_line known d f) (Err Malformed) ≡ Ok e
 
 -- it does not come there
 barred : (known : List TitledStatement) (p : Section) (d : TheoremParser) (f : RawLine) (e : TheoremParser) → IsOutside p → Owes f → Takes known p d f e → ⊥

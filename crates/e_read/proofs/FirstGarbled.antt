@@ -9,7 +9,7 @@ use Rattle.e_book.specs.TheoremViews.{TheoremView}
 use Rattle.e_read.specs.declared.reading.BlockParser.{BlockParser}
 use Rattle.e_read.specs.Laws.{GarblesAt, EndsTooSoon}
 use Rattle.e_read.specs.Text.{Derived, Last, garbled_at}
-use Rattle.e_read.specs.inner.Machine.{at_start, parser_after_line, finished, is_end, piece_from}
+use Rattle.e_read.specs.inner.Machine.{at_start, parser_after_line, finished_theorem, is_end, piece_from}
 use Rattle.e_read.specs.Text as text
 use Rattle.e_read.proofs.TextTied.{text_read}
 use Rattle.e_read.proofs.Bridge.{Answer}
@@ -67,14 +67,14 @@ by_line : (known : List TitledStatement) (last : ℕ) (r : BlockParser) (l : Lin
     → piece_from known last r (Ok l ∷ ls) ≡ wrong n → From known r (Ok l ∷ ls) n ⊎ TooSoon known r (Ok l ∷ ls) last n
 by_line known last r l ls n more e = by_end (is_end known r.parser l) refl
   where
-    by_finish : (next : BlockParser) (t : Option TheoremView) → is_end known r.parser l ≡ false → garbled_at l.number (parser_after_line known r l) ≡ Ok next → finished next.parser next.kept ≡ t → From known r (Ok l ∷ ls) n ⊎ TooSoon known r (Ok l ∷ ls) last n
+    by_finish : (next : BlockParser) (t : Option TheoremView) → is_end known r.parser l ≡ false → garbled_at l.number (parser_after_line known r l) ≡ Ok next → finished_theorem next.parser next.kept ≡ t → From known r (Ok l ∷ ls) n ⊎ TooSoon known r (Ok l ∷ ls) last n
     by_finish next (Some t) unended read is = absurd (not_read known last r l ls n (Derived t, ls) (piece_ended known last r next l ls t unended read is) e)
     by_finish next None unended read is =
         let on : (end : ℕ) (other : Rest) → piece_from known end r (Ok l ∷ other) ≡ piece_from known end next other = λ end other. piece_next known end r next l other unended read is in
         longer known last r next l ls n on (more next (sym (on last ls) ∙ e))
 
     by_read : (q : Result BlockParser ℕ) → is_end known r.parser l ≡ false → garbled_at l.number (parser_after_line known r l) ≡ q → From known r (Ok l ∷ ls) n ⊎ TooSoon known r (Ok l ∷ ls) last n
-    by_read (Ok next) unended read = by_finish next (finished next.parser next.kept) unended read refl
+    by_read (Ok next) unended read = by_finish next (finished_theorem next.parser next.kept) unended read refl
     by_read (Err m) unended read =
         let is : m ≡ n = same_number m n (sym (piece_garbled known last r l ls m unended read) ∙ e) in
         inl (at_once known r (Ok l) ls n (λ end other. piece_garbled known end r l other m unended read ∙ ap wrong is))

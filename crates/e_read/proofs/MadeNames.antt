@@ -37,7 +37,7 @@ use Rattle.e_names.specs.Applies.{count_blanks, apply_in}
 use Rattle.e_names.specs.Scope.{scope_of_names, fresh, lit_in, lits_in, by_in, let_in, qed_in}
 use Rattle.e_line.specs.LineLimits.{few_monos}
 use Rattle.e_book.specs.LineLimits.{few_objects}
-use Rattle.e_book.specs.Steps.{declared, terms_after_raw, terms_after, with_step, with_terms, built, used_by, applied, deeper, claimed, superposed, split, counted_from, resumed, closed_inside, closed, shut, supposes, shows, proof_begun, cited, inferred, concluded, makes, declares, stepped, step, begin, begun, allowed, count_names}
+use Rattle.e_book.specs.Steps.{with_declared, terms_after_raw, terms_after, with_step, with_terms, after_let, with_use, after_apply, inside_if_room, after_claim, after_superpose, after_cases, counted_from, after_inner_block, closed_inside, parser_after_close, after_close_line, after_given, after_show, after_proof, after_by, after_hence, after_qed, after_made, after_declare, after_line, step, begin, with_title, line_may_come, count_names}
 use Rattle.e_book.proofs.parsers.Answered.{passes, untaken}
 use Rattle.e_line.proofs.base.Bound.{bind_ok, ok_is, read_ok}
 
@@ -65,8 +65,8 @@ by_terms : (d : TheoremParser) (raws : List RawLit) → Same d.names d.made (wit
 unfolding with_terms
 by_terms d raws = from d (few_monos raws) _ (λ few. from d (terms_after_raw d.terms raws) _ (λ n. (refl, refl)))
 
-by_block : (d : TheoremParser) (what : BlockKind) (n : ℕ) → Same d.names d.made (deeper d what n)
-unfolding deeper
+by_block : (d : TheoremParser) (what : BlockKind) (n : ℕ) → Same d.names d.made (inside_if_room d what n)
+unfolding inside_if_room
 by_block d what n =
     from d (within (d.lines + 1) most_steps limits.Steps) _ (λ few. from d (within (length d.blocks + 2) most_depth limits.Depth) _ (λ shallow. from d (within (d.facts + n) most_facts limits.Facts) _ (λ none. (refl, refl))))
 
@@ -74,8 +74,8 @@ by_count : (d : TheoremParser) (facts terms : ℕ) (shown : List Lit) → Same d
 unfolding counted_from
 by_count d facts terms shown = from d (within (facts + length shown) most_facts limits.Facts) _ (λ few. from d (terms_after terms shown) _ (λ n. (refl, refl)))
 
-by_resume : (d : TheoremParser) (o : OpenBlock) (os : List OpenBlock) (shown : List Lit) (s : PlainStep) → Same d.names d.made (resumed d o os shown s)
-unfolding resumed
+by_resume : (d : TheoremParser) (o : OpenBlock) (os : List OpenBlock) (shown : List Lit) (s : PlainStep) → Same d.names d.made (after_inner_block d o os shown s)
+unfolding after_inner_block
 by_resume d o os shown s = then d (counted_from d o.facts o.terms shown) _ (by_count d o.facts o.terms shown) (λ e. (refl, refl))
 
 by_inside : (d : TheoremParser) (o : OpenBlock) (os : List OpenBlock) (inner : Script) (close : CloseLine → Result TheoremParser FaultKind) (what : BlockKind) → ((c : CloseLine) → Same d.names d.made (close c)) → Same d.names d.made (closed_inside d o os inner close what)
@@ -84,17 +84,17 @@ by_inside d o os inner close (kind.Superpose superposition names shown) h = by_r
 by_inside d o os inner close (kind.First lit) h = (refl, refl)
 by_inside d o os inner close (kind.Second lit first) h = h (closes.Cases lit first inner)
 
-by_close : (d : TheoremParser) (os : List OpenBlock) (steps : List PlainStep) (close : CloseLine) → Same d.names d.made (closed d os steps close)
-unfolding closed
+by_close : (d : TheoremParser) (os : List OpenBlock) (steps : List PlainStep) (close : CloseLine) → Same d.names d.made (parser_after_close d os steps close)
+unfolding parser_after_close
 by_close d [] steps close = (refl, refl)
-by_close d (o ∷ os) steps close = by_inside d o os (all_before steps (script_of_close close)) (λ c. closed d os o.steps c) o.kind (λ c. by_close d os o.steps c)
+by_close d (o ∷ os) steps close = by_inside d o os (all_before steps (script_of_close close)) (λ c. parser_after_close d os o.steps c) o.kind (λ c. by_close d os o.steps c)
 
-by_shut : (d : TheoremParser) (close : CloseLine) → Same d.names d.made (shut d close)
-unfolding shut
+by_shut : (d : TheoremParser) (close : CloseLine) → Same d.names d.made (after_close_line d close)
+unfolding after_close_line
 by_shut d close = from d (within (d.lines + 1) most_steps limits.Steps) _ (λ few. by_close (record d { lines = d.lines + 1 }) d.blocks d.steps close)
 
-by_use : (d : TheoremParser) (t : StatementView) (theorem : ℕ) (args : List (Option Obj)) (new : List (List ℕ)) → Same d.names d.made (used_by d t theorem args new)
-unfolding used_by
+by_use : (d : TheoremParser) (t : StatementView) (theorem : ℕ) (args : List (Option Obj)) (new : List (List ℕ)) → Same d.names d.made (with_use d t theorem args new)
+unfolding with_use
 by_use d t theorem args new =
     let after = named d.in_scope t.made new in
     let x : TheoremParser = record d { in_scope = after } in
@@ -102,47 +102,47 @@ by_use d t theorem args new =
     from d (few_objects after) _ (λ few. then d (with_step x s (length t.shown)) _ (by_step x s (length t.shown))
     (λ e. from e (terms_after e.terms t.shown) _ (λ n. from e (within (count_blanks args) most_blanks limits.Blanks) _ (λ written. (refl, refl)))))
 
-by_given : (d : TheoremParser) (raws : List RawLit) → Same d.names d.made (supposes d raws)
+by_given : (d : TheoremParser) (raws : List RawLit) → Same d.names d.made (after_given d raws)
 by_given d raws =
     from d (with_front d.given (lits_in d.names raws)) _ (λ ls. from d (within (d.facts + length raws) most_facts limits.Facts) _ (λ few. by_terms (record d { given = ls; facts = d.facts + length raws; section = Giving }) raws))
 
-by_shown : (d : TheoremParser) (raws : List RawLit) → Same d.names d.made (shows d raws)
+by_shown : (d : TheoremParser) (raws : List RawLit) → Same d.names d.made (after_show d raws)
 by_shown d raws = from d (with_front d.shown (lits_in d.names raws)) _ (λ ls. from d (few_monos raws) _ (λ few. (refl, refl)))
 
-by_citation : (d : TheoremParser) (r : List ℕ) (ns : List (List ℕ)) (l : RawLit) → Same d.names d.made (cited d r ns l)
+by_citation : (d : TheoremParser) (r : List ℕ) (ns : List (List ℕ)) (l : RawLit) → Same d.names d.made (after_by d r ns l)
 by_citation d r ns l = from d (by_in d.in_scope r ns l) _ (λ b. by_step d (Cited b) 1)
 
-by_hence : (d : TheoremParser) (raw : RawLit) → Same d.names d.made (inferred d raw)
+by_hence : (d : TheoremParser) (raw : RawLit) → Same d.names d.made (after_hence d raw)
 by_hence d raw = from d (lit_in d.in_scope raw) _ (λ l. then d (with_step d (Inferred l None) 1) _ (by_step d (Inferred l None) 1) (λ e. by_terms e (raw ∷ [])))
 
-by_let : (d : TheoremParser) (raw : RawLet) → Same d.names d.made (built d raw)
-unfolding built
+by_let : (d : TheoremParser) (raw : RawLet) → Same d.names d.made (after_let d raw)
+unfolding after_let
 by_let d raw =
     from d (let_in d.in_scope raw) _ (λ construction. from d (few_objects (named d.in_scope (sorts_made construction) raw.new)) _
     (λ few. by_step (record d { in_scope = named d.in_scope (sorts_made construction) raw.new }) (Made construction raw.new []) (length (gives_of_construction construction (scope_of_names d.in_scope)))))
 
-by_apply : (known : List TitledStatement) (d : TheoremParser) (raw : RawApply) → Same d.names d.made (applied known d raw)
-unfolding applied
+by_apply : (known : List TitledStatement) (d : TheoremParser) (raw : RawApply) → Same d.names d.made (after_apply known d raw)
+unfolding after_apply
 by_apply known d raw = from d (apply_in known d.in_scope raw) _ (λ a. by_use d (theorem_of known a.0) a.0 a.1 raw.new)
 
-by_qed : (d : TheoremParser) (ns : List (List ℕ)) → Same d.names d.made (concluded d ns)
+by_qed : (d : TheoremParser) (ns : List (List ℕ)) → Same d.names d.made (after_qed d ns)
 by_qed d ns = from d (qed_in d.in_scope (made_in d.blocks d.made) ns) _ (λ objects. by_shut d (closes.Qed objects))
 
-by_claim : (d : TheoremParser) (raws : List RawLit) → Same d.names d.made (claimed d raws)
-unfolding claimed
-by_claim d raws = from d (lits_in d.in_scope raws) _ (λ ls. then d (deeper d (kind.Claim ls) 0) _ (by_block d (kind.Claim ls) 0) (λ e. from e (few_monos raws) _ (λ few. (refl, refl))))
+by_claim : (d : TheoremParser) (raws : List RawLit) → Same d.names d.made (after_claim d raws)
+unfolding after_claim
+by_claim d raws = from d (lits_in d.in_scope raws) _ (λ ls. then d (inside_if_room d (kind.Claim ls) 0) _ (by_block d (kind.Claim ls) 0) (λ e. from e (few_monos raws) _ (λ few. (refl, refl))))
 
-by_superpose : (d : TheoremParser) (raw : RawSuperpose) → Same d.names d.made (superposed d raw)
-unfolding superposed
+by_superpose : (d : TheoremParser) (raw : RawSuperpose) → Same d.names d.made (after_superpose d raw)
+unfolding after_superpose
 by_superpose d raw =
     from d (superpose_in d.in_scope raw) _ (λ p. from d (few_objects (named d.in_scope superposing.sorts_copied raw.new)) _
-    (λ objects. then d (deeper d (kind.Superpose p.0 raw.new p.1) (length (superposing.gives_of_superposition p.0 (scope_of_names d.in_scope)))) _
+    (λ objects. then d (inside_if_room d (kind.Superpose p.0 raw.new p.1) (length (superposing.gives_of_superposition p.0 (scope_of_names d.in_scope)))) _
     (by_block d (kind.Superpose p.0 raw.new p.1) (length (superposing.gives_of_superposition p.0 (scope_of_names d.in_scope))))
     (λ e. from e (few_monos raw.shown) _ (λ few. from e (terms_after e.terms (superposing.gives_of_superposition p.0 (scope_of_names d.in_scope))) _ (λ n. (refl, refl))))))
 
-by_split : (d : TheoremParser) (raw : RawLit) → Same d.names d.made (split d raw)
-unfolding split
-by_split d raw = from d (lit_in d.in_scope raw) _ (λ l. then d (deeper d (kind.First l) 1) _ (by_block d (kind.First l) 1) (λ e. by_terms e (raw ∷ [])))
+by_split : (d : TheoremParser) (raw : RawLit) → Same d.names d.made (after_cases d raw)
+unfolding after_cases
+by_split d raw = from d (lit_in d.in_scope raw) _ (λ l. then d (inside_if_room d (kind.First l) 1) _ (by_block d (kind.First l) 1) (λ e. by_terms e (raw ∷ [])))
 
 -- ---- no more objects are made than have names
 
@@ -159,57 +159,57 @@ count_grown ns Point new = omega (arith, length-append ns.points new)
 count_grown ns Line new = omega (arith, length-append ns.lines new)
 count_grown ns Circle new = omega (arith, length-append ns.circles new)
 
-names_grown : (ns now : Names) (sort : Sort) (new : List (List ℕ)) → declared ns sort new ≡ Ok now → count_names now ≡ count_names ns + length new
-unfolding declared
+names_grown : (ns now : Names) (sort : Sort) (new : List (List ℕ)) → with_declared ns sort new ≡ Ok now → count_names now ≡ count_names ns + length new
+unfolding with_declared
 names_grown ns now sort new h =
     let next : Names = with_names ns sort (names_of_sort ns sort ++ new) in
     let f = bind_ok (fresh ns [] new) (λ free. within (length (names_of_sort ns sort) + length new) (most_of sort) (what_of sort) >>= λ few. read_ok next) now h in
     let w = bind_ok (within (length (names_of_sort ns sort) + length new) (most_of sort) (what_of sort)) (λ few. read_ok next) now f.2 in
     subst (λ (m : Names). count_names m ≡ count_names ns + length new) (ok_is next now w.2) (count_grown ns sort new)
 
-few_declared : (d e : TheoremParser) (sort : Sort) (ns : List (List ℕ)) → Few d → declares d sort ns ≡ Ok e → Few e
+few_declared : (d e : TheoremParser) (sort : Sort) (ns : List (List ℕ)) → Few d → after_declare d sort ns ≡ Ok e → Few e
 few_declared d e sort ns f h =
     let next : Names → TheoremParser = λ names. record d { names = names; declared = d.declared ++ replicate (length ns) sort } in
-    let n = bind_ok (declared d.names sort ns) (λ names. read_ok (next names)) e h in
+    let n = bind_ok (with_declared d.names sort ns) (λ names. read_ok (next names)) e h in
     subst (λ (y : TheoremParser). Few y) (ok_is (next n.0) e n.2) (omega (arith, f, names_grown d.names n.0 sort ns n.1))
 
-few_made : (d e : TheoremParser) (sort : Sort) (ns : List (List ℕ)) → Few d → makes d sort ns ≡ Ok e → Few e
+few_made : (d e : TheoremParser) (sort : Sort) (ns : List (List ℕ)) → Few d → after_made d sort ns ≡ Ok e → Few e
 few_made d e sort ns f h =
     let next : Names → TheoremParser = λ names. record d { names = names; made = d.made ++ replicate (length ns) sort; section = Making } in
-    let n = bind_ok (declared d.names sort ns) (λ names. read_ok (next names)) e h in
+    let n = bind_ok (with_declared d.names sort ns) (λ names. read_ok (next names)) e h in
     subst (λ (y : TheoremParser). Few y) (ok_is (next n.0) e n.2)
     (omega (arith, f, names_grown d.names n.0 sort ns n.1, length-append d.made (replicate (length ns) sort), length-replicate (length ns) sort))
 
-few_stepped : (known : List TitledStatement) (d e : TheoremParser) (f : RawLine) → Few d → stepped known d f ≡ Ok e → Few e
-unfolding stepped
+few_stepped : (known : List TitledStatement) (d e : TheoremParser) (f : RawLine) → Few d → after_line known d f ≡ Ok e → Few e
+unfolding after_line
 few_stepped known d e (rawlines.Theorem t) few h = absurd cc
 few_stepped known d e (rawlines.Declare sort ns) few h = few_declared d e sort ns few h
-few_stepped known d e (rawlines.Given raws) few h = same_few d e (supposes d raws) (by_given d raws) few h
+few_stepped known d e (rawlines.Given raws) few h = same_few d e (after_given d raws) (by_given d raws) few h
 few_stepped known d e (rawlines.Made sort ns) few h = few_made d e sort ns few h
-few_stepped known d e (rawlines.Show raws) few h = same_few d e (shows d raws) (by_shown d raws) few h
-few_stepped known d e rawlines.Proof few h = same_few d e (proof_begun d) (refl, refl) few h
-few_stepped known d e (rawlines.By r ns l) few h = same_few d e (cited d r ns l) (by_citation d r ns l) few h
-few_stepped known d e (rawlines.Hence raw) few h = same_few d e (inferred d raw) (by_hence d raw) few h
-few_stepped known d e (rawlines.Let raw) few h = same_few d e (built d raw) (by_let d raw) few h
-few_stepped known d e (rawlines.Apply raw) few h = same_few d e (applied known d raw) (by_apply known d raw) few h
-few_stepped known d e (rawlines.Qed ns) few h = same_few d e (concluded d ns) (by_qed d ns) few h
-few_stepped known d e rawlines.Contradiction few h = same_few d e (shut d closes.Contradiction) (by_shut d closes.Contradiction) few h
-few_stepped known d e (rawlines.Claim raws) few h = same_few d e (claimed d raws) (by_claim d raws) few h
-few_stepped known d e (rawlines.Superpose raw) few h = same_few d e (superposed d raw) (by_superpose d raw) few h
-few_stepped known d e (rawlines.Cases raw) few h = same_few d e (split d raw) (by_split d raw) few h
+few_stepped known d e (rawlines.Show raws) few h = same_few d e (after_show d raws) (by_shown d raws) few h
+few_stepped known d e rawlines.Proof few h = same_few d e (after_proof d) (refl, refl) few h
+few_stepped known d e (rawlines.By r ns l) few h = same_few d e (after_by d r ns l) (by_citation d r ns l) few h
+few_stepped known d e (rawlines.Hence raw) few h = same_few d e (after_hence d raw) (by_hence d raw) few h
+few_stepped known d e (rawlines.Let raw) few h = same_few d e (after_let d raw) (by_let d raw) few h
+few_stepped known d e (rawlines.Apply raw) few h = same_few d e (after_apply known d raw) (by_apply known d raw) few h
+few_stepped known d e (rawlines.Qed ns) few h = same_few d e (after_qed d ns) (by_qed d ns) few h
+few_stepped known d e rawlines.Contradiction few h = same_few d e (after_close_line d closes.Contradiction) (by_shut d closes.Contradiction) few h
+few_stepped known d e (rawlines.Claim raws) few h = same_few d e (after_claim d raws) (by_claim d raws) few h
+few_stepped known d e (rawlines.Superpose raw) few h = same_few d e (after_superpose d raw) (by_superpose d raw) few h
+few_stepped known d e (rawlines.Cases raw) few h = same_few d e (after_cases d raw) (by_split d raw) few h
 few_stepped known d e rawlines.Else few h = same_few d e (read_ok (record d { section = Proving })) (refl, refl) few h
 few_stepped known d e rawlines.End few h = same_few d e (read_ok (record d { section = Done })) (refl, refl) few h
 
 -- after a line
 pub few_after : (known : List TitledStatement) (d e : TheoremParser) (f : RawLine) → step known d f ≡ Ok e → length d.made ≤ count_names d.names → length e.made ≤ count_names e.names
 unfolding step
-few_after known d e f h few = few_stepped known d e f few (passes (allowed d.section f) (stepped known d f) e h).1
+few_after known d e f h few = few_stepped known d e f few (passes (line_may_come d.section f) (after_line known d f) e h).1
 
 -- after the first line
 pub few_begun : (known : List TitledStatement) (e : TheoremParser) (f : RawLine) → begin known f ≡ Ok e → length e.made ≤ count_names e.names
 unfolding begin
 few_begun known e (rawlines.Theorem t) h =
-    let n = untaken (is_known known t) (within (length known + 1) most_theorems limits.Theorems >>= λ few. read_ok (begun t)) e h in
-    let w = bind_ok (within (length known + 1) most_theorems limits.Theorems) (λ few. read_ok (begun t)) e n.1 in
-    subst (λ (y : TheoremParser). Few y) (ok_is (begun t) e w.2) (omega arith)
+    let n = untaken (is_known known t) (within (length known + 1) most_theorems limits.Theorems >>= λ few. read_ok (with_title t)) e h in
+    let w = bind_ok (within (length known + 1) most_theorems limits.Theorems) (λ few. read_ok (with_title t)) e n.1 in
+    subst (λ (y : TheoremParser). Few y) (ok_is (with_title t) e w.2) (omega arith)
 few_begun known e f h = absurd cc

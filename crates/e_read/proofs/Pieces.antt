@@ -12,7 +12,7 @@ use Rattle.e_read.specs.declared.reader.Progress.TheVariants as turns
 use Rattle.e_read.specs.declared.reader.TextFault.{TextFault}
 use Rattle.e_read.specs.declared.reader.TextFault.TheVariants as faults
 use Rattle.e_read.specs.Text.{TextPiece, Derived, Last, garbled_at}
-use Rattle.e_read.specs.inner.Machine.{parser_after_line, is_finished, finished, is_end, piece_from, LineReads, ProgressIs}
+use Rattle.e_read.specs.inner.Machine.{parser_after_line, is_finished, finished_theorem, is_end, piece_from, LineReads, ProgressIs}
 
 -- after the last line of the text
 pub piece_none : (known : List TitledStatement) (last : ℕ) (r : BlockParser) → piece_from known last r [] ≡ Err last
@@ -37,13 +37,13 @@ piece_garbled known last r line lines n e h = rw (e, h) refl
 
 -- the end of a theorem
 pub piece_ended : (known : List TitledStatement) (last : ℕ) (r next : BlockParser) (line : LineView) (lines : List (Result LineView LineFault)) (t : TheoremView) → is_end known r.parser line ≡ false → garbled_at line.number (parser_after_line known r line) ≡ Ok next
-    → finished next.parser next.kept ≡ Some t → piece_from known last r (Ok line ∷ lines) ≡ Ok (Derived t, lines)
+    → finished_theorem next.parser next.kept ≡ Some t → piece_from known last r (Ok line ∷ lines) ≡ Ok (Derived t, lines)
 unfolding piece_from
 piece_ended known last r next line lines t e h f = rw (e, h, f) refl
 
 -- any other line
 pub piece_next : (known : List TitledStatement) (last : ℕ) (r next : BlockParser) (line : LineView) (lines : List (Result LineView LineFault)) → is_end known r.parser line ≡ false → garbled_at line.number (parser_after_line known r line) ≡ Ok next
-    → finished next.parser next.kept ≡ None → piece_from known last r (Ok line ∷ lines) ≡ piece_from known last next lines
+    → finished_theorem next.parser next.kept ≡ None → piece_from known last r (Ok line ∷ lines) ≡ piece_from known last next lines
 unfolding piece_from
 piece_next known last r next line lines e h f = rw (e, h, f) refl
 
@@ -60,7 +60,7 @@ pub ended_turn : (known : List TitledStatement) (old new : BlockParser) (line : 
 ended_turn known old new line b h e = (e, λ t f last rest. piece_ended known last old new line rest t b h f)
 
 -- a theorem that has not ended is not finished
-not_finished : (d : Option TheoremParser) (kept : List StepCerts) → is_finished d ≡ false → finished d kept ≡ None
+not_finished : (d : Option TheoremParser) (kept : List StepCerts) → is_finished d ≡ false → finished_theorem d kept ≡ None
 not_finished None kept e = refl
 not_finished (Some d) kept e = rw e refl
 
@@ -71,6 +71,6 @@ more_turn known old new line b h e = λ last rest. piece_next known last old new
 
 -- the line after which the theorem has ended
 pub read_ended : (known : List TitledStatement) (last : ℕ) (old new : BlockParser) (line : LineView) (lines rest : List (Result LineView LineFault)) (all : Result (TextPiece × List (Result LineView LineFault)) ℕ) (t : TheoremView) (turn : Progress) → turn ≡ turns.Complete
-    → ProgressIs known old line new (Ok turn) → finished new.parser new.kept ≡ Some t → lines ≡ Ok line ∷ rest → piece_from known last old lines ≡ all → all ≡ Ok (Derived t, rest)
+    → ProgressIs known old line new (Ok turn) → finished_theorem new.parser new.kept ≡ Some t → lines ≡ Ok line ∷ rest → piece_from known last old lines ≡ all → all ≡ Ok (Derived t, rest)
 read_ended known last old new line lines rest all t turn is h f e so_far =
     sym so_far ∙ ap (λ (ls : List (Result LineView LineFault)). piece_from known last old ls) e ∙ (subst (λ (x : Progress). ProgressIs known old line new (Ok x)) is h).1 t f last rest

@@ -29,7 +29,7 @@ use Rattle.e_read.specs.declared.reading.BlockParser.{BlockParser}
 use Rattle.e_read.specs.inner.Strict.{is_apart}
 use Rattle.e_read.specs.inner.Needs.{one_each, needs_of_raw_apply, needs_at_qed, due_of}
 use Rattle.e_read.specs.Text.{Derived, Last, garbled_at}
-use Rattle.e_read.specs.inner.Machine.{owes_nothing, at_start, owed_by, gone_on, parser_after_line, derived, finished, or_on, is_end, piece_from}
+use Rattle.e_read.specs.inner.Machine.{owes_nothing, at_start, owed_by, parser_and_owed, parser_after_line, theorem_with_certs, finished_theorem, or_on, is_end, piece_from}
 use Rattle.e_read.specs.Text as text
 use Rattle.e_read.proofs.TextTied.{text_read}
 use Rattle.e_read.proofs.Bridge.{Answer, derives, no_last, garbled_ok, derived_is, goes_on}
@@ -72,7 +72,7 @@ module _ (v : Version) where
       let n = bind_ok (due_of known d f) (λ new. read_ok (owing new)) o e in
       subst (GoodOwed v) (ok_is (owing n.0) o n.2) (record { certs = due_good known d f n.0 n.1; rows_of_sums = refl })
 
-  gone_good : (known : List TitledStatement) (parser : Option TheoremParser) (f : RawLine) (d : TheoremParser) (o : Pending) → gone_on known parser f ≡ Ok (d, o) → GoodOwed v o
+  gone_good : (known : List TitledStatement) (parser : Option TheoremParser) (f : RawLine) (d : TheoremParser) (o : Pending) → parser_and_owed known parser f ≡ Ok (d, o) → GoodOwed v o
   gone_good known None f d o e =
       let x = bind_ok (begin known f) (λ x. read_ok (x, owes_nothing)) (d, o) e in
       subst (GoodOwed v) (ap (λ (p : TheoremParser × Pending). p.1) (ok_is (x.0, owes_nothing) (d, o) x.2)) nothing_good
@@ -110,12 +110,12 @@ module _ (v : Version) where
           } in
           subst GoodReading (sym s.next_is) good
 
-  finished_good : (parser : Option TheoremParser) (kept : List StepCerts) (t : TheoremView) → AreOfVersion v kept → finished parser kept ≡ Some t → has_certs_of v t.script ≡ true
+  finished_good : (parser : Option TheoremParser) (kept : List StepCerts) (t : TheoremView) → AreOfVersion v kept → finished_theorem parser kept ≡ Some t → has_certs_of v t.script ≡ true
   finished_good None kept t h e = absurd cc
   finished_good (Some d) kept t h e = by (is_done d) e
     where
-      by : (b : Bool) → cond b (Some (derived d kept)) None ≡ Some t → has_certs_of v t.script ≡ true
-      by true k = subst (λ (x : TheoremView). has_certs_of v x.script ≡ true) (some_is (derived d kept) t k) (filled_good v (entry_of_parser d).script kept h).0
+      by : (b : Bool) → cond b (Some (theorem_with_certs d kept)) None ≡ Some t → has_certs_of v t.script ≡ true
+      by true k = subst (λ (x : TheoremView). has_certs_of v x.script ≡ true) (some_is (theorem_with_certs d kept) t k) (filled_good v (entry_of_parser d).script kept h).0
       by false k = absurd cc
 
   certs_read : (known : List TitledStatement) (last : ℕ) (r : BlockParser) (lines rest : List (Result LineView LineFault)) (t : TheoremView) → GoodReading r → piece_from known last r lines ≡ derives t rest → has_certs_of v t.script ≡ true
@@ -124,13 +124,13 @@ module _ (v : Version) where
   certs_read known last r (Err f ∷ lines) rest t h e = absurd cc
   certs_read known last r (Ok l ∷ lines) rest t h e =
       let next : Result BlockParser ℕ = garbled_at l.number (parser_after_line known r l) in
-      let then : BlockParser → Result Answer ℕ = λ x. or_on (finished x.parser x.kept) lines (piece_from known last x lines) in
+      let then : BlockParser → Result Answer ℕ = λ x. or_on (finished_theorem x.parser x.kept) lines (piece_from known last x lines) in
       elim (either (is_end known r.parser l) (Ok (Last, lines)) (next >>= then) (derives t rest) e) [
         | inl p ↦ absurd (no_last lines rest t p.1)
         | inr p ↦
             let x = bind_ok next then (Derived t, rest) p.1 in
             let good = taken_good known r x.0 l h (garbled_ok l.number (parser_after_line known r l) x.0 x.1) in
-            elim (goes_on (finished x.0.parser x.0.kept) lines rest (piece_from known last x.0 lines) t x.2) [
+            elim (goes_on (finished_theorem x.0.parser x.0.kept) lines rest (piece_from known last x.0 lines) t x.2) [
               | inl q ↦ finished_good x.0.parser x.0.kept t good.kept (q.1 ∙ ap (λ (y : TheoremView). Some y) (derived_is q.0 t lines rest q.2).0)
               | inr q ↦ certs_read known last x.0 lines rest t good q.1
             ]

@@ -30,7 +30,7 @@ use Rattle.e_read.specs.inner.Strict.{is_apart}
 use Rattle.e_cert.specs.Owed.{after_cert_line, finish_certs}
 use Rattle.e_read.specs.Laws.{begins_with_bar}
 use Rattle.e_read.specs.Text.{is_bar, is_lf_end}
-use Rattle.e_read.specs.inner.Machine.{owes_nothing, with_cert_line, certified, owed_by, gone_on, finish_line, with_raw_line, parser_after_exact_line, worded, parser_after_bytes, parser_after_line}
+use Rattle.e_read.specs.inner.Machine.{owes_nothing, with_cert_line, parser_after_certificate, owed_by, parser_and_owed, finish_line, with_raw_line, parser_after_exact_line, parser_after_words, parser_after_bytes, parser_after_line}
 
 pub either : {A : Type 0} (b : Bool) (x y z : A) → cond b x y ≡ z → ((b ≡ true) × (x ≡ z)) ⊎ ((b ≡ false) × (y ≡ z))
 either true x y z e = inl (refl, e)
@@ -59,11 +59,11 @@ pub record Stepped (known : List TitledStatement) (r next : BlockParser) (line :
   pub settled_is : finish_certs r.owed ≡ Ok read
   pub parser : TheoremParser
   pub owed : Pending
-  pub gone : gone_on known r.parser raw_line ≡ Ok (parser, owed)
+  pub gone : parser_and_owed known r.parser raw_line ≡ Ok (parser, owed)
   pub next_is : next ≡ record { version = r.version; parser = Some parser; owed = owed; kept = r.kept ++ option_to_list read }
 
-certified_line : (r next : BlockParser) (line : List ℕ) (words : List (List ℕ)) → certified r line words ≡ Ok next → Certified r next line words
-unfolding with_cert_line certified
+certified_line : (r next : BlockParser) (line : List ℕ) (words : List (List ℕ)) → parser_after_certificate r line words ≡ Ok next → Certified r next line words
+unfolding with_cert_line parser_after_certificate
 certified_line r next line words e =
     let m = bind_ok (exact_cert_line line words) (λ m. cond (cert_line_is_of r.version m) (after_cert_line r.owed m >>= λ o. Ok (record r { owed = o })) (Err Malformed)) next e in
     let p = passed (cert_line_is_of r.version m.0) (after_cert_line r.owed m.0 >>= λ o. Ok (record r { owed = o })) next m.2 in
@@ -84,11 +84,11 @@ unfolding with_raw_line parser_after_exact_line
 stepped_line known r next line e =
     let with_kept : Option StepCerts → BlockParser = λ k. record { version = r.version; parser = r.parser; owed = owes_nothing; kept = r.kept ++ option_to_list k } in
     let end : BlockParser → TheoremParser × Pending → BlockParser = λ s x. record { version = s.version; parser = Some x.0; owed = x.1; kept = s.kept } in
-    let f = bind_ok (exact_line line) (λ f. finish_line r >>= λ s. gone_on known s.parser f >>= λ x. Ok (end s x)) next e in
-    let s = bind_ok (finish_line r) (λ s. gone_on known s.parser f.0 >>= λ x. Ok (end s x)) next f.2 in
+    let f = bind_ok (exact_line line) (λ f. finish_line r >>= λ s. parser_and_owed known s.parser f >>= λ x. Ok (end s x)) next e in
+    let s = bind_ok (finish_line r) (λ s. parser_and_owed known s.parser f.0 >>= λ x. Ok (end s x)) next f.2 in
     let k = bind_ok (finish_certs r.owed) (λ k. Ok (with_kept k)) s.0 s.1 in
     let kept_is : with_kept k.0 ≡ s.0 = ok_is (with_kept k.0) s.0 k.2 in
-    let x = bind_ok (gone_on known s.0.parser f.0) (λ x. Ok (end s.0 x)) next s.2 in
+    let x = bind_ok (parser_and_owed known s.0.parser f.0) (λ x. Ok (end s.0 x)) next s.2 in
     record {
       raw_line = f.0;
       spelled = f.1;
@@ -96,21 +96,21 @@ stepped_line known r next line e =
       settled_is = k.1;
       parser = x.0.0;
       owed = x.0.1;
-      gone = ap (λ (q : BlockParser). gone_on known q.parser f.0) kept_is ∙ x.1;
+      gone = ap (λ (q : BlockParser). parser_and_owed known q.parser f.0) kept_is ∙ x.1;
       next_is = sym (ap (λ (q : BlockParser). end q x.0) kept_is ∙ ok_is (end s.0 x.0) next x.2);
     }
 
 -- what a line is that is taken
 pub line_taken : (known : List TitledStatement) (r next : BlockParser) (l : LineView) → parser_after_line known r l ≡ Ok next
     → ((ws : List (List ℕ)) × (begins_with_bar (tokens_of l.bytes) ≡ true) × Certified r next l.bytes ws) ⊎ ((begins_with_bar (tokens_of l.bytes) ≡ false) × Stepped known r next l.bytes)
-unfolding parser_after_line parser_after_bytes worded
-line_taken known r next l e = by_words (tokens_of l.bytes) refl (passed (is_lf_end l.end) (worded known r l.bytes (tokens_of l.bytes)) next e).1
+unfolding parser_after_line parser_after_bytes parser_after_words
+line_taken known r next l e = by_words (tokens_of l.bytes) refl (passed (is_lf_end l.end) (parser_after_words known r l.bytes (tokens_of l.bytes)) next e).1
   where
-    by_words : (words : List (List ℕ)) → tokens_of l.bytes ≡ words → worded known r l.bytes words ≡ Ok next
+    by_words : (words : List (List ℕ)) → tokens_of l.bytes ≡ words → parser_after_words known r l.bytes words ≡ Ok next
         → ((ws : List (List ℕ)) × (begins_with_bar (tokens_of l.bytes) ≡ true) × Certified r next l.bytes ws) ⊎ ((begins_with_bar (tokens_of l.bytes) ≡ false) × Stepped known r next l.bytes)
     by_words [] same h = absurd cc
     by_words (w ∷ ws) same h =
-        elim (either (is_bar w) (certified r l.bytes ws) (parser_after_exact_line known r l.bytes) (Ok next) h) [
+        elim (either (is_bar w) (parser_after_certificate r l.bytes ws) (parser_after_exact_line known r l.bytes) (Ok next) h) [
           | inl p ↦ inl (ws, ap begins_with_bar same ∙ p.0, certified_line r next l.bytes ws p.1)
           | inr p ↦ inr (ap begins_with_bar same ∙ p.0, stepped_line known r next l.bytes p.1)
         ]
@@ -143,7 +143,7 @@ not_skipped ((b ∷ bs) ∷ ws) f e =
     no_form h = absurd cc
 
 -- a line that goes on is one of a book
-pub book_line : (known : List TitledStatement) (parser : Option TheoremParser) (f : RawLine) (d : TheoremParser) (o : Pending) (words : List (List ℕ)) → raw_line_of words ≡ Ok f → gone_on known parser f ≡ Ok (d, o) → line_step known parser words ≡ Ok d
+pub book_line : (known : List TitledStatement) (parser : Option TheoremParser) (f : RawLine) (d : TheoremParser) (o : Pending) (words : List (List ℕ)) → raw_line_of words ≡ Ok f → parser_and_owed known parser f ≡ Ok (d, o) → line_step known parser words ≡ Ok d
 unfolding line_step
 book_line known None f d o words h e =
     let x = bind_ok (begin known f) (λ x. Ok (x, owes_nothing)) (d, o) e in

@@ -33,7 +33,7 @@ use Rattle.e_book.specs.Grammar.{Rest, theorem_ended}
 use Rattle.e_book.specs.ParserViews.{entry_of_parser}
 use Rattle.e_book.specs.Book.{is_done}
 use Rattle.e_read.specs.Text.{TextPiece, is_bar, is_lf_end, garbled_at, last_line_of, Block, is_front, or_lacks, owing_after}
-use Rattle.e_read.specs.inner.Machine.{owes_nothing, with_cert_line, owed_by, gone_on, with_raw_line, certified, parser_after_exact_line, worded, parser_after_bytes, parser_after_line, derived, finished, or_on, is_end, piece_from, at_start}
+use Rattle.e_read.specs.inner.Machine.{owes_nothing, with_cert_line, owed_by, parser_and_owed, with_raw_line, parser_after_certificate, parser_after_exact_line, parser_after_words, parser_after_bytes, parser_after_line, theorem_with_certs, finished_theorem, or_on, is_end, piece_from, at_start}
 use Rattle.std.specs.Str.{bytes_eq}
 use Rattle.e_clause.specs.declared.cert.Version.{Version}
 use Rattle.e_read.specs.inner.Strict as strict
@@ -195,38 +195,38 @@ module _ (known : List TitledStatement) where
   good : (line : List ℕ) (f : RawLine) → exact_line line ≡ Ok f → HasItems f
   good line f e = items_read (tokens_of line) f (form_read line f e).0
 
-  gone : (s : Option TheoremParser) (o : Option Open) (f : RawLine) → Said s o → HasItems f → GoneAlike (gone_on known s f) (owing_after known o f >>= λ owed. line_after known o f >>= λ o. gone_so owed o)
+  gone : (s : Option TheoremParser) (o : Option Open) (f : RawLine) → Said s o → HasItems f → GoneAlike (parser_and_owed known s f) (owing_after known o f >>= λ owed. line_after known o f >>= λ o. gone_so owed o)
   gone None None f h g = none_by (begin known f) (begins known f) (begin_alike known f)
   gone (Some d) (Some o) f h g =
-      subst (λ (x : Open). GoneAlike (gone_on known (Some d) f) (owing_after known (Some x) f >>= λ owed. line_after known (Some x) f >>= λ o. gone_so owed o)) h.0
+      subst (λ (x : Open). GoneAlike (parser_and_owed known (Some d) f) (owing_after known (Some x) f >>= λ owed. line_after known (Some x) f >>= λ o. gone_so owed o)) h.0
       (some_by (strict.is_apart d f) (is_apart (open_of d) f) (owed_by known d f) (due_after known (open_of d) f) (context_at known (open_of d)).names (step known d f) (line_after known (Some (open_of d)) f)
       (λ e is. apart_alike known d f e is) (λ e is. owed_alike known d f e h.1 is) (step_alike known d f h.1 g))
   gone None (Some o) f h g = absurd h
   gone (Some d) None f h g = absurd h
 
-  finished_line : (r : BlockParser) (f : RawLine) → with_raw_line known r f ≡ (finish_certs r.owed >>= λ k. gone_on known r.parser f >>= λ e. Ok (next_parser r k e))
+  finished_line : (r : BlockParser) (f : RawLine) → with_raw_line known r f ≡ (finish_certs r.owed >>= λ k. parser_and_owed known r.parser f >>= λ e. Ok (next_parser r k e))
   unfolding with_raw_line
   finished_line r f = by (finish_certs r.owed)
     where
-      by : (x : Result (Option StepCerts) FaultKind) → ((x >>= λ k. at_end r k) >>= λ s. gone_on known s.parser f >>= λ e. Ok (record { version = s.version; parser = Some e.0; owed = e.1; kept = s.kept })) ≡ (x >>= λ k. gone_on known r.parser f >>= λ e. Ok (next_parser r k e))
+      by : (x : Result (Option StepCerts) FaultKind) → ((x >>= λ k. at_end r k) >>= λ s. parser_and_owed known s.parser f >>= λ e. Ok (record { version = s.version; parser = Some e.0; owed = e.1; kept = s.kept })) ≡ (x >>= λ k. parser_and_owed known r.parser f >>= λ e. Ok (next_parser r k e))
       by (Ok k) = refl
       by (Err e) = refl
 
   raw_tied : (r : BlockParser) (b : Block) (f : RawLine) → TiedBlock r b → HasItems f → Both (with_raw_line known r f) (grammar.with_raw_line known b f)
   raw_tied r b f t g =
       let a = subst (λ (x : Result (Option StepCerts) Lack). Agrees (Ok r.owed) x) (below_same b.due t.names b.names b.lines t.same_names) (subst (λ (x : Result Pending FaultKind). Agrees x (below t.names b.due b.lines)) t.owed (below_fed t.names b.due b.lines)) in
-      both_same (with_raw_line known r f) (finish_certs r.owed >>= λ k. gone_on known r.parser f >>= λ e. Ok (next_parser r k e)) (grammar.with_raw_line known b f) (finished_line r f)
-      (raw_by r b t (finish_certs r.owed) (below b.names b.due b.lines) (gone_on known r.parser f) (owing_after known b.said f) (line_after known b.said f) (same_end r.owed (below b.names b.due b.lines) a) (gone r.parser b.said f t.said g))
+      both_same (with_raw_line known r f) (finish_certs r.owed >>= λ k. parser_and_owed known r.parser f >>= λ e. Ok (next_parser r k e)) (grammar.with_raw_line known b f) (finished_line r f)
+      (raw_by r b t (finish_certs r.owed) (below b.names b.due b.lines) (parser_and_owed known r.parser f) (owing_after known b.said f) (line_after known b.said f) (same_end r.owed (below b.names b.due b.lines) a) (gone r.parser b.said f t.said g))
 
-  words_tied : (r : BlockParser) (b : Block) (line : List ℕ) (words : List (List ℕ)) → TiedBlock r b → Both (worded known r line words) (grammar.with_words known b line words)
-  unfolding worded certified parser_after_exact_line
+  words_tied : (r : BlockParser) (b : Block) (line : List ℕ) (words : List (List ℕ)) → TiedBlock r b → Both (parser_after_words known r line words) (grammar.with_words known b line words)
+  unfolding parser_after_words parser_after_certificate parser_after_exact_line
   words_tied r b line [] t = tt
-  words_tied r b line (w ∷ ws) t = both_if (is_bar w) (certified r line ws) (parser_after_exact_line known r line) _ _
+  words_tied r b line (w ∷ ws) t = both_if (is_bar w) (parser_after_certificate r line ws) (parser_after_exact_line known r line) _ _
       (both_bind (exact_cert_line line ws) _ _ (λ m e. cert_tied r b m t)) (both_bind (exact_line line) _ _ (λ f e. raw_tied r b f t (good line f e)))
 
   line_tied : (r : BlockParser) (b : Block) (l : LineView) → TiedBlock r b → Both (parser_after_line known r l) (grammar.with_line known b l)
   unfolding parser_after_line parser_after_bytes
-  line_tied r b l t = both_if (is_lf_end l.end) (worded known r l.bytes (tokens_of l.bytes)) (Err Malformed) _ _ (words_tied r b l.bytes (tokens_of l.bytes) t) tt
+  line_tied r b l t = both_if (is_lf_end l.end) (parser_after_words known r l.bytes (tokens_of l.bytes)) (Err Malformed) _ _ (words_tied r b l.bytes (tokens_of l.bytes) t) tt
 
   abbrev Answer : Type 0
   Answer = Result (TextPiece × Rest) ℕ
@@ -241,11 +241,11 @@ module _ (known : List TitledStatement) where
   end_same None (Some o) l h = absurd h
   end_same (Some d) None l h = absurd h
 
-  done_if : (d : TheoremParser) (c : Bool) (k : List StepCerts) (lines : Rest) (x : Answer) → or_on (cond c (Some (derived d k)) None) lines x ≡ grammar.or_on (cond c (Some (entry_of_parser d)) None) k lines x
+  done_if : (d : TheoremParser) (c : Bool) (k : List StepCerts) (lines : Rest) (x : Answer) → or_on (cond c (Some (theorem_with_certs d k)) None) lines x ≡ grammar.or_on (cond c (Some (entry_of_parser d)) None) k lines x
   done_if d true k lines x = refl
   done_if d false k lines x = refl
 
-  done_by : (s : Option TheoremParser) (o : Option Open) (k j : List StepCerts) (lines : Rest) (x y : Answer) → Said s o → k ≡ j → x ≡ y → or_on (finished s k) lines x ≡ grammar.or_on (option_and_then theorem_ended o) j lines y
+  done_by : (s : Option TheoremParser) (o : Option Open) (k j : List StepCerts) (lines : Rest) (x y : Answer) → Said s o → k ≡ j → x ≡ y → or_on (finished_theorem s k) lines x ≡ grammar.or_on (option_and_then theorem_ended o) j lines y
   done_by None None k j lines x y h e is = is
   done_by (Some d) (Some o) k j lines x y h e is =
       done_if d (is_done d) k lines x ∙ ap (λ (t : Option TheoremView). grammar.or_on t k lines x) (sym (ended_alike d) ∙ ap theorem_ended h.0)
@@ -254,7 +254,7 @@ module _ (known : List TitledStatement) where
   done_by (Some d) None k j lines x y h e is = absurd h
 
   after_by : (n last : ℕ) (lines : Rest) (x : Result BlockParser FaultKind) (y : Result Block FaultKind) → Both x y → ((r : BlockParser) (b : Block) → TiedBlock r b → piece_from known last r lines ≡ grammar.piece_from known last b lines)
-      → (garbled_at n x >>= λ m. or_on (finished m.parser m.kept) lines (piece_from known last m lines)) ≡ (garbled_at n y >>= λ m. grammar.or_on (option_and_then theorem_ended m.said) m.kept lines (grammar.piece_from known last m lines))
+      → (garbled_at n x >>= λ m. or_on (finished_theorem m.parser m.kept) lines (piece_from known last m lines)) ≡ (garbled_at n y >>= λ m. grammar.or_on (option_and_then theorem_ended m.said) m.kept lines (grammar.piece_from known last m lines))
   after_by n last lines (Ok r) (Ok b) t h = done_by r.parser b.said r.kept b.kept lines (piece_from known last r lines) (grammar.piece_from known last b lines) t.said t.kept (h r b t)
   after_by n last lines (Ok r) (Err k) t h = absurd t
   after_by n last lines (Err j) (Ok b) t h = absurd t

@@ -31,7 +31,7 @@ use std::alloc::{AllocError, Global};
 use std::mem;
 
 /// The literal alone.
-fn alone(alloc: Global, lit: Lit) -> Result<Items<Lit>, AllocError>
+fn one_lit(alloc: Global, lit: Lit) -> Result<Items<Lit>, AllocError>
     ensures { IfOk result (λ ls. ls ≡ lit ∷ []) }
 {
     Ok(Items::new(vec![in alloc; lit]?))
@@ -49,7 +49,7 @@ fn one_each(alloc: Global, wanted: Items<Lit>) -> Obligation
 }
 
 /// The arguments, none of which is a blank.
-fn written(alloc: Global, pattern: &[Option<Obj>]) -> Result<Items<Obj>, LineError>
+fn args_without_blank(alloc: Global, pattern: &[Option<Obj>]) -> Result<Items<Obj>, LineError>
     ensures { Gives (λ a. a) result (each or_malformed pattern.now) }
 {
     let mut args = Items::empty(alloc);
@@ -75,7 +75,7 @@ fn needs_in(
     requires circles { scope.circles < 2 ^ 15 }
     ensures { Gives (λ l. l) result (needs_in scope (stated statement.now) pattern.now) }
 {
-    let args = written(alloc, pattern)?;
+    let args = args_without_blank(alloc, pattern)?;
     match use_of(alloc, statement, args.items(), scope) {
         Ok(used) => Ok(used.needs),
         Err(UseFault::BadArgs) => Err(LineError::Fault(FaultKind::Malformed)),
@@ -107,7 +107,7 @@ fn needs_of_use(
 }
 
 /// What the innermost claim or superposition of these blocks shows, if there is one.
-fn claimed(blocks: &[OpenBlock]) -> Option<&[Lit]>
+fn shown_around(blocks: &[OpenBlock]) -> Option<&[Lit]>
     ensures { option_map (λ l. l.now) result ≡ Needs.shown_around (reverse blocks.now) }
 {
     let [blocks @ .., outer] = blocks else {
@@ -116,7 +116,7 @@ fn claimed(blocks: &[OpenBlock]) -> Option<&[Lit]>
     match &outer.kind {
         BlockKind::Claim { shown } => Some(shown.items()),
         BlockKind::Superpose { shown, .. } => Some(shown.items()),
-        BlockKind::First { .. } | BlockKind::Second { .. } => claimed(blocks),
+        BlockKind::First { .. } | BlockKind::Second { .. } => shown_around(blocks),
     }
 }
 
@@ -164,7 +164,7 @@ fn goal_with(
     requires sorts { map (λ o. o.sort) objects.now ≡ made_in parser.now.blocks parser.now.made }
     ensures { IfOk result (λ ls. ls ≡ Goal.goal_with (open_goal parser.now) objects.now) }
 {
-    match claimed(parser.blocks.items()) {
+    match shown_around(parser.blocks.items()) {
         Some(shown) => with_objects(alloc, &[], shown, objects),
         None => whole_goal_with(alloc, parser, objects),
     }
@@ -211,7 +211,7 @@ pub(crate) fn due_of(
     match raw_line {
         RawLine::Hence(raw) => {
             let lit = lit_in(alloc, &parser.in_scope, raw)?;
-            let wanted = alone(alloc, lit)?;
+            let wanted = one_lit(alloc, lit)?;
             Ok(one_each(alloc, wanted))
         }
         RawLine::Let(raw) => {

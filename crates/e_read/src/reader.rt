@@ -106,7 +106,7 @@ fn take_line(
 }
 
 /// What a line makes of a block.
-fn feed(
+fn progress_with_line(
     alloc: Global,
     known: &Theorems,
     reading: &mut BlockParser,
@@ -153,7 +153,7 @@ fn read_piece(
                 return Err(fault);
             }
         };
-        match feed(alloc, known, &mut reading, line) {
+        match progress_with_line(alloc, known, &mut reading, line) {
             Ok(Progress::Last) => {
                 mem::drop(reading);
                 return Ok(Piece::Last {

@@ -11,11 +11,12 @@ ghost use Rattle.e_line.specs.Reading.{texts, Gives, Moves};
 ghost use Rattle.e_names.specs.Scope.{FewNames};
 ghost use Rattle.e_book.specs.Steps.{no_names};
 ghost use Rattle.e_read.specs.inner.Machine.{owes_nothing, is_settled, at_start, with_cert_line};
-ghost use Rattle.e_read.specs.inner.Machine.{certified, owed_by};
-ghost use Rattle.e_read.specs.inner.Machine.{gone_on, finish_line, with_raw_line, parser_after_exact_line};
+ghost use Rattle.e_read.specs.inner.Machine.{parser_after_certificate, owed_by, parser_and_owed};
+ghost use Rattle.e_read.specs.inner.Machine.{finish_line, with_raw_line, parser_after_exact_line};
 ghost use Rattle.e_read.specs.Text.{is_bar, is_lf_end};
-ghost use Rattle.e_read.specs.inner.Machine.{worded, parser_after_bytes};
-ghost use Rattle.e_read.specs.inner.Machine.{parser_after_line, derived, is_finished, finished, is_end};
+ghost use Rattle.e_read.specs.inner.Machine.{parser_after_words, parser_after_bytes};
+ghost use Rattle.e_read.specs.inner.Machine.{parser_after_line, theorem_with_certs};
+ghost use Rattle.e_read.specs.inner.Machine.{is_finished, finished_theorem, is_end};
 ghost use Rattle.e_read.specs.Text.{last_line_of};
 ghost use Rattle.e_read.specs.inner.Machine.{is_last_line, FitsParser, FitsReading};
 
@@ -26,7 +27,7 @@ use crate::strict::is_apart;
 use e_book::{Section, Theorem, TheoremParser, no_names};
 use e_cert::{Obligation, Pending, cert_line_is_of, exact_cert_line};
 use e_clause::Version;
-use e_line::{FaultKind, LineError, RawLine, collected, exact_line_of};
+use e_line::{FaultKind, LineError, RawLine, exact_line_of, words_of_line};
 use e_names::Theorems;
 use e_text::{Line, LineEnd, is, put_number};
 use std::alloc::{AllocError, Global};
@@ -69,7 +70,8 @@ fn first_line(
     known: &Theorems,
     raw_line: &RawLine,
 ) -> Result<TheoremParser, LineError>
-    ensures value { Gives (λ d. (d, owes_nothing)) result (gone_on known.now None raw_line.now) }
+    ensures value { Gives (λ d. (d, owes_nothing)) result
+        (parser_and_owed known.now None raw_line.now) }
     ensures fits { IfOk result FitsParser }
     ensures few { OnOk result (length known.now ≤ most_theorems) }
 {
@@ -114,7 +116,7 @@ fn take_next(
     requires known { IsTrue (list_all is_small_statement (stated_by known.now)) }
     requires sums { owed.old.sums ≡ None }
     ensures value { Moves result (parser.new, owed.new)
-        (gone_on known.now (Some parser.old) raw_line.now) }
+        (parser_and_owed known.now (Some parser.old) raw_line.now) }
     ensures fits { OnOk result (FitsParser parser.new) }
     ensures names { OnOk result (FewNames owed.new.names) }
 {
@@ -141,7 +143,7 @@ impl BlockParser {
     }
 
     /// Takes a line of a certificate.
-    #[tactic(auto, unfolding(crate::specs::inner::Machine::certified, crate::specs::inner::Machine::with_cert_line))]
+    #[tactic(auto, unfolding(crate::specs::inner::Machine::parser_after_certificate, crate::specs::inner::Machine::with_cert_line))]
     fn take_certificate(
         &mut self,
         alloc: Global,
@@ -149,7 +151,8 @@ impl BlockParser {
         words: &[&[u8]],
     ) -> Result<(), LineError>
         requires { FewNames self.old.owed.names }
-        ensures value { Moves result self.new (certified self.old line.now (texts words.now)) }
+        ensures value { Moves result self.new
+            (parser_after_certificate self.old line.now (texts words.now)) }
         ensures parser { OnOk result (self.new.parser ≡ self.old.parser) }
         ensures names { OnOk result (self.new.owed.names ≡ self.old.owed.names) }
     {
@@ -234,7 +237,7 @@ impl BlockParser {
     }
 
     /// Takes a line by its words.
-    #[tactic(auto, unfolding(crate::specs::inner::Machine::worded))]
+    #[tactic(auto, unfolding(crate::specs::inner::Machine::parser_after_words))]
     fn take_words(
         &mut self,
         alloc: Global,
@@ -247,7 +250,7 @@ impl BlockParser {
         requires few { OnSome self.old.parser (length known.now ≤ most_theorems) }
         requires known { IsTrue (list_all is_small_statement (stated_by known.now)) }
         ensures value { Moves result self.new
-            (worded known.now self.old line.now (texts words.now)) }
+            (parser_after_words known.now self.old line.now (texts words.now)) }
         ensures fits { OnOk result (FitsReading self.new) }
         ensures few { OnOk result (OnSome self.new.parser (length known.now ≤ most_theorems)) }
     {
@@ -272,7 +275,7 @@ impl BlockParser {
         ensures fits { OnOk result (FitsReading self.new) }
         ensures few { OnOk result (OnSome self.new.parser (length known.now ≤ most_theorems)) }
     {
-        let words = collected(alloc, line)?;
+        let words = words_of_line(alloc, line)?;
         self.take_words(alloc, known, line, &words)
     }
 
@@ -327,7 +330,7 @@ impl BlockParser {
     /// The theorem, once it has ended.
     pub(crate) fn into_theorem(self, alloc: Global) -> Result<Theorem, AllocError>
         requires { IsTrue (is_finished self.parser) }
-        ensures { IfOk result (λ t. finished self.parser self.kept ≡ Some (entry_of t)) }
+        ensures { IfOk result (λ t. finished_theorem self.parser self.kept ≡ Some (entry_of t)) }
     {
         let BlockParser {
             version: _,
@@ -337,7 +340,7 @@ impl BlockParser {
         } = self;
         mem::drop(owed);
         match parser {
-            Some(parser) => derived(alloc, parser, kept),
+            Some(parser) => theorem_with_certs(alloc, parser, kept),
             None => unreachable!(),
         }
     }
@@ -363,8 +366,12 @@ fn is_last_line(alloc: Global, known: &Theorems, line: Line<'_>) -> Result<bool,
 }
 
 /// A theorem with its certificates at their lines.
-fn derived(alloc: Global, parser: TheoremParser, kept: AllCerts) -> Result<Theorem, AllocError>
-    ensures { IfOk result (λ t. entry_of t ≡ derived parser kept) }
+fn theorem_with_certs(
+    alloc: Global,
+    parser: TheoremParser,
+    kept: AllCerts,
+) -> Result<Theorem, AllocError>
+    ensures { IfOk result (λ t. entry_of t ≡ theorem_with_certs parser kept) }
 {
     let mut theorem = parser.into_theorem(alloc);
     let mut queue = kept.into_queue();

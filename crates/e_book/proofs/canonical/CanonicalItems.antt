@@ -36,7 +36,7 @@ use Rattle.e_book.specs.Canonical.{script_raw_lines, names_of_proof, raw_lines_o
 use Rattle.e_line.specs.HasSpelling.{AreNames}
 use Rattle.e_book.specs.HasSpelling.{HasSpelling}
 use Rattle.e_book.specs.Laws.{Shows}
-use Rattle.e_book.specs.Steps.{begun, begin, step}
+use Rattle.e_book.specs.Steps.{with_title, begin, step}
 use Rattle.e_book.specs.Book.{is_last}
 use Rattle.e_line.specs.Items.{is_as, begins_item, has_item, line_named, book_line_of}
 use Rattle.e_book.specs.Grammar.{Rest}
@@ -178,7 +178,7 @@ begins_is : (known : Known) (t : List ℕ) → machine.begins known (Plain (rawl
 unfolding machine.begins
 begins_is known t = refl
 
-title_begins : (known : List TitledStatement) (t : List ℕ) → is_known known t ≡ false → length known < most_theorems → begin known (rawlines.Theorem t) ≡ Ok (begun t)
+title_begins : (known : List TitledStatement) (t : List ℕ) → is_known known t ≡ false → length known < most_theorems → begin known (rawlines.Theorem t) ≡ Ok (with_title t)
 unfolding begin
 title_begins known t new few =
     let room : ltb most_theorems (length known + 1) ≡ false = le-ltb _ _ (omega (arith, few)) in
@@ -204,7 +204,7 @@ canonical_items known last t (Ok l ∷ all) rest h free sh =
     let before = known.theorems in
     let proof = run_proof_lines before t h o in
     let d = shut_parser t proof.last in
-    let first = begun t.title in
+    let first = with_title t.title in
     let script = script_raw_lines before (names_of_proof t) t.script in
     let front = stating_forms t ++ script in
     let runs : Runs before (Some first) front (Some d) =

@@ -24,7 +24,7 @@ use Rattle.e_book.specs.declared.parser.Section.TheVariants.{Closed, Done}
 use Rattle.e_book.specs.declared.parser.TheoremParser.{TheoremParser}
 use Rattle.e_names.specs.TitledStatements.{TitledStatement, stated_by}
 use Rattle.e_names.specs.Scope.{scope_of_names}
-use Rattle.e_book.specs.Steps.{closed, stepped, step, begun}
+use Rattle.e_book.specs.Steps.{parser_after_close, after_line, step, with_title}
 use Rattle.e_book.specs.ParserViews.{entry_of_parser}
 use Rattle.e_book.specs.TheoremViews.{TheoremView}
 use Rattle.e_book.specs.Fits.{few_facts, few_terms}
@@ -65,7 +65,7 @@ abbrev pub begins : TheoremView → Inside
 begins t = record { blocks = []; in_scope = names_of_proof t; steps = []; lines = 0; facts = length t.statement.given; terms = count_monomials t.statement.given }
 
 run_proof : (known : List TitledStatement) (t : TheoremView) → Runs known (Some (started t)) (rawlines.Proof ∷ []) (Some (proving (started t) (begins t)))
-unfolding step stepped
+unfolding step after_line
 run_proof known t = (proving (started t) (begins t), tt, refl, refl, refl)
 
 -- the lines after the title
@@ -73,7 +73,7 @@ abbrev pub stating_forms : TheoremView → List RawLine
 stating_forms t = given_raw_lines t.names t.statement ++ (shown_raw_lines t.names t.statement ++ rawlines.Proof ∷ [])
 
 -- the lines of the statement lead from the title to the parser that begins the proof
-pub run_statement : (known : List TitledStatement) (t : TheoremView) → HasSpelling known t → InOrder t.names → Runs known (Some (begun t.title)) (stating_forms t) (Some (proving (started t) (begins t)))
+pub run_statement : (known : List TitledStatement) (t : TheoremView) → HasSpelling known t → InOrder t.names → Runs known (Some (with_title t.title)) (stating_forms t) (Some (proving (started t) (begins t)))
 run_statement known t h o =
     let ns = t.names in
     let st = t.statement in
@@ -81,7 +81,7 @@ run_statement known t h o =
     let dn = first_names s ns in
     let few : Few ns = record { points = h.fits.points; lines = h.fits.lines; circles = h.fits.circles } in
     let end : Option TheoremParser = Some (proving (started t) (begins t)) in
-    let titled : Option TheoremParser = Some (begun t.title) in
+    let titled : Option TheoremParser = Some (with_title t.title) in
     let declared : Option TheoremParser = Some (declaring t.title dn st.declared) in
     let given : Option TheoremParser = Some (given_parser t.title dn st.declared st.given) in
     let made : Option TheoremParser = Some (making t.title st.declared st.given ns st.made) in
@@ -106,7 +106,7 @@ run_statement known t h o =
 
 run_head : (known : List TitledStatement) (t : TheoremView) → HasSpelling known t → InOrder t.names → Runs known None (head_raw_lines t) (Some (proving (started t) (begins t)))
 run_head known t h o =
-    runs_append known None (Some (begun t.title)) (Some (proving (started t) (begins t))) (rawlines.Theorem t.title ∷ []) (stating_forms t) (run_title known t.title h.title h.fits.new h.few_theorems) (run_statement known t h o)
+    runs_append known None (Some (with_title t.title)) (Some (proving (started t) (begins t))) (rawlines.Theorem t.title ∷ []) (stating_forms t) (run_title known t.title h.title h.fits.new h.few_theorems) (run_statement known t h o)
 
 -- ---- the proof
 
@@ -175,12 +175,12 @@ answered t rest = Ok (Some (t, rest))
 abbrev pub shut_parser : TheoremView → Inside → TheoremParser
 shut_parser t last = record (proving (started t) last) { steps = steps_of t.script; blocks = []; close = close_of t.script; section = Closed }
 
-pub closed_last : (t : TheoremView) (last : Inside) → closed (proving (started t) last) [] (steps_of t.script) (close_of t.script) ≡ Ok (shut_parser t last)
-unfolding closed
+pub closed_last : (t : TheoremView) (last : Inside) → parser_after_close (proving (started t) last) [] (steps_of t.script) (close_of t.script) ≡ Ok (shut_parser t last)
+unfolding parser_after_close
 closed_last t last = refl
 
 pub step_end : (known : List TitledStatement) (t : TheoremView) (last : Inside) → step known (shut_parser t last) rawlines.End ≡ Ok (record (shut_parser t last) { section = Done })
-unfolding step stepped
+unfolding step after_line
 step_end known t last = refl
 
 end_read : (known : List TitledStatement) (number : ℕ) (t : TheoremView) (last : Inside) (all rest : List (Result LineView LineFault)) → Closes (steps_of t.script) (close_of t.script) t.script → Shows all (line_of rawlines.End ∷ []) rest

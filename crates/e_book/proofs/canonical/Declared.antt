@@ -19,7 +19,7 @@ use Rattle.e_line.specs.Limits.{most_of, what_of, within}
 use Rattle.e_names.specs.TitledStatements.{TitledStatement}
 use Rattle.e_deriv.specs.Naming.{names_of_sort, first_names}
 use Rattle.e_names.specs.Scope.{scope_of_names, fresh}
-use Rattle.e_book.specs.Steps.{declared, step, begin}
+use Rattle.e_book.specs.Steps.{with_declared, step, begin}
 use Rattle.e_book.specs.Book.{is_done}
 use Rattle.e_names.specs.Canonical.{name_at}
 use Rattle.e_book.specs.Canonical.{Group, group, grouped_before, grouped}
@@ -51,8 +51,8 @@ fresh_joined ns sort name more f =
     let one : fresh ns [] (name ∷ more) ≡ fresh ns (name ∷ []) more = rw (f.0, f.1, f.2) refl in
     one ∙ same_fresh ns sort name [] more
 
-pub declared_one : (ns : Names) (sort : Sort) (name : List ℕ) → Free ns name → length (names_of_sort ns sort) + 1 ≤ most_of sort → declared ns sort (name ∷ []) ≡ Ok (plus ns sort name)
-unfolding declared
+pub declared_one : (ns : Names) (sort : Sort) (name : List ℕ) → Free ns name → length (names_of_sort ns sort) + 1 ≤ most_of sort → with_declared ns sort (name ∷ []) ≡ Ok (plus ns sort name)
+unfolding with_declared
 declared_one ns sort name f few =
     let room : ltb (most_of sort) (length (names_of_sort ns sort) + length (name ∷ [])) ≡ false = le-ltb _ _ (omega (arith, few)) in
     rw (f.0, f.1, f.2, room) refl
@@ -67,8 +67,8 @@ same_answer f g m n v w sort a b c =
 one_less : (xs more : List (List ℕ)) (name : List ℕ) → length xs + length (name ∷ more) ≡ length (xs ++ name ∷ []) + length more
 one_less xs more name = omega (arith, length-append xs (name ∷ []))
 
-pub declared_joined : (ns : Names) (sort : Sort) (name : List ℕ) (more : List (List ℕ)) → Free ns name → declared ns sort (name ∷ more) ≡ declared (plus ns sort name) sort more
-unfolding declared
+pub declared_joined : (ns : Names) (sort : Sort) (name : List ℕ) (more : List (List ℕ)) → Free ns name → with_declared ns sort (name ∷ more) ≡ with_declared (plus ns sort name) sort more
+unfolding with_declared
 declared_joined ns Point name more f =
     same_answer (fresh ns [] (name ∷ more)) (fresh (plus ns Point name) [] more) (length ns.points + length (name ∷ more)) (length (ns.points ++ name ∷ []) + length more)
     (record ns { points = ns.points ++ name ∷ more }) (record ns { points = (ns.points ++ name ∷ []) ++ more }) Point (fresh_joined ns Point name more f) (one_less ns.points more name)

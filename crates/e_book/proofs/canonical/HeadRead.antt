@@ -17,7 +17,7 @@ use Rattle.e_line.specs.Reading.{◌>>=◌}
 use Rattle.e_line.specs.Limits.{most_of, most_theorems, most_facts, most_terms, monomials, count_monomials}
 use Rattle.e_names.specs.TitledStatements.{TitledStatement, is_known}
 use Rattle.e_line.specs.LineLimits.{count_monos}
-use Rattle.e_book.specs.Steps.{with_terms, allowed, declared, stepped, step, begin, begun, no_names}
+use Rattle.e_book.specs.Steps.{with_terms, line_may_come, with_declared, after_line, step, begin, with_title, no_names}
 use Rattle.e_book.specs.Book.{is_done}
 use Rattle.e_names.specs.Canonical.{raw_of, given_raw_line, show_raw_line}
 use Rattle.e_line.specs.HasSpelling.{AreNames}
@@ -36,11 +36,11 @@ stating t ns sorts given made shown facts terms place =
 
 -- ---- the title
 
-pub run_title : (known : List TitledStatement) (t : List ℕ) → is_title t ≡ true → is_known known t ≡ false → length known < most_theorems → Runs known None (rawlines.Theorem t ∷ []) (Some (begun t))
+pub run_title : (known : List TitledStatement) (t : List ℕ) → is_title t ≡ true → is_known known t ≡ false → length known < most_theorems → Runs known None (rawlines.Theorem t ∷ []) (Some (with_title t))
 unfolding begin
 run_title known t h new few =
     let room : ltb most_theorems (length known + 1) ≡ false = le-ltb _ _ (omega (arith, few)) in
-    (begun t, h, rw (new, room) refl, refl, refl)
+    (with_title t, h, rw (new, room) refl, refl, refl)
 
 -- ---- declared objects
 
@@ -56,15 +56,15 @@ then_declaring t sorts r = r >>= λ ns. Ok (declaring t ns sorts)
 
 one_declared : (known : List TitledStatement) (t : List ℕ) (ns : Names) (sorts : List Sort) (sort : Sort) (name : List ℕ) → Free ns name → length (names_of_sort ns sort) + 1 ≤ most_of sort
     → step known (declaring t ns sorts) (rawlines.Declare sort (name ∷ [])) ≡ Ok (declaring t (plus ns sort name) (sorts ++ sort ∷ []))
-unfolding step stepped
+unfolding step after_line
 one_declared known t ns sorts sort name f few = ap (then_declaring t (sorts ++ sort ∷ [])) (declared_one ns sort name f few)
 
 split_declared : (known : List TitledStatement) (t : List ℕ) (ns : Names) (sorts : List Sort) (sort : Sort) (name : List ℕ) (more : List (List ℕ)) → Free ns name
     → step known (declaring t ns sorts) (rawlines.Declare sort (name ∷ more)) ≡ step known (declaring t (plus ns sort name) (sorts ++ sort ∷ [])) (rawlines.Declare sort more)
-unfolding step stepped
+unfolding step after_line
 split_declared known t ns sorts sort name more f =
     ap (then_declaring t (sorts ++ sort ∷ replicate (length more) sort)) (declared_joined ns sort name more f)
-    ∙ ap (λ (l : List Sort). then_declaring t l (declared (plus ns sort name) sort more)) (sym (append_assoc sorts (sort ∷ []) (replicate (length more) sort)))
+    ∙ ap (λ (l : List Sort). then_declaring t l (with_declared (plus ns sort name) sort more)) (sym (append_assoc sorts (sort ∷ []) (replicate (length more) sort)))
 
 pub declared_lines : (known : List TitledStatement) (t : List ℕ) → LinesOfNames known rawlines.Declare (declaring t)
 declared_lines known t = record {
@@ -86,9 +86,9 @@ stating_more t ns sorts given l =
     (ap (λ (n : ℕ). count_monomials given + n) (count_again ns l) ∙ sym (count_more given l))
 
 step_given : (known : List TitledStatement) (t : List ℕ) (ns : Names) (sorts : List Sort) (given : List Lit) (place : Section) (l : Lit) → InOrder ns → PlainLit ns l → length given + 1 ≤ most_facts → count_monomials given + monomials l.atom ≤ most_terms
-    → allowed place (given_raw_line ns l) ≡ true
+    → line_may_come place (given_raw_line ns l) ≡ true
     → step known (stating t ns sorts given [] [] (length given) (count_monomials given) place) (given_raw_line ns l) ≡ Ok (stating t ns sorts (given ++ l ∷ []) [] [] (length (given ++ l ∷ [])) (count_monomials (given ++ l ∷ [])) Giving)
-unfolding step stepped with_terms
+unfolding step after_line with_terms
 step_given known t ns sorts given place l o p few short a =
     let room : ltb most_facts (length given + length (raw_of ns l ∷ [])) ≡ false = le-ltb _ _ (omega (arith, few)) in
     let terms : ltb most_terms (count_monomials given + count_monos (raw_of ns l ∷ [])) ≡ false = le-ltb _ _ (omega (arith, short, count_again ns l)) in
@@ -140,7 +140,7 @@ after_made given (sort ∷ sorts) = Making
 abbrev pub making : List ℕ → List Sort → List Lit → Names → List Sort → TheoremParser
 making t sorts given ns made = stating t ns sorts given made [] (length given) (count_monomials given) (after_made given made)
 
-may_make : (given : List Lit) (made : List Sort) (sort : Sort) (names : List (List ℕ)) → allowed (after_made given made) (rawlines.Made sort names) ≡ true
+may_make : (given : List Lit) (made : List Sort) (sort : Sort) (names : List (List ℕ)) → line_may_come (after_made given made) (rawlines.Made sort names) ≡ true
 may_make [] [] sort names = refl
 may_make (l ∷ given) [] sort names = refl
 may_make given (s ∷ made) sort names = refl
@@ -159,7 +159,7 @@ then_making t sorts given made r = r >>= λ ns. Ok (stating t ns sorts given mad
 
 one_made : (known : List TitledStatement) (t : List ℕ) (sorts : List Sort) (given : List Lit) (ns : Names) (made : List Sort) (sort : Sort) (name : List ℕ) → Free ns name → length (names_of_sort ns sort) + 1 ≤ most_of sort
     → step known (making t sorts given ns made) (rawlines.Made sort (name ∷ [])) ≡ Ok (making t sorts given (plus ns sort name) (made ++ sort ∷ []))
-unfolding step stepped
+unfolding step after_line
 one_made known t sorts given ns made sort name f few =
     rw (may_make given made sort (name ∷ []))
     (ap (then_making t sorts given (made ++ sort ∷ [])) (declared_one ns sort name f few)
@@ -167,11 +167,11 @@ one_made known t sorts given ns made sort name f few =
 
 split_made : (known : List TitledStatement) (t : List ℕ) (sorts : List Sort) (given : List Lit) (ns : Names) (made : List Sort) (sort : Sort) (name : List ℕ) (more : List (List ℕ)) → Free ns name
     → step known (making t sorts given ns made) (rawlines.Made sort (name ∷ more)) ≡ step known (making t sorts given (plus ns sort name) (made ++ sort ∷ [])) (rawlines.Made sort more)
-unfolding step stepped
+unfolding step after_line
 split_made known t sorts given ns made sort name more f =
     rw (may_make given made sort (name ∷ more), may_make given (made ++ sort ∷ []) sort more)
     (ap (then_making t sorts given (made ++ sort ∷ replicate (length more) sort)) (declared_joined ns sort name more f)
-    ∙ ap (λ (l : List Sort). then_making t sorts given l (declared (plus ns sort name) sort more)) (sym (append_assoc made (sort ∷ []) (replicate (length more) sort))))
+    ∙ ap (λ (l : List Sort). then_making t sorts given l (with_declared (plus ns sort name) sort more)) (sym (append_assoc made (sort ∷ []) (replicate (length more) sort))))
 
 made_names : (sort : Sort) (names : List (List ℕ)) → GoodForm (rawlines.Made sort names) → AreNames names
 made_names sort [] h = absurd h
@@ -193,9 +193,9 @@ made_lines known t sorts given = record {
 abbrev pub showing : List ℕ → Names → List Sort → List Lit → List Sort → List Lit → TheoremParser
 showing t ns sorts given made shown = stating t ns sorts given made shown (length given) (count_monomials given) Showing
 
-step_show : (known : List TitledStatement) (t : List ℕ) (ns : Names) (sorts : List Sort) (given : List Lit) (made : List Sort) (shown : List Lit) (place : Section) (l : Lit) → InOrder ns → PlainLit ns l → allowed place (show_raw_line ns l) ≡ true
+step_show : (known : List TitledStatement) (t : List ℕ) (ns : Names) (sorts : List Sort) (given : List Lit) (made : List Sort) (shown : List Lit) (place : Section) (l : Lit) → InOrder ns → PlainLit ns l → line_may_come place (show_raw_line ns l) ≡ true
     → step known (stating t ns sorts given made shown (length given) (count_monomials given) place) (show_raw_line ns l) ≡ Ok (showing t ns sorts given made (shown ++ l ∷ []))
-unfolding step stepped
+unfolding step after_line
 step_show known t ns sorts given made shown place l o p a = rw (a, lit_number_again ns l o p.within p.good, few_again ns l p.good) refl
 
 run_shown : (known : List TitledStatement) (t : List ℕ) (ns : Names) (sorts : List Sort) (given : List Lit) (made : List Sort) (shown more : List Lit) → InOrder ns → Plain ns more
@@ -211,7 +211,7 @@ run_shown known t ns sorts given made shown (l ∷ more) o p =
           (run_shown known t ns sorts given made (shown ++ l ∷ []) more o q.1),
     )
 
-may_show : (ns : Names) (given : List Lit) (made : List Sort) (l : Lit) → allowed (after_made given made) (show_raw_line ns l) ≡ true
+may_show : (ns : Names) (given : List Lit) (made : List Sort) (l : Lit) → line_may_come (after_made given made) (show_raw_line ns l) ≡ true
 may_show ns [] [] l = refl
 may_show ns (g ∷ given) [] l = refl
 may_show ns given (s ∷ made) l = refl

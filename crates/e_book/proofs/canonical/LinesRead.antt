@@ -33,7 +33,7 @@ use Rattle.e_names.specs.Applies.{count_blanks}
 use Rattle.e_names.specs.Scope.{scope_of_names, object_as, objects_of_sorts, qed_in}
 use Rattle.e_line.specs.LineLimits.{count_monos}
 use Rattle.e_book.specs.LineLimits.{few_objects}
-use Rattle.e_book.specs.Steps.{with_step, with_terms, built, used_by, applied, deeper, claimed, superposed, split, counted_from, resumed, closed, shut, stepped, step}
+use Rattle.e_book.specs.Steps.{with_step, with_terms, after_let, with_use, after_apply, inside_if_room, after_claim, after_superpose, after_cases, counted_from, after_inner_block, parser_after_close, after_close_line, after_line, step}
 use Rattle.e_book.specs.ParserViews.{script_of_close}
 use Rattle.e_names.specs.Fits.{is_diagram_lit}
 use Rattle.e_names.specs.Canonical.{raw_of, name_of_object, by_raw_line, hence_raw_line, let_raw_line, apply_raw_line, claim_raw_line, superpose_raw_line, cases_raw_line, else_raw_line, qed_raw_line, contradiction_raw_line}
@@ -105,7 +105,7 @@ second i lines lit first =
 
 pub step_cite : (known : List TitledStatement) (d : TheoremParser) (i : Inside) (b : By) → InOrder i.in_scope → is_citation (scope_of_names i.in_scope) b ≡ true → is_diagram_lit b.lit ≡ true → i.lines + 1 ≤ most_steps → i.facts + 1 ≤ most_facts
     → step known (proving d i) (by_raw_line i.in_scope b) ≡ Ok (proving d (after_step i (Cited b) 1))
-unfolding step stepped with_step
+unfolding step after_line with_step
 step_cite known d i b o h p few most =
     let room : ltb most_steps (i.lines + 1) ≡ false = le-ltb _ _ few in
     let place : ltb most_facts (i.facts + 1) ≡ false = le-ltb _ _ most in
@@ -113,7 +113,7 @@ step_cite known d i b o h p few most =
 
 pub step_hence : (known : List TitledStatement) (d : TheoremParser) (i : Inside) (l : Lit) → InOrder i.in_scope → PlainLit i.in_scope l → i.lines + 1 ≤ most_steps → i.facts + 1 ≤ most_facts → i.terms + monomials l.atom ≤ most_terms
     → step known (proving d i) (hence_raw_line i.in_scope l) ≡ Ok (proving d (written (after_step i (Inferred l None) 1) (monomials l.atom)))
-unfolding step stepped with_step with_terms
+unfolding step after_line with_step with_terms
 step_hence known d i l o p few most short =
     let room : ltb most_steps (i.lines + 1) ≡ false = le-ltb _ _ few in
     let place : ltb most_facts (i.facts + 1) ≡ false = le-ltb _ _ most in
@@ -124,7 +124,7 @@ pub step_let : (known : List TitledStatement) (d : TheoremParser) (i : Inside) (
     → i.lines + 1 ≤ most_steps → i.facts + length (gives_of_construction construction (scope_of_names i.in_scope)) ≤ most_facts
     → step known (proving d i) (as_read (let_raw_line i.in_scope construction names))
     ≡ Ok (proving d (record (after_step i (Made construction names []) (length (gives_of_construction construction (scope_of_names i.in_scope)))) { in_scope = named i.in_scope (sorts_made construction) names }))
-unfolding step stepped built with_step
+unfolding step after_line after_let with_step
 step_let known d i construction names o h fit few most =
     let room : ltb most_steps (i.lines + 1) ≡ false = le-ltb _ _ few in
     let place : ltb most_facts (i.facts + length (gives_of_construction construction (scope_of_names i.in_scope))) ≡ false = le-ltb _ _ most in
@@ -134,7 +134,7 @@ pub step_apply : (known : List TitledStatement) (d : TheoremParser) (i : Inside)
     → few_objects (named i.in_scope (theorem_of known theorem).made names) ≡ Ok tt → i.lines + 1 ≤ most_steps → i.facts + length (theorem_of known theorem).shown ≤ most_facts
     → i.terms + count_monomials (theorem_of known theorem).shown ≤ most_terms → count_blanks args ≤ most_blanks
     → step known (proving d i) (apply_raw_line known i.in_scope theorem args names) ≡ Ok (proving d (applied_after i (theorem_of known theorem) theorem args names))
-unfolding step stepped applied used_by with_step
+unfolding step after_line after_apply with_use with_step
 step_apply known d i theorem args names o g fit few most short written =
     let t = theorem_of known theorem in
     let room : ltb most_steps (i.lines + 1) ≡ false = le-ltb _ _ few in
@@ -146,8 +146,8 @@ step_apply known d i theorem args names o g fit few most short written =
 -- ---- lines that begin an inner block
 
 deeper_again : (d : TheoremParser) (i : Inside) (o : BlockKind) (given : ℕ) → i.lines + 1 ≤ most_steps → length i.blocks + 2 ≤ most_depth → i.facts + given ≤ most_facts
-    → deeper (proving d i) o given ≡ Ok (proving d (deep i o given))
-unfolding deeper
+    → inside_if_room (proving d i) o given ≡ Ok (proving d (deep i o given))
+unfolding inside_if_room
 deeper_again d i o given few shallow most =
     let room : ltb most_steps (i.lines + 1) ≡ false = le-ltb _ _ few in
     let deep : ltb most_depth (length i.blocks + 2) ≡ false = le-ltb _ _ shallow in
@@ -156,7 +156,7 @@ deeper_again d i o given few shallow most =
 
 pub step_claim : (known : List TitledStatement) (d : TheoremParser) (i : Inside) (shown : List Lit) → InOrder i.in_scope → Plain i.in_scope shown → i.lines + 1 ≤ most_steps → length i.blocks + 2 ≤ most_depth → i.facts + 0 ≤ most_facts
     → step known (proving d i) (claim_raw_line i.in_scope shown) ≡ Ok (proving d (deep i (kind.Claim shown) 0))
-unfolding step stepped claimed
+unfolding step after_line after_claim
 step_claim known d i shown o p few shallow most =
     rw (lits_number_again i.in_scope shown o p, deeper_again d i (kind.Claim shown) 0 few shallow most, all_few_again i.in_scope shown p.good) refl
 
@@ -165,7 +165,7 @@ pub step_superpose : (known : List TitledStatement) (d : TheoremParser) (i : Ins
     → i.facts + length (superposing.gives_of_superposition superposition (scope_of_names i.in_scope)) ≤ most_facts → i.terms + count_monomials (superposing.gives_of_superposition superposition (scope_of_names i.in_scope)) ≤ most_terms
     → step known (proving d i) (superpose_raw_line i.in_scope superposition names shown)
     ≡ Ok (proving d (copied i superposition names shown))
-unfolding step stepped superposed
+unfolding step after_line after_superpose
 step_superpose known d i superposition names shown g fit few shallow most short =
     let given = superposing.gives_of_superposition superposition (scope_of_names i.in_scope) in
     let more : ltb most_terms (i.terms + count_monomials given) ≡ false = le-ltb _ _ short in
@@ -173,14 +173,14 @@ step_superpose known d i superposition names shown g fit few shallow most short 
 
 pub step_cases : (known : List TitledStatement) (d : TheoremParser) (i : Inside) (l : Lit) → InOrder i.in_scope → PlainLit i.in_scope l → i.lines + 1 ≤ most_steps → length i.blocks + 2 ≤ most_depth → i.facts + 1 ≤ most_facts → i.terms + monomials l.atom ≤ most_terms
     → step known (proving d i) (cases_raw_line i.in_scope l) ≡ Ok (proving d (written (deep i (kind.First l) 1) (monomials l.atom)))
-unfolding step stepped split with_terms
+unfolding step after_line after_cases with_terms
 step_cases known d i l o p few shallow most short =
     let more : ltb most_terms (i.terms + count_monos (raw_of i.in_scope l ∷ [])) ≡ false = le-ltb _ _ (omega (arith, short, count_again i.in_scope l)) in
     rw (lit_number_again i.in_scope l o p.within p.good, deeper_again d i (kind.First l) 1 few shallow most, few_again i.in_scope l p.good, more)
     (ap (λ (n : ℕ). Ok (proving d (written (deep i (kind.First l) 1) n))) (count_again i.in_scope l))
 
 pub step_else : (known : List TitledStatement) (d : TheoremParser) (i : Inside) → step known (splitting d i) else_raw_line ≡ Ok (proving d i)
-unfolding step stepped
+unfolding step after_line
 step_else known d i = refl
 
 -- ---- lines that close a block
@@ -202,14 +202,14 @@ qed_read ns sorts os o h =
     rw count (objects_read ns sorts os o h)
 
 pub step_qed : (known : List TitledStatement) (d : TheoremParser) (i : Inside) (os : List Obj) → InOrder i.in_scope → are_of_sorts (scope_of_names i.in_scope) (made_in i.blocks d.made) os ≡ true → i.lines + 1 ≤ most_steps
-    → step known (proving d i) (qed_raw_line i.in_scope os) ≡ closed (proving d (record i { lines = i.lines + 1 })) i.blocks i.steps (closes.Qed os)
-unfolding step stepped shut
+    → step known (proving d i) (qed_raw_line i.in_scope os) ≡ parser_after_close (proving d (record i { lines = i.lines + 1 })) i.blocks i.steps (closes.Qed os)
+unfolding step after_line after_close_line
 step_qed known d i os o h few =
     let room : ltb most_steps (i.lines + 1) ≡ false = le-ltb _ _ few in
     rw (qed_read i.in_scope (made_in i.blocks d.made) os o h, room) refl
 
-pub step_contradiction : (known : List TitledStatement) (d : TheoremParser) (i : Inside) → i.lines + 1 ≤ most_steps → step known (proving d i) contradiction_raw_line ≡ closed (proving d (record i { lines = i.lines + 1 })) i.blocks i.steps closes.Contradiction
-unfolding step stepped shut
+pub step_contradiction : (known : List TitledStatement) (d : TheoremParser) (i : Inside) → i.lines + 1 ≤ most_steps → step known (proving d i) contradiction_raw_line ≡ parser_after_close (proving d (record i { lines = i.lines + 1 })) i.blocks i.steps closes.Contradiction
+unfolding step after_line after_close_line
 step_contradiction known d i few =
     let room : ltb most_steps (i.lines + 1) ≡ false = le-ltb _ _ few in
     rw room refl
@@ -221,33 +221,33 @@ abbrev pub Closes : List PlainStep → CloseLine → Script → Type 0
 Closes steps close inner = all_before steps (script_of_close close) ≡ inner
 
 resumed_again : (d : TheoremParser) (i last : Inside) (o : BlockKind) (s : PlainStep) (shown : List Lit) → i.facts + length shown ≤ most_facts → i.terms + count_monomials shown ≤ most_terms
-    → resumed (proving d last) (outer i o) i.blocks shown s ≡ Ok (proving d (resume i last.lines s shown))
-unfolding resumed counted_from
+    → after_inner_block (proving d last) (outer i o) i.blocks shown s ≡ Ok (proving d (resume i last.lines s shown))
+unfolding after_inner_block counted_from
 resumed_again d i last o s shown most short =
     let place : ltb most_facts (i.facts + length shown) ≡ false = le-ltb _ _ most in
     let more : ltb most_terms (i.terms + count_monomials shown) ≡ false = le-ltb _ _ short in
     rw (place, more) refl
 
 pub claim_closed : (d : TheoremParser) (i last : Inside) (shown : List Lit) (steps : List PlainStep) (close : CloseLine) (inner : Script) → Closes steps close inner → i.facts + length shown ≤ most_facts → i.terms + count_monomials shown ≤ most_terms
-    → closed (proving d last) (outer i (kind.Claim shown) ∷ i.blocks) steps close ≡ Ok (proving d (resume i last.lines (Claimed shown inner) shown))
-unfolding closed
+    → parser_after_close (proving d last) (outer i (kind.Claim shown) ∷ i.blocks) steps close ≡ Ok (proving d (resume i last.lines (Claimed shown inner) shown))
+unfolding parser_after_close
 claim_closed d i last shown steps close inner e most short =
-    ap (λ (x : Script). resumed (proving d last) (outer i (kind.Claim shown)) i.blocks shown (Claimed shown x)) e ∙ resumed_again d i last (kind.Claim shown) (Claimed shown inner) shown most short
+    ap (λ (x : Script). after_inner_block (proving d last) (outer i (kind.Claim shown)) i.blocks shown (Claimed shown x)) e ∙ resumed_again d i last (kind.Claim shown) (Claimed shown inner) shown most short
 
 pub superpose_closed : (d : TheoremParser) (i last : Inside) (superposition : Superpose) (names : List (List ℕ)) (shown : List Lit) (steps : List PlainStep) (close : CloseLine) (inner : Script) → Closes steps close inner
     → i.facts + length shown ≤ most_facts → i.terms + count_monomials shown ≤ most_terms
-    → closed (proving d last) (outer i (kind.Superpose superposition names shown) ∷ i.blocks) steps close ≡ Ok (proving d (resume i last.lines (Copied superposition names shown [] inner) shown))
-unfolding closed
+    → parser_after_close (proving d last) (outer i (kind.Superpose superposition names shown) ∷ i.blocks) steps close ≡ Ok (proving d (resume i last.lines (Copied superposition names shown [] inner) shown))
+unfolding parser_after_close
 superpose_closed d i last superposition names shown steps close inner e most short =
     let o = kind.Superpose superposition names shown in
-    ap (λ (x : Script). resumed (proving d last) (outer i o) i.blocks shown (Copied superposition names shown [] x)) e ∙ resumed_again d i last o (Copied superposition names shown [] inner) shown most short
+    ap (λ (x : Script). after_inner_block (proving d last) (outer i o) i.blocks shown (Copied superposition names shown [] x)) e ∙ resumed_again d i last o (Copied superposition names shown [] inner) shown most short
 
 pub first_closed : (d : TheoremParser) (i last : Inside) (lit : Lit) (steps : List PlainStep) (close : CloseLine) (inner : Script) → Closes steps close inner
-    → closed (proving d last) (outer i (kind.First lit) ∷ i.blocks) steps close ≡ Ok (splitting d (second i last.lines lit inner))
-unfolding closed
+    → parser_after_close (proving d last) (outer i (kind.First lit) ∷ i.blocks) steps close ≡ Ok (splitting d (second i last.lines lit inner))
+unfolding parser_after_close
 first_closed d i last lit steps close inner e = ap (λ (x : Script). Ok (splitting d (second i last.lines lit x))) e
 
 pub second_closed : (d : TheoremParser) (i last : Inside) (lit : Lit) (first : Script) (steps : List PlainStep) (close : CloseLine) (inner : Script) → Closes steps close inner
-    → closed (proving d last) (outer i (kind.Second lit first) ∷ i.blocks) steps close ≡ closed (proving d last) i.blocks i.steps (closes.Cases lit first inner)
-unfolding closed
-second_closed d i last lit first steps close inner e = ap (λ (x : Script). closed (proving d last) i.blocks i.steps (closes.Cases lit first x)) e
+    → parser_after_close (proving d last) (outer i (kind.Second lit first) ∷ i.blocks) steps close ≡ parser_after_close (proving d last) i.blocks i.steps (closes.Cases lit first inner)
+unfolding parser_after_close
+second_closed d i last lit first steps close inner e = ap (λ (x : Script). parser_after_close (proving d last) i.blocks i.steps (closes.Cases lit first x)) e

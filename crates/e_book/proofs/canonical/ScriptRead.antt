@@ -37,7 +37,7 @@ use Rattle.e_names.specs.TitledStatements.{TitledStatement, stated_by, theorem_o
 use Rattle.e_names.specs.Scope.{scope_of_names}
 use Rattle.e_names.specs.Applies.{count_blanks}
 use Rattle.e_book.specs.LineLimits.{few_objects}
-use Rattle.e_book.specs.Steps.{closed}
+use Rattle.e_book.specs.Steps.{parser_after_close}
 use Rattle.e_book.specs.Book.{is_done}
 use Rattle.e_names.specs.Fits.{is_diagram_lit}
 use Rattle.e_book.specs.Fits.{NewNamesFit, few_facts, few_terms, few_blanks, has_well_formed_literals}
@@ -91,16 +91,16 @@ pub record Ready (known : List TitledStatement) (d : TheoremParser) (i : Inside)
 pub record Taken (known : List TitledStatement) (d : TheoremParser) (i : Inside) (script : Script) : Type 0 where
   pub last : Inside
   pub lines : last.lines ≡ i.lines + size script
-  pub runs : (e : TheoremParser) → closed (proving d last) i.blocks (i.steps ++ steps_of script) (close_of script) ≡ Ok e → is_done e ≡ false
+  pub runs : (e : TheoremParser) → parser_after_close (proving d last) i.blocks (i.steps ++ steps_of script) (close_of script) ≡ Ok e → is_done e ≡ false
       → Runs known (Some (proving d i)) (script_raw_lines known i.in_scope script) (Some e)
 
 -- one more step, and what comes after it
-pub one_more : (d : TheoremParser) (last i : Inside) (s : PlainStep) (rest : Script) (e : TheoremParser) → closed (proving d last) i.blocks (i.steps ++ s ∷ steps_of rest) (close_of rest) ≡ Ok e
-    → closed (proving d last) i.blocks ((i.steps ++ s ∷ []) ++ steps_of rest) (close_of rest) ≡ Ok e
-one_more d last i s rest e h = ap (λ (l : List PlainStep). closed (proving d last) i.blocks l (close_of rest)) (append_assoc i.steps (s ∷ []) (steps_of rest)) ∙ h
+pub one_more : (d : TheoremParser) (last i : Inside) (s : PlainStep) (rest : Script) (e : TheoremParser) → parser_after_close (proving d last) i.blocks (i.steps ++ s ∷ steps_of rest) (close_of rest) ≡ Ok e
+    → parser_after_close (proving d last) i.blocks ((i.steps ++ s ∷ []) ++ steps_of rest) (close_of rest) ≡ Ok e
+one_more d last i s rest e h = ap (λ (l : List PlainStep). parser_after_close (proving d last) i.blocks l (close_of rest)) (append_assoc i.steps (s ∷ []) (steps_of rest)) ∙ h
 
-pub no_more : (d : TheoremParser) (last i : Inside) (close : CloseLine) (e : TheoremParser) → closed (proving d last) i.blocks (i.steps ++ []) close ≡ Ok e → closed (proving d last) i.blocks i.steps close ≡ Ok e
-no_more d last i close e h = ap (λ (l : List PlainStep). closed (proving d last) i.blocks l close) (sym (append-nil i.steps)) ∙ h
+pub no_more : (d : TheoremParser) (last i : Inside) (close : CloseLine) (e : TheoremParser) → parser_after_close (proving d last) i.blocks (i.steps ++ []) close ≡ Ok e → parser_after_close (proving d last) i.blocks i.steps close ≡ Ok e
+no_more d last i close e h = ap (λ (l : List PlainStep). parser_after_close (proving d last) i.blocks l close) (sym (append-nil i.steps)) ∙ h
 
 -- ---- steps without a block inside
 

@@ -47,7 +47,7 @@ use Rattle.e_names.specs.Applies.{count_blanks, apply_in}
 use Rattle.e_line.specs.RawLines.{raw_line_of}
 use Rattle.e_line.specs.LineLimits.{count_monos, few_monos}
 use Rattle.e_book.specs.LineLimits.{few_objects}
-use Rattle.e_book.specs.Steps.{terms_after, with_terms, allowed, declared, with_step, built, used_by, applied, interrupted, deeper, claimed, superposed, split, counted_from, resumed, closed_inside, closed, shut, stepped, step, begin, begun}
+use Rattle.e_book.specs.Steps.{terms_after, with_terms, line_may_come, with_declared, with_step, after_let, with_use, after_apply, inside_block, inside_if_room, after_claim, after_superpose, after_cases, counted_from, after_inner_block, closed_inside, parser_after_close, after_close_line, after_line, step, begin, with_title}
 use Rattle.e_book.specs.ParserViews.{script_of_close, statement_of_parser, entry_of_parser}
 use Rattle.e_book.specs.TheoremViews.{TheoremView}
 use Rattle.e_book.specs.Grammar.{is_skipped, put_at}
@@ -190,19 +190,19 @@ pub record Spelled (known : List TitledStatement) (d : TheoremParser) : Type 0 w
   some : SomeShown d.section d.shown
   blocks : PlainBlocks known d.steps d.blocks d.close
 
-declared_is : (ns : Names) (sort : Sort) (new : List (List ℕ)) (names : Names) → declared ns sort new ≡ Ok names → with_names ns sort (names_of_sort ns sort ++ new) ≡ names
-unfolding declared
+declared_is : (ns : Names) (sort : Sort) (new : List (List ℕ)) (names : Names) → with_declared ns sort new ≡ Ok names → with_names ns sort (names_of_sort ns sort ++ new) ≡ names
+unfolding with_declared
 declared_is ns sort new names e =
     let now : Names = with_names ns sort (names_of_sort ns sort ++ new) in
     let f = bind_ok (fresh ns [] new) (λ free. within (length (names_of_sort ns sort) + length new) (most_of sort) (what_of sort) >>= λ few. read_ok now) names e in
     let w = bind_ok (within (length (names_of_sort ns sort) + length new) (most_of sort) (what_of sort)) (λ few. read_ok now) names f.2 in
     ok_is now names w.2
 
-spelled_declare : (known : List TitledStatement) (d e : TheoremParser) (sort : Sort) (ns : List (List ℕ)) → Spelled known d → AreNames ns → stepped known d (rawlines.Declare sort ns) ≡ Ok e → Spelled known e
-unfolding stepped
+spelled_declare : (known : List TitledStatement) (d e : TheoremParser) (sort : Sort) (ns : List (List ℕ)) → Spelled known d → AreNames ns → after_line known d (rawlines.Declare sort ns) ≡ Ok e → Spelled known e
+unfolding after_line
 spelled_declare known d e sort ns g said h =
     let then : Names → TheoremParser = λ names. record d { names = names; declared = d.declared ++ replicate (length ns) sort } in
-    let n = bind_ok (declared d.names sort ns) (λ names. read_ok (then names)) e h in
+    let n = bind_ok (with_declared d.names sort ns) (λ names. read_ok (then names)) e h in
     let now = declared_is d.names sort ns n.0 n.1 in
     subst (λ (y : TheoremParser). Spelled known y) (ap then now ∙ ok_is (then n.0) e n.2)
     (record { few = g.few; title = g.title; naming = naming_more d.names sort ns g.naming said; some = g.some; blocks = g.blocks })
@@ -214,25 +214,25 @@ counted known d n g = record { few = g.few; title = g.title; naming = g.naming; 
 spelled_terms : (known : List TitledStatement) (d e : TheoremParser) (raws : List RawLit) → Spelled known d → with_terms d raws ≡ Ok e → Spelled known e
 spelled_terms known d e raws g h = let t = terms_added d e raws h in subst (λ (y : TheoremParser). Spelled known y) t.is (counted known d (d.terms + count_monos raws) g)
 
-spelled_given : (known : List TitledStatement) (d e : TheoremParser) (raws : List RawLit) → Spelled known d → stepped known d (rawlines.Given raws) ≡ Ok e → Spelled known e
-unfolding stepped
+spelled_given : (known : List TitledStatement) (d e : TheoremParser) (raws : List RawLit) → Spelled known d → after_line known d (rawlines.Given raws) ≡ Ok e → Spelled known e
+unfolding after_line
 spelled_given known d e raws g h =
     let then : List Lit → TheoremParser = λ ls. record d { given = ls; facts = d.facts + length raws; section = Giving } in
     let all = bind_ok (with_front d.given (lits_in d.names raws)) (λ ls. within (d.facts + length raws) most_facts limits.Facts >>= λ few. with_terms (then ls) raws) e h in
     let w = bind_ok (within (d.facts + length raws) most_facts limits.Facts) (λ few. with_terms (then all.0) raws) e all.2 in
     spelled_terms known (then all.0) e raws (record { few = g.few; title = g.title; naming = g.naming; some = tt; blocks = g.blocks }) w.2
 
-spelled_made : (known : List TitledStatement) (d e : TheoremParser) (sort : Sort) (ns : List (List ℕ)) → Spelled known d → AreNames ns → stepped known d (rawlines.Made sort ns) ≡ Ok e → Spelled known e
-unfolding stepped
+spelled_made : (known : List TitledStatement) (d e : TheoremParser) (sort : Sort) (ns : List (List ℕ)) → Spelled known d → AreNames ns → after_line known d (rawlines.Made sort ns) ≡ Ok e → Spelled known e
+unfolding after_line
 spelled_made known d e sort ns g said h =
     let then : Names → TheoremParser = λ names. record d { names = names; made = d.made ++ replicate (length ns) sort; section = Making } in
-    let n = bind_ok (declared d.names sort ns) (λ names. read_ok (then names)) e h in
+    let n = bind_ok (with_declared d.names sort ns) (λ names. read_ok (then names)) e h in
     let now = declared_is d.names sort ns n.0 n.1 in
     subst (λ (y : TheoremParser). Spelled known y) (ap then now ∙ ok_is (then n.0) e n.2)
     (record { few = g.few; title = g.title; naming = naming_more d.names sort ns g.naming said; some = tt; blocks = g.blocks })
 
-spelled_shown : (known : List TitledStatement) (d e : TheoremParser) (raws : List RawLit) → Spelled known d → 0 < length raws → stepped known d (rawlines.Show raws) ≡ Ok e → Spelled known e
-unfolding stepped
+spelled_shown : (known : List TitledStatement) (d e : TheoremParser) (raws : List RawLit) → Spelled known d → 0 < length raws → after_line known d (rawlines.Show raws) ≡ Ok e → Spelled known e
+unfolding after_line
 spelled_shown known d e raws g said h =
     let then : List Lit → TheoremParser = λ ls. record d { shown = ls; section = Showing } in
     let all = bind_ok (with_front d.shown (lits_in d.names raws)) (λ ls. few_monos raws >>= λ few. read_ok (then ls)) e h in
@@ -256,14 +256,14 @@ spelled_step known d e s n g p h =
     subst (λ (y : TheoremParser). Spelled known y) (ok_is x e b.2)
     (record { few = g.few; title = g.title; naming = g.naming; some = g.some; blocks = record { inside = one_more known d.steps s g.blocks.inside p; around = g.blocks.around; shut = g.blocks.shut } })
 
-spelled_by : (known : List TitledStatement) (d e : TheoremParser) (r : List ℕ) (ns : List (List ℕ)) (l : RawLit) → Spelled known d → stepped known d (rawlines.By r ns l) ≡ Ok e → Spelled known e
-unfolding stepped
+spelled_by : (known : List TitledStatement) (d e : TheoremParser) (r : List ℕ) (ns : List (List ℕ)) (l : RawLit) → Spelled known d → after_line known d (rawlines.By r ns l) ≡ Ok e → Spelled known e
+unfolding after_line
 spelled_by known d e r ns l g h =
     let b = bind_ok (by_in d.in_scope r ns l) (λ b. with_step d (Cited b) 1) e h in
     spelled_step known d e (Cited b.0) 1 g refl b.2
 
-spelled_hence : (known : List TitledStatement) (d e : TheoremParser) (l : RawLit) → Spelled known d → stepped known d (rawlines.Hence l) ≡ Ok e → Spelled known e
-unfolding stepped
+spelled_hence : (known : List TitledStatement) (d e : TheoremParser) (l : RawLit) → Spelled known d → after_line known d (rawlines.Hence l) ≡ Ok e → Spelled known e
+unfolding after_line
 spelled_hence known d e l g h =
     let m = bind_ok (lit_in d.in_scope l) (λ m. with_step d (Inferred m None) 1 >>= λ x. with_terms x (l ∷ [])) e h in
     let x = bind_ok (with_step d (Inferred m.0 None) 1) (λ x. with_terms x (l ∷ [])) e m.2 in
@@ -273,8 +273,8 @@ names_listed : (ns : List (List ℕ)) → AreNames ns → list_all is_name ns �
 names_listed [] h = refl
 names_listed (n ∷ ns) h = rw (h.0, names_listed ns h.1) refl
 
-spelled_built : (known : List TitledStatement) (d e : TheoremParser) (l : RawLet) → Spelled known d → AreNames l.new → built d l ≡ Ok e → Spelled known e
-unfolding built
+spelled_built : (known : List TitledStatement) (d e : TheoremParser) (l : RawLet) → Spelled known d → AreNames l.new → after_let d l ≡ Ok e → Spelled known e
+unfolding after_let
 spelled_built known d e l g said h =
     let after : Construction → Names = λ construction. named d.in_scope (sorts_made construction) l.new in
     let then : Construction → Result TheoremParser FaultKind = λ construction. with_step (record d { in_scope = after construction }) (Made construction l.new []) (length (gives_of_construction construction (scope_of_names d.in_scope))) in
@@ -282,8 +282,8 @@ spelled_built known d e l g said h =
     let w = bind_ok (few_objects (after f.0)) (λ few. then f.0) e f.2 in
     spelled_step known (record d { in_scope = after f.0 }) e (Made f.0 l.new []) (length (gives_of_construction f.0 (scope_of_names d.in_scope))) (moved known d d.section (after f.0) d.lines d.facts d.terms g g.some) (names_listed l.new said) w.2
 
-spelled_let : (known : List TitledStatement) (d e : TheoremParser) (l : RawLet) → Spelled known d → AreNames l.new → stepped known d (rawlines.Let l) ≡ Ok e → Spelled known e
-unfolding stepped
+spelled_let : (known : List TitledStatement) (d e : TheoremParser) (l : RawLet) → Spelled known d → AreNames l.new → after_line known d (rawlines.Let l) ≡ Ok e → Spelled known e
+unfolding after_line
 spelled_let known d e l g said h = spelled_built known d e l g said h
 
 -- the theorem that is used can be named by its title
@@ -296,8 +296,8 @@ by_title known ns raw theorem args u h =
     and_from _ _ named_so here
 
 spelled_used : (known : List TitledStatement) (d e : TheoremParser) (raw : RawApply) (theorem : ℕ) (args : List (Option Obj)) → Spelled known d → AreNames raw.new → is_named_by_title known theorem ≡ true
-    → used_by d (theorem_of known theorem) theorem args raw.new ≡ Ok e → Spelled known e
-unfolding used_by
+    → with_use d (theorem_of known theorem) theorem args raw.new ≡ Ok e → Spelled known e
+unfolding with_use
 spelled_used known d e raw theorem args g names title h =
     let t = theorem_of known theorem in
     let after = named d.in_scope t.made raw.new in
@@ -312,59 +312,59 @@ spelled_used known d e raw theorem args g names title h =
     let y = spelled_step known x v.0 s (length t.shown) (moved known d d.section after d.lines d.facts d.terms g g.some) (and_from _ _ (names_listed raw.new names) title) v.1 in
     subst (λ (y : TheoremParser). Spelled known y) (ok_is (then v.0 n.0) e w.2) (counted known v.0 n.0 y)
 
-spelled_applied : (known : List TitledStatement) (d e : TheoremParser) (raw : RawApply) → Spelled known d → (is_title raw.title ≡ true) × AreNames raw.new → applied known d raw ≡ Ok e → Spelled known e
-unfolding applied
+spelled_applied : (known : List TitledStatement) (d e : TheoremParser) (raw : RawApply) → Spelled known d → (is_title raw.title ≡ true) × AreNames raw.new → after_apply known d raw ≡ Ok e → Spelled known e
+unfolding after_apply
 spelled_applied known d e raw g said h =
-    let a = bind_ok (apply_in known d.in_scope raw) (λ a. used_by d (theorem_of known a.0) a.0 a.1 raw.new) e h in
+    let a = bind_ok (apply_in known d.in_scope raw) (λ a. with_use d (theorem_of known a.0) a.0 a.1 raw.new) e h in
     spelled_used known d e raw a.0.0 a.0.1 g said.1 (by_title known d.in_scope raw a.0.0 a.0.1 (use_fits known d.in_scope raw a.0 a.1) said.0) a.2
 
-spelled_apply : (known : List TitledStatement) (d e : TheoremParser) (raw : RawApply) → Spelled known d → (is_title raw.title ≡ true) × AreNames raw.new → stepped known d (rawlines.Apply raw) ≡ Ok e → Spelled known e
-unfolding stepped
+spelled_apply : (known : List TitledStatement) (d e : TheoremParser) (raw : RawApply) → Spelled known d → (is_title raw.title ≡ true) × AreNames raw.new → after_line known d (rawlines.Apply raw) ≡ Ok e → Spelled known e
+unfolding after_line
 spelled_apply known d e raw g said h = spelled_applied known d e raw g said h
 
-at_proof : (p : Section) (shown : List Lit) → allowed p rawlines.Proof ≡ true → SomeShown p shown → 0 < length shown
+at_proof : (p : Section) (shown : List Lit) → line_may_come p rawlines.Proof ≡ true → SomeShown p shown → 0 < length shown
 at_proof Showing shown a s = s
 at_proof p shown a s = absurd cc
 
-at_else : (p : Section) (shown : List Lit) → allowed p rawlines.Else ≡ true → SomeShown p shown → 0 < length shown
+at_else : (p : Section) (shown : List Lit) → line_may_come p rawlines.Else ≡ true → SomeShown p shown → 0 < length shown
 at_else Splitting shown a s = s
 at_else p shown a s = absurd cc
 
-at_qed : (p : Section) (shown : List Lit) (ns : List (List ℕ)) → allowed p (rawlines.Qed ns) ≡ true → SomeShown p shown → 0 < length shown
+at_qed : (p : Section) (shown : List Lit) (ns : List (List ℕ)) → line_may_come p (rawlines.Qed ns) ≡ true → SomeShown p shown → 0 < length shown
 at_qed Proving shown ns a s = s
 at_qed p shown ns a s = absurd cc
 
-at_contradiction : (p : Section) (shown : List Lit) → allowed p rawlines.Contradiction ≡ true → SomeShown p shown → 0 < length shown
+at_contradiction : (p : Section) (shown : List Lit) → line_may_come p rawlines.Contradiction ≡ true → SomeShown p shown → 0 < length shown
 at_contradiction Proving shown a s = s
 at_contradiction p shown a s = absurd cc
 
-at_close : (p : Section) (shown : List Lit) → allowed p rawlines.End ≡ true → SomeShown p shown → 0 < length shown
+at_close : (p : Section) (shown : List Lit) → line_may_come p rawlines.End ≡ true → SomeShown p shown → 0 < length shown
 at_close Closed shown a s = s
 at_close p shown a s = absurd cc
 
-spelled_proof : (known : List TitledStatement) (d e : TheoremParser) → Spelled known d → allowed d.section rawlines.Proof ≡ true → stepped known d rawlines.Proof ≡ Ok e → Spelled known e
-unfolding stepped
+spelled_proof : (known : List TitledStatement) (d e : TheoremParser) → Spelled known d → line_may_come d.section rawlines.Proof ≡ true → after_line known d rawlines.Proof ≡ Ok e → Spelled known e
+unfolding after_line
 spelled_proof known d e g a h =
     let names = declared_names (stated (statement_of_parser d)) d.names in
     subst (λ (y : TheoremParser). Spelled known y) (ok_is (record d { in_scope = names; section = Proving }) e h) (moved known d Proving names d.lines d.facts d.terms g (at_proof d.section d.shown a g.some))
 
 -- ---- blocks inside blocks
 
-spelled_deeper : (known : List TitledStatement) (d e : TheoremParser) (o : BlockKind) (n : ℕ) → Spelled known d → is_plain_kind known o ≡ true → deeper d o n ≡ Ok e → Spelled known e
-unfolding deeper
+spelled_deeper : (known : List TitledStatement) (d e : TheoremParser) (o : BlockKind) (n : ℕ) → Spelled known d → is_plain_kind known o ≡ true → inside_if_room d o n ≡ Ok e → Spelled known e
+unfolding inside_if_room
 spelled_deeper known d e o n g p h =
-    let x : TheoremParser = interrupted d o n in
+    let x : TheoremParser = inside_block d o n in
     let a = bind_ok (within (d.lines + 1) most_steps limits.Steps) (λ few. within (length d.blocks + 2) most_depth limits.Depth >>= λ shallow. within (d.facts + n) most_facts limits.Facts >>= λ none. read_ok x) e h in
     let b = bind_ok (within (length d.blocks + 2) most_depth limits.Depth) (λ shallow. within (d.facts + n) most_facts limits.Facts >>= λ none. read_ok x) e a.2 in
     let c = bind_ok (within (d.facts + n) most_facts limits.Facts) (λ none. read_ok x) e b.2 in
     subst (λ (y : TheoremParser). Spelled known y) (ok_is x e c.2)
     (record { few = g.few; title = g.title; naming = g.naming; some = g.some; blocks = record { inside = refl; around = rw (g.blocks.inside, p, g.blocks.around) refl; shut = g.blocks.shut } })
 
-spelled_claim : (known : List TitledStatement) (d e : TheoremParser) (raws : List RawLit) → Spelled known d → 0 < length raws → stepped known d (rawlines.Claim raws) ≡ Ok e → Spelled known e
-unfolding stepped claimed
+spelled_claim : (known : List TitledStatement) (d e : TheoremParser) (raws : List RawLit) → Spelled known d → 0 < length raws → after_line known d (rawlines.Claim raws) ≡ Ok e → Spelled known e
+unfolding after_line after_claim
 spelled_claim known d e raws g said h =
-    let ls = bind_ok (lits_in d.in_scope raws) (λ ls. deeper d (kind.Claim ls) 0 >>= λ x. few_monos raws >>= λ few. read_ok x) e h in
-    let x = bind_ok (deeper d (kind.Claim ls.0) 0) (λ x. few_monos raws >>= λ few. read_ok x) e ls.2 in
+    let ls = bind_ok (lits_in d.in_scope raws) (λ ls. inside_if_room d (kind.Claim ls) 0 >>= λ x. few_monos raws >>= λ few. read_ok x) e h in
+    let x = bind_ok (inside_if_room d (kind.Claim ls.0) 0) (λ x. few_monos raws >>= λ few. read_ok x) e ls.2 in
     let f = bind_ok (few_monos raws) (λ few. read_ok x.0) e x.2 in
     let n = each_length (lit_in d.in_scope) raws ls.0 ls.1 in
     let some : ltb 0 (length ls.0) ≡ true = lt-ltb _ _ (omega (arith, n, said)) in
@@ -382,32 +382,32 @@ shown_length ns raw p e =
     let l = bind_ok (lits_in ns raw.shown) (λ ls. read_ok (pair_of f.0 ls)) p w.2 in
     subst (λ (x : Superpose × List Lit). length x.1 ≡ length raw.shown) (ok_is (pair_of f.0 l.0) p l.2) (each_length (lit_in ns) raw.shown l.0 l.1)
 
-spelled_superpose : (known : List TitledStatement) (d e : TheoremParser) (raw : RawSuperpose) → Spelled known d → AreNames raw.new → 0 < length raw.shown → stepped known d (rawlines.Superpose raw) ≡ Ok e → Spelled known e
-unfolding stepped superposed
+spelled_superpose : (known : List TitledStatement) (d e : TheoremParser) (raw : RawSuperpose) → Spelled known d → AreNames raw.new → 0 < length raw.shown → after_line known d (rawlines.Superpose raw) ≡ Ok e → Spelled known e
+unfolding after_line after_superpose
 spelled_superpose known d e raw g names said h =
     let after = named d.in_scope superposing.sorts_copied raw.new in
     let gives : Superpose × List Lit → List Lit = λ p. superposing.gives_of_superposition p.0 (scope_of_names d.in_scope) in
     let then : TheoremParser → ℕ → TheoremParser = λ x n. record x { in_scope = after; terms = n } in
-    let p = bind_ok (superpose_in d.in_scope raw) (λ p. few_objects after >>= λ objects. deeper d (kind.Superpose p.0 raw.new p.1) (length (gives p)) >>= λ x. few_monos raw.shown >>= λ few. terms_after x.terms (gives p) >>= λ n. read_ok (then x n)) e h in
+    let p = bind_ok (superpose_in d.in_scope raw) (λ p. few_objects after >>= λ objects. inside_if_room d (kind.Superpose p.0 raw.new p.1) (length (gives p)) >>= λ x. few_monos raw.shown >>= λ few. terms_after x.terms (gives p) >>= λ n. read_ok (then x n)) e h in
     let given = gives p.0 in
     let o = kind.Superpose p.0.0 raw.new p.0.1 in
-    let w = bind_ok (few_objects after) (λ objects. deeper d o (length given) >>= λ x. few_monos raw.shown >>= λ few. terms_after x.terms given >>= λ n. read_ok (then x n)) e p.2 in
-    let x = bind_ok (deeper d o (length given)) (λ x. few_monos raw.shown >>= λ few. terms_after x.terms given >>= λ n. read_ok (then x n)) e w.2 in
+    let w = bind_ok (few_objects after) (λ objects. inside_if_room d o (length given) >>= λ x. few_monos raw.shown >>= λ few. terms_after x.terms given >>= λ n. read_ok (then x n)) e p.2 in
+    let x = bind_ok (inside_if_room d o (length given)) (λ x. few_monos raw.shown >>= λ few. terms_after x.terms given >>= λ n. read_ok (then x n)) e w.2 in
     let f = bind_ok (few_monos raw.shown) (λ few. terms_after x.0.terms given >>= λ n. read_ok (then x.0 n)) e x.2 in
     let n = bind_ok (terms_after x.0.terms given) (λ n. read_ok (then x.0 n)) e f.2 in
     let some : ltb 0 (length p.0.1) ≡ true = lt-ltb _ _ (omega (arith, shown_length d.in_scope raw p.0 p.1, said)) in
     let deep = spelled_deeper known d x.0 o (length given) g (rw (names_listed raw.new names, some) refl) x.1 in
     subst (λ (y : TheoremParser). Spelled known y) (ok_is (then x.0 n.0) e n.2) (moved known x.0 x.0.section after x.0.lines x.0.facts n.0 deep deep.some)
 
-spelled_split : (known : List TitledStatement) (d e : TheoremParser) (raw : RawLit) → Spelled known d → stepped known d (rawlines.Cases raw) ≡ Ok e → Spelled known e
-unfolding stepped split
+spelled_split : (known : List TitledStatement) (d e : TheoremParser) (raw : RawLit) → Spelled known d → after_line known d (rawlines.Cases raw) ≡ Ok e → Spelled known e
+unfolding after_line after_cases
 spelled_split known d e raw g h =
-    let l = bind_ok (lit_in d.in_scope raw) (λ l. deeper d (kind.First l) 1 >>= λ x. with_terms x (raw ∷ [])) e h in
-    let x = bind_ok (deeper d (kind.First l.0) 1) (λ x. with_terms x (raw ∷ [])) e l.2 in
+    let l = bind_ok (lit_in d.in_scope raw) (λ l. inside_if_room d (kind.First l) 1 >>= λ x. with_terms x (raw ∷ [])) e h in
+    let x = bind_ok (inside_if_room d (kind.First l.0) 1) (λ x. with_terms x (raw ∷ [])) e l.2 in
     spelled_terms known x.0 e (raw ∷ []) (spelled_deeper known d x.0 (kind.First l.0) 1 g refl x.1) x.2
 
-spelled_else : (known : List TitledStatement) (d e : TheoremParser) → Spelled known d → allowed d.section rawlines.Else ≡ true → stepped known d rawlines.Else ≡ Ok e → Spelled known e
-unfolding stepped
+spelled_else : (known : List TitledStatement) (d e : TheoremParser) → Spelled known d → line_may_come d.section rawlines.Else ≡ true → after_line known d rawlines.Else ≡ Ok e → Spelled known e
+unfolding after_line
 spelled_else known d e g a h =
     subst (λ (y : TheoremParser). Spelled known y) (ok_is (record d { section = Proving }) e h) (moved known d Proving d.in_scope d.lines d.facts d.terms g (at_else d.section d.shown a g.some))
 
@@ -423,8 +423,8 @@ record HeadSpelled (known : List TitledStatement) (d : TheoremParser) : Type 0 w
   shut : is_plain_close known d.close ≡ true
 
 spelled_resumed : (known : List TitledStatement) (d e : TheoremParser) (o : OpenBlock) (os : List OpenBlock) (shown : List Lit) (s : PlainStep) → HeadSpelled known d → list_all (is_plain_step known) o.steps ≡ true → list_all (is_plain_outer known) os ≡ true → is_plain_step known s ≡ true
-    → resumed d o os shown s ≡ Ok e → Spelled known e
-unfolding resumed counted_from
+    → after_inner_block d o os shown s ≡ Ok e → Spelled known e
+unfolding after_inner_block counted_from
 spelled_resumed known d e o os shown s g inside around p h =
     let count : ℕ → TheoremParser = λ n. record d { facts = o.facts + length shown; terms = n } in
     let then : TheoremParser → TheoremParser = λ x. record x { steps = o.steps ++ s ∷ []; in_scope = o.in_scope; blocks = os } in
@@ -445,8 +445,8 @@ at_second d o os lit inner =
 
 -- a block is closed inside one that was interrupted; the second block of a split closes that one again
 spelled_inside : (known : List TitledStatement) (d e : TheoremParser) (o : OpenBlock) (os : List OpenBlock) (inner : Script) (by : BlockKind) → HeadSpelled known d → list_all (is_plain_step known) o.steps ≡ true → is_plain_kind known by ≡ true → list_all (is_plain_outer known) os ≡ true
-    → is_said known inner ≡ true → ((close : CloseLine) → is_plain_close known close ≡ true → closed d os o.steps close ≡ Ok e → Spelled known e)
-    → closed_inside d o os inner (λ c. closed d os o.steps c) by ≡ Ok e → Spelled known e
+    → is_said known inner ≡ true → ((close : CloseLine) → is_plain_close known close ≡ true → parser_after_close d os o.steps close ≡ Ok e → Spelled known e)
+    → closed_inside d o os inner (λ c. parser_after_close d os o.steps c) by ≡ Ok e → Spelled known e
 spelled_inside known d e o os inner (kind.Claim shown) g inside p around q again h = spelled_resumed known d e o os shown (Claimed shown inner) g inside around (rw (p, q) refl) h
 spelled_inside known d e o os inner (kind.Superpose superposition names shown) g inside p around q again h =
     let n = and_parts (list_all is_name names) (ltb 0 (length shown)) p in
@@ -457,8 +457,8 @@ spelled_inside known d e o os inner (kind.First lit) g inside p around q again h
 spelled_inside known d e o os inner (kind.Second lit first) g inside p around q again h = again (closes.Cases lit first inner) (rw (p, q) refl) h
 
 spelled_closed : (known : List TitledStatement) (d e : TheoremParser) (os : List OpenBlock) (ss : List PlainStep) (close : CloseLine) → HeadSpelled known d → list_all (is_plain_outer known) os ≡ true → list_all (is_plain_step known) ss ≡ true → is_plain_close known close ≡ true
-    → closed d os ss close ≡ Ok e → Spelled known e
-unfolding closed
+    → parser_after_close d os ss close ≡ Ok e → Spelled known e
+unfolding parser_after_close
 spelled_closed known d e [] ss close g around inside k h =
     subst (λ (y : TheoremParser). Spelled known y) (ok_is (shut_last d ss close) e h)
     (record { few = g.few; title = g.title; naming = g.naming; some = g.some; blocks = record { inside = inside; around = refl; shut = k } })
@@ -467,28 +467,28 @@ spelled_closed known d e (o ∷ os) ss close g around inside k h =
     let q = and_parts (list_all (is_plain_step known) o.steps) (is_plain_kind known o.kind) p.0 in
     spelled_inside known d e o os (all_before ss (script_of_close close)) o.kind g q.0 q.1 p.1 (plain_script known ss close inside k) (λ c kc hc. spelled_closed known d e os o.steps c g p.1 q.0 kc hc) h
 
-spelled_shut : (known : List TitledStatement) (d e : TheoremParser) (close : CloseLine) → Spelled known d → 0 < length d.shown → is_plain_close known close ≡ true → shut d close ≡ Ok e → Spelled known e
-unfolding shut
+spelled_shut : (known : List TitledStatement) (d e : TheoremParser) (close : CloseLine) → Spelled known d → 0 < length d.shown → is_plain_close known close ≡ true → after_close_line d close ≡ Ok e → Spelled known e
+unfolding after_close_line
 spelled_shut known d e close g some k h =
     let x : TheoremParser = record d { lines = d.lines + 1 } in
-    let w = bind_ok (within (d.lines + 1) most_steps limits.Steps) (λ few. closed x d.blocks d.steps close) e h in
+    let w = bind_ok (within (d.lines + 1) most_steps limits.Steps) (λ few. parser_after_close x d.blocks d.steps close) e h in
     spelled_closed known x e d.blocks d.steps close (record { few = g.few; title = g.title; naming = g.naming; some = some; here = g.some; shut = g.blocks.shut }) g.blocks.around g.blocks.inside k w.2
 
-spelled_qed : (known : List TitledStatement) (d e : TheoremParser) (ns : List (List ℕ)) → Spelled known d → allowed d.section (rawlines.Qed ns) ≡ true → stepped known d (rawlines.Qed ns) ≡ Ok e → Spelled known e
-unfolding stepped
+spelled_qed : (known : List TitledStatement) (d e : TheoremParser) (ns : List (List ℕ)) → Spelled known d → line_may_come d.section (rawlines.Qed ns) ≡ true → after_line known d (rawlines.Qed ns) ≡ Ok e → Spelled known e
+unfolding after_line
 spelled_qed known d e ns g a h =
-    let os = bind_ok (qed_in d.in_scope (made_in d.blocks d.made) ns) (λ os. shut d (closes.Qed os)) e h in
+    let os = bind_ok (qed_in d.in_scope (made_in d.blocks d.made) ns) (λ os. after_close_line d (closes.Qed os)) e h in
     spelled_shut known d e (closes.Qed os.0) g (at_qed d.section d.shown ns a g.some) refl os.2
 
-spelled_contradiction : (known : List TitledStatement) (d e : TheoremParser) → Spelled known d → allowed d.section rawlines.Contradiction ≡ true → stepped known d rawlines.Contradiction ≡ Ok e → Spelled known e
-unfolding stepped
+spelled_contradiction : (known : List TitledStatement) (d e : TheoremParser) → Spelled known d → line_may_come d.section rawlines.Contradiction ≡ true → after_line known d rawlines.Contradiction ≡ Ok e → Spelled known e
+unfolding after_line
 spelled_contradiction known d e g a h = spelled_shut known d e closes.Contradiction g (at_contradiction d.section d.shown a g.some) refl h
 
-spelled_end : (known : List TitledStatement) (d e : TheoremParser) → Spelled known d → allowed d.section rawlines.End ≡ true → stepped known d rawlines.End ≡ Ok e → Spelled known e
-unfolding stepped
+spelled_end : (known : List TitledStatement) (d e : TheoremParser) → Spelled known d → line_may_come d.section rawlines.End ≡ true → after_line known d rawlines.End ≡ Ok e → Spelled known e
+unfolding after_line
 spelled_end known d e g a h = subst (λ (y : TheoremParser). Spelled known y) (ok_is (record d { section = Done }) e h) (moved known d Done d.in_scope d.lines d.facts d.terms g (at_close d.section d.shown a g.some))
 
-spelled_stepped : (known : List TitledStatement) (d e : TheoremParser) (f : RawLine) → Spelled known d → Said f → allowed d.section f ≡ true → stepped known d f ≡ Ok e → Spelled known e
+spelled_stepped : (known : List TitledStatement) (d e : TheoremParser) (f : RawLine) → Spelled known d → Said f → line_may_come d.section f ≡ true → after_line known d f ≡ Ok e → Spelled known e
 spelled_stepped known d e (rawlines.Theorem t) g s a h = absurd (no_title known d e t h)
 spelled_stepped known d e (rawlines.Declare sort ns) g s a h = spelled_declare known d e sort ns g s h
 spelled_stepped known d e (rawlines.Given raws) g s a h = spelled_given known d e raws g h
@@ -509,7 +509,7 @@ spelled_stepped known d e rawlines.End g s a h = spelled_end known d e g a h
 
 pub spelled_next : (known : List TitledStatement) (d e : TheoremParser) (f : RawLine) → Spelled known d → Said f → step known d f ≡ Ok e → Spelled known e
 unfolding step
-spelled_next known d e f g s h = let p = passes (allowed d.section f) (stepped known d f) e h in spelled_stepped known d e f g s p.0 p.1
+spelled_next known d e f g s h = let p = passes (line_may_come d.section f) (after_line known d f) e h in spelled_stepped known d e f g s p.0 p.1
 
 -- ---- the first line
 
@@ -519,10 +519,10 @@ no_names = record { point_names = tt; line_names = tt; circle_names = tt }
 pub spelled_begin : (known : List TitledStatement) (f : RawLine) (e : TheoremParser) → Said f → begin known f ≡ Ok e → Spelled known e
 unfolding begin
 spelled_begin known (rawlines.Theorem t) e s h =
-    let n = untaken (is_known known t) (within (length known + 1) most_theorems limits.Theorems >>= λ few. read_ok (begun t)) e h in
-    let w = bind_ok (within (length known + 1) most_theorems limits.Theorems) (λ few. read_ok (begun t)) e n.1 in
+    let n = untaken (is_known known t) (within (length known + 1) most_theorems limits.Theorems >>= λ few. read_ok (with_title t)) e h in
+    let w = bind_ok (within (length known + 1) most_theorems limits.Theorems) (λ few. read_ok (with_title t)) e n.1 in
     let few = within_ok (length known + 1) most_theorems limits.Theorems w.0 w.1 in
-    subst (λ (y : TheoremParser). Spelled known y) (ok_is (begun t) e w.2) (record { few = omega (arith, few); title = s; naming = no_names; some = tt; blocks = record { inside = refl; around = refl; shut = refl } })
+    subst (λ (y : TheoremParser). Spelled known y) (ok_is (with_title t) e w.2) (record { few = omega (arith, few); title = s; naming = no_names; some = tt; blocks = record { inside = refl; around = refl; shut = refl } })
 spelled_begin known f e s h = absurd cc
 
 -- ---- the whole

@@ -12,7 +12,7 @@ use Rattle.e_names.specs.Scope.{lit_in}
 use Rattle.e_book.specs.declared.blocks.BlockKind.{BlockKind}
 use Rattle.e_book.specs.declared.blocks.BlockKind.TheVariants as kind
 use Rattle.e_book.specs.declared.parser.TheoremParser.{TheoremParser}
-use Rattle.e_book.specs.Steps.{terms_after, terms_after_raw, with_terms, interrupted, room_inside, terms_inside, deeper, copies_begun, split}
+use Rattle.e_book.specs.Steps.{terms_after, terms_after_raw, with_terms, inside_block, room_inside, terms_inside, inside_if_room, after_copies, after_cases}
 use Rattle.e_book.proofs.parsers.Answered.{within_ok}
 use Rattle.e_line.proofs.base.Bound.{bind_ok, read_ok, ok_is}
 use Rattle.e_names.proofs.read_lines.WellRead.{lit_count}
@@ -26,11 +26,11 @@ begun_as (Ok u) (Err e) c m d t x = refl
 begun_as (Err e) b c m d t x = refl
 
 pub begun_with_copies : (d : TheoremParser) (what : BlockKind) (after : Names) (given : List Lit) (raws : List RawLit)
-    → copies_begun d what after given raws ≡ (terms_inside d given raws >>= λ n. read_ok (record (interrupted d what (length given)) { in_scope = after; terms = n }))
-unfolding copies_begun deeper room_inside terms_inside
+    → after_copies d what after given raws ≡ (terms_inside d given raws >>= λ n. read_ok (record (inside_block d what (length given)) { in_scope = after; terms = n }))
+unfolding after_copies inside_if_room room_inside terms_inside
 begun_with_copies d what after given raws =
     begun_as (within (d.lines + 1) most_steps limits.Steps) (within (length d.blocks + 2) most_depth limits.Depth) (within (d.facts + length given) most_facts limits.Facts) (few_monos raws)
-    (interrupted d what (length given)) (λ e. terms_after e.terms given) (λ e n. record e { in_scope = after; terms = n })
+    (inside_block d what (length given)) (λ e. terms_after e.terms given) (λ e n. record e { in_scope = after; terms = n })
 
 -- ---- a split
 
@@ -41,18 +41,18 @@ terms_alike : (n m k : ℕ) → m ≡ k → (within (n + m) most_terms limits.Te
 terms_alike n m k e = rw e refl
 
 with_lit : (d : TheoremParser) (r : RawLit) (x : Result Lit FaultKind) → lit_in d.in_scope r ≡ x
-    → (x >>= λ l. deeper d (kind.First l) 1 >>= λ e. with_terms e (r ∷ [])) ≡ (x >>= λ l. terms_inside d (l ∷ []) (r ∷ []) >>= λ n. read_ok (record (interrupted d (kind.First l) 1) { terms = n }))
-unfolding deeper with_terms room_inside terms_inside
+    → (x >>= λ l. inside_if_room d (kind.First l) 1 >>= λ e. with_terms e (r ∷ [])) ≡ (x >>= λ l. terms_inside d (l ∷ []) (r ∷ []) >>= λ n. read_ok (record (inside_block d (kind.First l) 1) { terms = n }))
+unfolding inside_if_room with_terms room_inside terms_inside
 with_lit d r (Ok l) e =
-    let x : TheoremParser = interrupted d (kind.First l) 1 in
+    let x : TheoremParser = inside_block d (kind.First l) 1 in
     let room = within (d.lines + 1) most_steps limits.Steps >>= λ u. within (length d.blocks + 2) most_depth limits.Depth >>= λ v. within (d.facts + 1) most_facts limits.Facts in
     begun_as (within (d.lines + 1) most_steps limits.Steps) (within (length d.blocks + 2) most_depth limits.Depth) (within (d.facts + 1) most_facts limits.Facts) (few_monos (r ∷ []))
     x (λ y. terms_after_raw y.terms (r ∷ [])) (λ y n. record y { terms = n })
     ∙ ap (λ (t : Result ℕ FaultKind). (room >>= λ u. few_monos (r ∷ []) >>= λ s. t) >>= λ n. read_ok (record x { terms = n })) (terms_alike d.terms (count_monos (r ∷ [])) (count_monomials (l ∷ [])) (one_count d.in_scope r l e))
 with_lit d r (Err f) e = refl
 
-pub begun_with_lit : (d : TheoremParser) (r : RawLit) → split d r ≡ (lit_in d.in_scope r >>= λ l. terms_inside d (l ∷ []) (r ∷ []) >>= λ n. read_ok (record (interrupted d (kind.First l) 1) { terms = n }))
-unfolding split
+pub begun_with_lit : (d : TheoremParser) (r : RawLit) → after_cases d r ≡ (lit_in d.in_scope r >>= λ l. terms_inside d (l ∷ []) (r ∷ []) >>= λ n. read_ok (record (inside_block d (kind.First l) 1) { terms = n }))
+unfolding after_cases
 begun_with_lit d r = with_lit d r (lit_in d.in_scope r) refl
 
 -- ---- how many monomials are facts inside

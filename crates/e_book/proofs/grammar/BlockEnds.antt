@@ -25,7 +25,7 @@ use Rattle.e_line.specs.Limits.{most_steps, most_depth, most_facts, most_terms, 
 use Rattle.e_book.specs.Blocks.{made_in}
 use Rattle.e_names.specs.Scope.{scope_of_names, qed_in}
 use Rattle.e_book.specs.LineLimits.{FewNamed}
-use Rattle.e_book.specs.Steps.{begun_with, begun_terms, terms_after, counted_from, resumed, closed_inside, closed, shut, concluded}
+use Rattle.e_book.specs.Steps.{begun_with, begun_terms, terms_after, counted_from, after_inner_block, closed_inside, parser_after_close, after_close_line, after_qed}
 use Rattle.e_book.specs.ParserViews.{entry_of_parser, script_of_close}
 use Rattle.e_book.specs.Open.{Open, Proving, Splitting, Proved, Ended, after_inner_close, after_close}
 use Rattle.e_book.specs.Counts.{names_after_plain_step, given_by, lines_first, count_lines, lines_around, literals_on, blanks_on}
@@ -52,8 +52,8 @@ silent_tests known r n f ns s d k m silent a =
 resumed_alike : (known : List TitledStatement) (d : TheoremParser) (k : ℕ) (o : OpenBlock) (os : List OpenBlock) (shown : List Lit) (s : PlainStep) (f : RawLine) → Silent f → d.section ≡ places.Proving → FewNamed d.names
     → Counted o.in_scope o.facts o.terms (context_in known (head_of d) os o.steps) → FewNamed o.in_scope → BlocksTied known (head_of d) os → length os + 1 ≤ most_depth
     → k ≡ count_lines (o.steps ++ s ∷ []) + lines_around (around_of os) → names_after_plain_step known o.in_scope s ≡ o.in_scope → given_by known (scope_of_names o.in_scope) s ≡ shown
-    → Alike known (within k most_steps limits.Steps >>= λ few. resumed (record d { lines = k }) o os shown s) (then_limits known f (Proving (head_of d) (around_of os) (o.steps ++ s ∷ [])))
-unfolding resumed counted_from
+    → Alike known (within k most_steps limits.Steps >>= λ few. after_inner_block (record d { lines = k }) o os shown s) (then_limits known f (Proving (head_of d) (around_of os) (o.steps ++ s ∷ [])))
+unfolding after_inner_block counted_from
 resumed_alike known d k o os shown s f silent at names counted few blocks deep lines same gives =
     let h = head_of d in
     let n = Proving h (around_of os) (o.steps ++ s ∷ []) in
@@ -148,8 +148,8 @@ inside_alike known d k o os inner again after f (kind.Second lit first) silent a
 
 closed_alike : (known : List TitledStatement) (d : TheoremParser) (k : ℕ) (os : List OpenBlock) (ss : List PlainStep) (close : CloseLine) (f : RawLine) → Silent f → d.section ≡ places.Proving → FewNamed d.names → BlocksTied known (head_of d) os
     → k ≡ size (all_before ss (script_of_close close)) + lines_around (around_of os) → length os + 1 ≤ most_depth
-    → Alike known (within k most_steps limits.Steps >>= λ few. closed (record d { lines = k }) os ss close) (then_limits known f (after_close (head_of d) (around_of os) ss (script_of_close close)))
-unfolding closed after_close
+    → Alike known (within k most_steps limits.Steps >>= λ few. parser_after_close (record d { lines = k }) os ss close) (then_limits known f (after_close (head_of d) (around_of os) ss (script_of_close close)))
+unfolding parser_after_close after_close
 closed_alike known d k [] ss close f silent at names blocks lines deep =
     let script = all_before ss (script_of_close close) in
     let n = Proved (head_of d) script in
@@ -164,13 +164,13 @@ closed_alike known d k [] ss close f silent at names blocks lines deep =
     (pass_rest known (read_ok e) n [] 0 0 refl refl (omega arith) (omega arith)
     (tied_there known e n places.Closed refl names (omega (arith, a, count)) refl)))))))
 closed_alike known d k (o ∷ os) ss close f silent at names blocks lines deep =
-    inside_alike known d k o os (all_before ss (script_of_close close)) (λ c. closed (record d { lines = k }) os o.steps c) (λ c. after_close (head_of d) (around_of os) o.steps c) f o.kind silent at names
+    inside_alike known d k o os (all_before ss (script_of_close close)) (λ c. parser_after_close (record d { lines = k }) os o.steps c) (λ c. after_close (head_of d) (around_of os) o.steps c) f o.kind silent at names
     blocks.0.counted blocks.0.few.in_scope blocks.0.few.facts blocks.0.few.terms blocks.1 (omega (arith, deep)) (omega (arith, lines))
     (λ c count. closed_alike known d k os o.steps c f silent at names blocks.1 count (omega (arith, deep)))
 
 shut_alike : (known : List TitledStatement) (d : TheoremParser) (close : CloseLine) (f : RawLine) → Silent f → BlockOf known d → d.section ≡ places.Proving → FewNamed d.names → size (script_of_close close) ≡ 1
-    → Alike known (shut d close) (then_limits known f (after_close (head_of d) (around_of d.blocks) d.steps (script_of_close close)))
-unfolding shut
+    → Alike known (after_close_line d close) (then_limits known f (after_close (head_of d) (around_of d.blocks) d.steps (script_of_close close)))
+unfolding after_close_line
 shut_alike known d close f silent t at names one =
     closed_alike known d (d.lines + 1) d.blocks d.steps close f silent at names t.blocks (omega (arith, t.lines, one, size_counted d.steps (script_of_close close))) t.shallow
 
@@ -178,16 +178,16 @@ abbrev read_open : Open → Result Open FaultKind
 read_open n = Ok n
 
 pub qed_alike : (known : List TitledStatement) (d : TheoremParser) (names : List (List ℕ)) → BlockOf known d → d.section ≡ places.Proving → FewNamed d.names
-    → Alike known (concluded d names) (goes_on known d.in_scope (head_of d) (around_of d.blocks) d.steps (rawlines.Qed names) >>= then_limits known (rawlines.Qed names))
+    → Alike known (after_qed d names) (goes_on known d.in_scope (head_of d) (around_of d.blocks) d.steps (rawlines.Qed names) >>= then_limits known (rawlines.Qed names))
 qed_alike known d names t at few =
     let f = rawlines.Qed names in
     let then : List Obj → Result Open FaultKind = λ objects. read_open (after_close (head_of d) (around_of d.blocks) d.steps (Qed objects [])) in
-    subst (λ (sorts : List Sort). Alike known (concluded d names) ((qed_in d.in_scope sorts names >>= then) >>= then_limits known f)) (sym (goal_made d.blocks d.made))
-    (both known (qed_in d.in_scope (made_in d.blocks d.made) names) (λ objects. shut d (closes.Qed objects)) then (then_limits known f)
+    subst (λ (sorts : List Sort). Alike known (after_qed d names) ((qed_in d.in_scope sorts names >>= then) >>= then_limits known f)) (sym (goal_made d.blocks d.made))
+    (both known (qed_in d.in_scope (made_in d.blocks d.made) names) (λ objects. after_close_line d (closes.Qed objects)) then (then_limits known f)
     (λ objects e. shut_alike known d (closes.Qed objects) f (record { literals = refl; blanks = refl }) t at few (one_line objects)))
 
 pub contradiction_alike : (known : List TitledStatement) (d : TheoremParser) → BlockOf known d → d.section ≡ places.Proving → FewNamed d.names
-    → Alike known (shut d closes.Contradiction) (goes_on known d.in_scope (head_of d) (around_of d.blocks) d.steps rawlines.Contradiction >>= then_limits known rawlines.Contradiction)
+    → Alike known (after_close_line d closes.Contradiction) (goes_on known d.in_scope (head_of d) (around_of d.blocks) d.steps rawlines.Contradiction >>= then_limits known rawlines.Contradiction)
 unfolding size
 contradiction_alike known d t at few = shut_alike known d closes.Contradiction rawlines.Contradiction (record { literals = refl; blanks = refl }) t at few refl
 

@@ -36,7 +36,7 @@ use Rattle.e_names.specs.Superposes.{superpose_in}
 use Rattle.e_names.specs.Applies.{count_blanks, known_place, entry_in, entries_in, apply_in}
 use Rattle.e_line.specs.LineLimits.{are_short, are_small, count_monos, few_monos}
 use Rattle.e_book.specs.LineLimits.{FewNamed, few_objects}
-use Rattle.e_book.specs.Steps.{begun_with, begun_terms, terms_after_raw, terms_after, with_terms, with_step, built, used_by, applied, outer_of, interrupted, deeper, claimed, superposed, split, cited, inferred}
+use Rattle.e_book.specs.Steps.{begun_with, begun_terms, terms_after_raw, terms_after, with_terms, with_step, after_let, with_use, after_apply, outer_of, inside_block, inside_if_room, after_claim, after_superpose, after_cases, after_by, after_hence}
 use Rattle.e_book.specs.Open.{Open, Proving, ByClaim, BySuperposition, ByCase}
 use Rattle.e_book.specs.Counts.{lines_of_step, lines_first, literals_on, blanks_on}
 use Rattle.e_book.specs.Grammar.{one_more_step, inner_block, goes_on}
@@ -115,7 +115,7 @@ short_diagram neg (rawatoms.SumsAtMost x y) h = absurd cc
 short_diagram neg a h = (refl, refl)
 
 pub by_alike : (known : List TitledStatement) (d : TheoremParser) (rule : List ℕ) (names : List (List ℕ)) (l : RawLit) → BlockOf known d → d.section ≡ places.Proving → FewNamed d.names → is_diagram_raw l.atom ≡ true
-    → Alike known (cited d rule names l) (goes_on known d.in_scope (head_of d) (around_of d.blocks) d.steps (rawlines.By rule names l) >>= then_limits known (rawlines.By rule names l))
+    → Alike known (after_by d rule names l) (goes_on known d.in_scope (head_of d) (around_of d.blocks) d.steps (rawlines.By rule names l) >>= then_limits known (rawlines.By rule names l))
 by_alike known d rule names l t at few plain =
     let f = rawlines.By rule names l in
     both known (by_in d.in_scope rule names l) (λ b. with_step d (Cited b) 1) (λ b. one_more_step (head_of d) (around_of d.blocks) d.steps (Cited b)) (then_limits known f)
@@ -135,7 +135,7 @@ by_alike known d rule names l t at few plain =
 -- ---- literals that are to be allowed
 
 pub hence_alike : (known : List TitledStatement) (d : TheoremParser) (r : RawLit) → BlockOf known d → d.section ≡ places.Proving → FewNamed d.names
-    → Alike known (inferred d r) (goes_on known d.in_scope (head_of d) (around_of d.blocks) d.steps (rawlines.Hence r) >>= then_limits known (rawlines.Hence r))
+    → Alike known (after_hence d r) (goes_on known d.in_scope (head_of d) (around_of d.blocks) d.steps (rawlines.Hence r) >>= then_limits known (rawlines.Hence r))
 hence_alike known d r t at few =
     let f = rawlines.Hence r in
     both known (lit_in d.in_scope r) (λ l. with_step d (Inferred l None) 1 >>= λ e. with_terms e (r ∷ [])) (λ l. one_more_step (head_of d) (around_of d.blocks) d.steps (Inferred l None)) (then_limits known f)
@@ -173,8 +173,8 @@ made_alike known d raw construction t at few e =
     (step_ends known d s after (d.facts + length given) d.terms t at few refl c objects a k t.few_terms))))
 
 pub let_alike : (known : List TitledStatement) (d : TheoremParser) (raw : RawLet) → BlockOf known d → d.section ≡ places.Proving → FewNamed d.names
-    → Alike known (built d raw) (goes_on known d.in_scope (head_of d) (around_of d.blocks) d.steps (rawlines.Let raw) >>= then_limits known (rawlines.Let raw))
-unfolding built
+    → Alike known (after_let d raw) (goes_on known d.in_scope (head_of d) (around_of d.blocks) d.steps (rawlines.Let raw) >>= then_limits known (rawlines.Let raw))
+unfolding after_let
 let_alike known d raw t at few =
     both known (let_in d.in_scope raw)
     (λ construction. few_objects (named d.in_scope (sorts_made construction) raw.new) >>= λ few. with_step (record d { in_scope = named d.in_scope (sorts_made construction) raw.new }) (Made construction raw.new []) (length (gives_of_construction construction (scope_of_names d.in_scope))))
@@ -231,8 +231,8 @@ blanks_applied known ns raw a e =
     subst (λ (os : List (Option Obj)). count_blanks os ≡ blanks_on (rawlines.Apply raw)) is (blanks_read ns t.declared raw.args args.0 count args.1)
 
 use_alike : (known : List TitledStatement) (d : TheoremParser) (raw : RawApply) (theorem : ℕ) (args : List (Option Obj)) → BlockOf known d → d.section ≡ places.Proving → FewNamed d.names → count_blanks args ≡ blanks_on (rawlines.Apply raw)
-    → Alike known (used_by d (theorem_of known theorem) theorem args raw.new) (then_limits known (rawlines.Apply raw) (Proving (head_of d) (around_of d.blocks) (d.steps ++ Applied theorem args raw.new [] ∷ [])))
-unfolding used_by
+    → Alike known (with_use d (theorem_of known theorem) theorem args raw.new) (then_limits known (rawlines.Apply raw) (Proving (head_of d) (around_of d.blocks) (d.steps ++ Applied theorem args raw.new [] ∷ [])))
+unfolding with_use
 use_alike known d raw theorem args t at few blanks =
     let s = Applied theorem args raw.new [] in
     let n = Proving (head_of d) (around_of d.blocks) (d.steps ++ s ∷ []) in
@@ -256,20 +256,20 @@ use_alike known d raw theorem args t at few blanks =
     (λ u. step_ends known d s after k m t at few refl c objects a w z)))))))
 
 pub apply_alike : (known : List TitledStatement) (d : TheoremParser) (raw : RawApply) → BlockOf known d → d.section ≡ places.Proving → FewNamed d.names
-    → Alike known (applied known d raw) (goes_on known d.in_scope (head_of d) (around_of d.blocks) d.steps (rawlines.Apply raw) >>= then_limits known (rawlines.Apply raw))
-unfolding applied
+    → Alike known (after_apply known d raw) (goes_on known d.in_scope (head_of d) (around_of d.blocks) d.steps (rawlines.Apply raw) >>= then_limits known (rawlines.Apply raw))
+unfolding after_apply
 apply_alike known d raw t at few =
-    both known (apply_in known d.in_scope raw) (λ a. used_by d (theorem_of known a.0) a.0 a.1 raw.new) (λ a. one_more_step (head_of d) (around_of d.blocks) d.steps (Applied a.0 a.1 raw.new [])) (then_limits known (rawlines.Apply raw))
+    both known (apply_in known d.in_scope raw) (λ a. with_use d (theorem_of known a.0) a.0 a.1 raw.new) (λ a. one_more_step (head_of d) (around_of d.blocks) d.steps (Applied a.0 a.1 raw.new [])) (then_limits known (rawlines.Apply raw))
     (λ a e. use_alike known d raw a.0 a.1 t at few (blanks_applied known d.in_scope raw a e))
 
 -- ---- inner blocks
 
 inner_then : (known : List TitledStatement) (d : TheoremParser) (op : BlockKind) (g : ℕ) (r : TheoremParser → Result TheoremParser FaultKind) (n : Open) (raws : List RawLit) (m b : ℕ)
-    → (d.lines + 1 ≤ most_steps → length d.blocks + 2 ≤ most_depth → d.facts + g ≤ most_facts → Alike known (r (interrupted d op g)) (kept (literal_tests raws m b) n))
-    → Alike known (deeper d op g >>= r) (kept (step_tests raws (d.lines + 1) (length d.blocks + 2) (d.facts + g) m b) n)
-unfolding deeper
+    → (d.lines + 1 ≤ most_steps → length d.blocks + 2 ≤ most_depth → d.facts + g ≤ most_facts → Alike known (r (inside_block d op g)) (kept (literal_tests raws m b) n))
+    → Alike known (inside_if_room d op g >>= r) (kept (step_tests raws (d.lines + 1) (length d.blocks + 2) (d.facts + g) m b) n)
+unfolding inside_if_room
 inner_then known d op g r n raws m b h =
-    let y : Result TheoremParser FaultKind = read_ok (interrupted d op g) in
+    let y : Result TheoremParser FaultKind = read_ok (inside_block d op g) in
     let facts : Result TheoremParser FaultKind = within (d.facts + g) most_facts limits.Facts >>= λ none. y in
     let deep : Result TheoremParser FaultKind = within (length d.blocks + 2) most_depth limits.Depth >>= λ shallow. facts in
     test_in known deep r n (d.lines + 1) most_steps limits.Steps (depth_tests raws (length d.blocks + 2) (d.facts + g) m b)
@@ -305,27 +305,27 @@ inner_ends known d op ns facts terms t at names none room sums c few short deep 
     tied_there known e (Proving (head_of d) (around_of (outer_of d op ∷ d.blocks)) []) places.Proving at names block refl
 
 pub claim_alike : (known : List TitledStatement) (d : TheoremParser) (raws : List RawLit) → BlockOf known d → d.section ≡ places.Proving → FewNamed d.names
-    → Alike known (claimed d raws) (goes_on known d.in_scope (head_of d) (around_of d.blocks) d.steps (rawlines.Claim raws) >>= then_limits known (rawlines.Claim raws))
-unfolding claimed
+    → Alike known (after_claim d raws) (goes_on known d.in_scope (head_of d) (around_of d.blocks) d.steps (rawlines.Claim raws) >>= then_limits known (rawlines.Claim raws))
+unfolding after_claim
 claim_alike known d raws t at few =
     let f = rawlines.Claim raws in
-    both known (lits_in d.in_scope raws) (λ ls. deeper d (kind.Claim ls) 0 >>= λ e. few_monos raws >>= λ few. read_ok e) (λ ls. inner_block (head_of d) (around_of d.blocks) d.steps (ByClaim ls)) (then_limits known f)
+    both known (lits_in d.in_scope raws) (λ ls. inside_if_room d (kind.Claim ls) 0 >>= λ e. few_monos raws >>= λ few. read_ok e) (λ ls. inner_block (head_of d) (around_of d.blocks) d.steps (ByClaim ls)) (then_limits known f)
     (λ ls e.
     let op = kind.Claim ls in
     let n = Proving (head_of d) (around_of (outer_of d op ∷ d.blocks)) [] in
     let then : TheoremParser → Result TheoremParser FaultKind = λ x. few_monos raws >>= λ few. read_ok x in
-    let next : Result TheoremParser FaultKind = deeper d op 0 >>= then in
+    let next : Result TheoremParser FaultKind = inside_if_room d op 0 >>= then in
     let c : Counted d.in_scope (d.facts + 0) d.terms (context_in known (head_of d) (outer_of d op ∷ d.blocks) []) = record { names = t.counted.names; facts = omega (arith, t.counted.facts); terms = t.counted.terms } in
     inner_limits known d next op f d.in_scope (d.facts + 0) d.terms t refl c
     (pass_objects known next n raws d.in_scope (d.lines + 1) (length d.blocks + 2) (d.facts + 0) d.terms 0 t.few
     (inner_then known d op 0 then n raws d.terms 0
-    (λ a k w. test_monos known (read_ok (interrupted d op 0)) n raws d.terms 0
-    (pass_terms known (read_ok (interrupted d op 0)) n d.terms 0 t.few_terms (omega arith)
+    (λ a k w. test_monos known (read_ok (inside_block d op 0)) n raws d.terms 0
+    (pass_terms known (read_ok (inside_block d op 0)) n d.terms 0 t.few_terms (omega arith)
     (inner_ends known d op d.in_scope (d.facts + 0) d.terms t at few refl (omega (arith, t.few_facts)) (omega (arith, t.few_terms)) c t.few a k w t.few_terms))))))
 
 copies_alike : (known : List TitledStatement) (d : TheoremParser) (raw : RawSuperpose) (superposition : Superpose) (shown : List Lit) → BlockOf known d → d.section ≡ places.Proving → FewNamed d.names
     → Alike known
-    (few_objects (named d.in_scope superposing.sorts_copied raw.new) >>= λ objects. deeper d (kind.Superpose superposition raw.new shown) (length (superposing.gives_of_superposition superposition (scope_of_names d.in_scope))) >>= λ e. few_monos raw.shown >>= λ few.
+    (few_objects (named d.in_scope superposing.sorts_copied raw.new) >>= λ objects. inside_if_room d (kind.Superpose superposition raw.new shown) (length (superposing.gives_of_superposition superposition (scope_of_names d.in_scope))) >>= λ e. few_monos raw.shown >>= λ few.
     terms_after e.terms (superposing.gives_of_superposition superposition (scope_of_names d.in_scope)) >>= λ n. read_ok (record e { in_scope = named d.in_scope superposing.sorts_copied raw.new; terms = n }))
     (then_limits known (rawlines.Superpose raw) (Proving (head_of d) (around_of (outer_of d (kind.Superpose superposition raw.new shown) ∷ d.blocks)) []))
 copies_alike known d raw superposition shown t at few =
@@ -336,10 +336,10 @@ copies_alike known d raw superposition shown t at few =
     let at_block = context_in known (head_of d) d.blocks d.steps in
     let k = d.facts + length given in
     let m = d.terms + count_monomials given in
-    let y : TheoremParser = interrupted d op (length given) in
+    let y : TheoremParser = inside_block d op (length given) in
     let last : TheoremParser → ℕ → Result TheoremParser FaultKind = λ x n. read_ok (record x { in_scope = after; terms = n }) in
     let then : TheoremParser → Result TheoremParser FaultKind = λ x. few_monos raw.shown >>= λ few. terms_after x.terms given >>= λ n. last x n in
-    let next : Result TheoremParser FaultKind = deeper d op (length given) >>= then in
+    let next : Result TheoremParser FaultKind = inside_if_room d op (length given) >>= then in
     let renamed : Counted after k m (record { names = named d.in_scope superposing.sorts_copied raw.new; facts = at_block.facts ++ given }) =
     counted_with at_block d.in_scope after after given d.facts k d.terms m t.counted refl refl refl in
     let c : Counted after k m (context_in known (head_of d) (outer_of d op ∷ d.blocks) []) =
@@ -353,21 +353,21 @@ copies_alike known d raw superposition shown t at few =
     (inner_ends known d op after k m t at few refl (omega (arith, t.few_facts)) (omega (arith, t.few_terms)) c objects a deep w z))))))
 
 pub superpose_alike : (known : List TitledStatement) (d : TheoremParser) (raw : RawSuperpose) → BlockOf known d → d.section ≡ places.Proving → FewNamed d.names
-    → Alike known (superposed d raw) (goes_on known d.in_scope (head_of d) (around_of d.blocks) d.steps (rawlines.Superpose raw) >>= then_limits known (rawlines.Superpose raw))
-unfolding superposed
+    → Alike known (after_superpose d raw) (goes_on known d.in_scope (head_of d) (around_of d.blocks) d.steps (rawlines.Superpose raw) >>= then_limits known (rawlines.Superpose raw))
+unfolding after_superpose
 superpose_alike known d raw t at few =
     both known (superpose_in d.in_scope raw)
-    (λ p. few_objects (named d.in_scope superposing.sorts_copied raw.new) >>= λ objects. deeper d (kind.Superpose p.0 raw.new p.1) (length (superposing.gives_of_superposition p.0 (scope_of_names d.in_scope))) >>= λ e. few_monos raw.shown >>= λ few.
+    (λ p. few_objects (named d.in_scope superposing.sorts_copied raw.new) >>= λ objects. inside_if_room d (kind.Superpose p.0 raw.new p.1) (length (superposing.gives_of_superposition p.0 (scope_of_names d.in_scope))) >>= λ e. few_monos raw.shown >>= λ few.
     terms_after e.terms (superposing.gives_of_superposition p.0 (scope_of_names d.in_scope)) >>= λ n. read_ok (record e { in_scope = named d.in_scope superposing.sorts_copied raw.new; terms = n }))
     (λ p. inner_block (head_of d) (around_of d.blocks) d.steps (BySuperposition p.0 raw.new p.1)) (then_limits known (rawlines.Superpose raw))
     (λ p e. copies_alike known d raw p.0 p.1 t at few)
 
 pub cases_alike : (known : List TitledStatement) (d : TheoremParser) (r : RawLit) → BlockOf known d → d.section ≡ places.Proving → FewNamed d.names
-    → Alike known (split d r) (goes_on known d.in_scope (head_of d) (around_of d.blocks) d.steps (rawlines.Cases r) >>= then_limits known (rawlines.Cases r))
-unfolding split
+    → Alike known (after_cases d r) (goes_on known d.in_scope (head_of d) (around_of d.blocks) d.steps (rawlines.Cases r) >>= then_limits known (rawlines.Cases r))
+unfolding after_cases
 cases_alike known d r t at few =
     let f = rawlines.Cases r in
-    both known (lit_in d.in_scope r) (λ l. deeper d (kind.First l) 1 >>= λ e. with_terms e (r ∷ [])) (λ l. inner_block (head_of d) (around_of d.blocks) d.steps (ByCase l)) (then_limits known f)
+    both known (lit_in d.in_scope r) (λ l. inside_if_room d (kind.First l) 1 >>= λ e. with_terms e (r ∷ [])) (λ l. inner_block (head_of d) (around_of d.blocks) d.steps (ByCase l)) (then_limits known f)
     (λ l e.
     let op = kind.First l in
     let n = Proving (head_of d) (around_of (outer_of d op ∷ d.blocks)) [] in
@@ -378,9 +378,9 @@ cases_alike known d r t at few =
     let c : Counted d.in_scope (d.facts + 1) m (context_in known (head_of d) (outer_of d op ∷ d.blocks) []) =
     counted_with at_block d.in_scope d.in_scope at_block.names (l ∷ []) d.facts (d.facts + 1) d.terms m t.counted t.counted.names refl sum in
     let then : TheoremParser → Result TheoremParser FaultKind = λ x. with_terms x (r ∷ []) in
-    let next : Result TheoremParser FaultKind = deeper d op 1 >>= then in
+    let next : Result TheoremParser FaultKind = inside_if_room d op 1 >>= then in
     inner_limits known d next op f d.in_scope (d.facts + 1) m t refl c
     (pass_objects known next n (r ∷ []) d.in_scope (d.lines + 1) (length d.blocks + 2) (d.facts + 1) m 0 t.few
     (inner_then known d op 1 then n (r ∷ []) m 0
-    (λ a k w. terms_alike known (interrupted d op 1) (r ∷ []) n
+    (λ a k w. terms_alike known (inside_block d op 1) (r ∷ []) n
     (λ z. inner_ends known d op d.in_scope (d.facts + 1) m t at few refl w (omega (arith, z, count)) c t.few a k w z)))))

@@ -31,7 +31,7 @@ use Rattle.e_book.specs.LineLimits.{FewNamed}
 use Rattle.e_names.specs.Scope.{right_count, fresh, lits_in}
 use Rattle.e_names.specs.Superposes.{placed_in, superpose_in}
 use Rattle.e_names.specs.Canonical.{raw_of}
-use Rattle.e_book.specs.Steps.{allowed, declares, shows, begun, begin, stepped, step}
+use Rattle.e_book.specs.Steps.{line_may_come, after_declare, after_show, with_title, begin, after_line, step}
 use Rattle.e_line.specs.Items.{book_line_of, listing_raw_line, is_show}
 use Rattle.e_names.specs.Meanings.{items_in}
 use Rattle.e_book.specs.Open.{Head, Open, Stating, Proving, BySuperposition}
@@ -202,12 +202,12 @@ ends_alike known c d p at t few body s = absurd s
 -- ---- a line without items
 
 pub stating_declares : (known : List TitledStatement) (d : TheoremParser) (sort : Sort) (new : List (List ℕ)) → defines_on d (rawlines.Declare sort new) ≡ step known d (rawlines.Declare sort new)
-unfolding defines_on step stepped
-stating_declares known d sort new = by_place (allowed d.section (rawlines.Declare sort new)) (declares d sort new)
+unfolding defines_on step after_line
+stating_declares known d sort new = by_place (line_may_come d.section (rawlines.Declare sort new)) (after_declare d sort new)
 
 pub stating_shows : (known : List TitledStatement) (d : TheoremParser) (raws : List RawLit) → defines_on d (rawlines.Show raws) ≡ step known d (rawlines.Show raws)
-unfolding defines_on step stepped
-stating_shows known d raws = by_place (allowed d.section (rawlines.Show raws)) (shows d raws)
+unfolding defines_on step after_line
+stating_shows known d raws = by_place (line_may_come d.section (rawlines.Show raws)) (after_show d raws)
 
 -- more is said in a definition
 more_said : (known : Known) (c : Held) (f : RawLine) → IsStating c.parser.section → c.defines ≡ true → says_more f ≡ true → FewNamed c.parser.names → DefinitionTied c.parser.section c.parser → HasItems f → defines_on c.parser f ≡ step known.theorems c.parser f
@@ -307,7 +307,7 @@ abbrev given_none : TheoremParser → Open
 given_none d = Stating (record (head_of d) { statement = record (statement_of_parser d) { given = d.given ++ [] } })
 
 ready_at : (known : List TitledStatement) (p : Section) (d : TheoremParser) (line : Listing) → Body known p d
-    → SameFault (right_count (allowed p (listing_raw_line line [])) >>= λ right. head_names d.in_scope line) (next known (open_there d p) (listing_raw_line line []))
+    → SameFault (right_count (line_may_come p (listing_raw_line line [])) >>= λ right. head_names d.in_scope line) (next known (open_there d p) (listing_raw_line line []))
 ready_at known places.Declaring d listings.Given b = placed true (none_made (statement_of_parser d)) (given_none d) (may_give places.Declaring d [] tt b.0)
 ready_at known places.Giving d listings.Given b = placed true (none_made (statement_of_parser d)) (given_none d) (may_give places.Giving d [] tt b.0)
 ready_at known places.Making d listings.Given b = placed false (none_made (statement_of_parser d)) (given_none d) (may_give places.Making d [] tt b.0)
@@ -348,7 +348,7 @@ IsOver places.Closed = Unit {0}
 IsOver places.Done = Unit {0}
 IsOver p = ⊥
 
-over : (p : Section) (line : Listing) → IsOver p → allowed p (listing_raw_line line []) ≡ true → ⊥
+over : (p : Section) (line : Listing) → IsOver p → line_may_come p (listing_raw_line line []) ≡ true → ⊥
 over places.Splitting listings.Given o may = absurd cc
 over places.Splitting listings.Show o may = absurd cc
 over places.Splitting listings.Claim o may = absurd cc
@@ -364,7 +364,7 @@ over places.Done (listings.Superpose args new) o may = absurd cc
 over p line o may = o
 
 -- where such a line may come, the names are those before the line
-names_at : (known : List TitledStatement) (p : Section) (d : TheoremParser) (line : Listing) → Body known p d → allowed p (listing_raw_line line []) ≡ true → names_at_place p d.names d.in_scope ≡ (context_at known (open_there d p)).names
+names_at : (known : List TitledStatement) (p : Section) (d : TheoremParser) (line : Listing) → Body known p d → line_may_come p (listing_raw_line line []) ≡ true → names_at_place p d.names d.in_scope ≡ (context_at known (open_there d p)).names
 names_at known places.Declaring d line b may = refl
 names_at known places.Giving d line b may = refl
 names_at known places.Making d line b may = refl
@@ -385,8 +385,8 @@ after_place false r (Err k) x y s e = ap (λ (z : FaultKind). fault z) s
 
 written_at : (known : Known) (p : Section) (d : TheoremParser) (line : Listing) (is : List RawItem) → d.section ≡ p → Body known.theorems p d → line_written_out known.notions d line is ≡ written_out known (open_there d p) line is
 written_at known p d line is at b =
-    subst (λ (q : Section). ((right_count (allowed q (listing_raw_line line [])) >>= λ right. head_names d.in_scope line) >>= λ ready. put_out known line is (names_at_place q d.names d.in_scope)) ≡ written_out known (open_there d p) line is) (sym at)
-    (after_place (allowed p (listing_raw_line line [])) (head_names d.in_scope line) (next known.theorems (open_there d p) (listing_raw_line line [])) (put_out known line is (names_at_place p d.names d.in_scope))
+    subst (λ (q : Section). ((right_count (line_may_come q (listing_raw_line line [])) >>= λ right. head_names d.in_scope line) >>= λ ready. put_out known line is (names_at_place q d.names d.in_scope)) ≡ written_out known (open_there d p) line is) (sym at)
+    (after_place (line_may_come p (listing_raw_line line [])) (head_names d.in_scope line) (next known.theorems (open_there d p) (listing_raw_line line [])) (put_out known line is (names_at_place p d.names d.in_scope))
     (put_out known line is (context_at known.theorems (open_there d p)).names) (ready_at known.theorems p d line b) (λ may. ap (put_out known line is) (names_at known.theorems p d line b may)))
 
 written_alike : (known : Known) (d : TheoremParser) (line : Listing) (is : List RawItem) → Tied known.theorems d → line_written_out known.notions d line is ≡ written_out known (open_of d) line is
@@ -470,7 +470,7 @@ pub shown_there : (d e : TheoremParser) (raws : List RawLit) → defines_on d (r
 unfolding defines_on
 shown_there d e raws h =
     let then : List Lit → TheoremParser = λ ls. record d { shown = ls; section = places.Showing } in
-    let r = bind_ok (right_count (allowed d.section (rawlines.Show raws))) (λ right. shows d raws) e h in
+    let r = bind_ok (right_count (line_may_come d.section (rawlines.Show raws))) (λ right. after_show d raws) e h in
     let ls = bind_ok (with_front d.shown (lits_in d.names raws)) (λ ls. few_monos raws >>= λ few. read_ok (then ls)) e r.2 in
     let f = bind_ok (few_monos raws) (λ few. read_ok (then ls.0)) e ls.2 in
     ap (λ (x : TheoremParser). x.section) (sym (ok_is (then ls.0) e f.2))
@@ -579,14 +579,14 @@ first_theorem known f =
     begun_by (Ok d) (Err k) a = absurd a
     begun_by (Err j) (Ok o) a = absurd a
 
-nothing_tied : (t : List ℕ) → FewNamed (begun t).names × DefinitionTied places.Declaring (begun t)
+nothing_tied : (t : List ℕ) → FewNamed (with_title t).names × DefinitionTied places.Declaring (with_title t)
 nothing_tied t =
     (record { points = omega arith; lines = omega arith; circles = omega arith }, (tt, (refl, refl, refl), record { steps = refl; blocks = refl; lines = refl; facts = refl; terms = refl; few_facts = omega arith; few_terms = omega arith }))
 
 first_definition : (known : Known) (t : List ℕ) → AlikeComing known (begins_definition known t) (after_first_line known (Define t))
 unfolding begins_definition
 first_definition known t =
-    let f : Held = coming true (begun t) in
+    let f : Held = coming true (with_title t) in
     let n = InDefinition (empty_head t) 0 in
     taken_or known (is_taken known t) (within (length known.notions + 1) most_notions limits.Notions >>= λ few. Ok f) (all_kept ((leb (length known.notions + 1) most_notions, limits.Notions) ∷ []) >>= λ kept. Ok n)
     (by_test (λ (over under : Bool). AlikeComing known (cond over (Err (Limit limits.Notions)) (read_ok tt) >>= λ few. Ok f) (all_kept ((under, limits.Notions) ∷ []) >>= λ kept. Ok n)) (length known.notions + 1) most_notions refl

@@ -10,10 +10,10 @@ use Rattle.e_line.specs.declared.superposes.RawSuperpose.{RawSuperpose}
 use Rattle.e_names.specs.Scope.{scope_of_names}
 use Rattle.e_names.specs.Superposes.{superpose_in}
 use Rattle.e_book.specs.LineLimits.{few_objects}
-use Rattle.e_book.specs.Steps.{copies_begun, superposed}
+use Rattle.e_book.specs.Steps.{after_copies, after_superpose}
 
 pub superposed_is : (d : TheoremParser) (raw : RawSuperpose) (superposition : Superpose) (shown : List Lit) (u : Unit {0}) → superpose_in d.in_scope raw ≡ Ok (superposition, shown)
     → few_objects (named d.in_scope superposing.sorts_copied raw.new) ≡ Ok u
-    → superposed d raw ≡ copies_begun d (kind.Superpose superposition raw.new shown) (named d.in_scope superposing.sorts_copied raw.new) (superposing.gives_of_superposition superposition (scope_of_names d.in_scope)) raw.shown
-unfolding superposed copies_begun
+    → after_superpose d raw ≡ after_copies d (kind.Superpose superposition raw.new shown) (named d.in_scope superposing.sorts_copied raw.new) (superposing.gives_of_superposition superposition (scope_of_names d.in_scope)) raw.shown
+unfolding after_superpose after_copies
 superposed_is d raw superposition shown u placed few = rw (placed, few) refl

@@ -21,7 +21,7 @@ use Rattle.e_line.specs.Limits.{most_theorems, within}
 use Rattle.e_book.specs.ParserViews.{entry_of_parser}
 use Rattle.e_book.specs.TheoremViews.{TheoremView}
 use Rattle.e_book.specs.LineLimits.{FewNamed}
-use Rattle.e_book.specs.Steps.{allowed, built, applied, claimed, superposed, split, cited, inferred, concluded, shut, stepped, step, begin, begun}
+use Rattle.e_book.specs.Steps.{line_may_come, after_let, after_apply, after_claim, after_superpose, after_cases, after_by, after_hence, after_qed, after_close_line, after_line, step, begin, with_title}
 use Rattle.e_book.specs.Open.{Open, Stating, Proving}
 use Rattle.e_book.specs.Grammar.{Rest, empty_head, begins, goes_on, next, line_after, line_read, theorem_ended, or_more, is_skipped, put_at}
 use Rattle.e_book.specs.Grammar as grammar
@@ -89,10 +89,10 @@ items_read = form_by_word HasItems has_items
 -- ---- a line at each place
 
 abbrev Line : List TitledStatement → Section → TheoremParser → RawLine → Type 0
-Line known p d f = Alike known (cond (allowed p f) (stepped known d f) (Err Malformed)) (next known (open_there d p) f >>= then_limits known f)
+Line known p d f = Alike known (cond (line_may_come p f) (after_line known d f) (Err Malformed)) (next known (open_there d p) f >>= then_limits known f)
 
 at_declaring : (known : List TitledStatement) (d : TheoremParser) (f : RawLine) → d.section ≡ places.Declaring → Stands places.Declaring d → UnprovedOf d → FewNamed d.names → HasItems f → Line known places.Declaring d f
-unfolding stepped
+unfolding after_line
 at_declaring known d (rawlines.Declare sort new) at s u few some = declare_alike known places.Declaring d sort new tt at s u few
 at_declaring known d (rawlines.Given raws) at s u few some = give_alike known places.Declaring d raws tt s u few some
 at_declaring known d (rawlines.Made sort new) at s u few some = make_alike known places.Declaring d sort new tt s u few some
@@ -101,7 +101,7 @@ at_declaring known d rawlines.Proof at s u few some = proof_alike known places.D
 at_declaring known d f at s u few some = refl
 
 at_giving : (known : List TitledStatement) (d : TheoremParser) (f : RawLine) → d.section ≡ places.Giving → Stands places.Giving d → UnprovedOf d → FewNamed d.names → HasItems f → Line known places.Giving d f
-unfolding stepped
+unfolding after_line
 at_giving known d (rawlines.Declare sort new) at s u few some = declare_alike known places.Giving d sort new tt at s u few
 at_giving known d (rawlines.Given raws) at s u few some = give_alike known places.Giving d raws tt s u few some
 at_giving known d (rawlines.Made sort new) at s u few some = make_alike known places.Giving d sort new tt s u few some
@@ -110,7 +110,7 @@ at_giving known d rawlines.Proof at s u few some = proof_alike known places.Givi
 at_giving known d f at s u few some = refl
 
 at_making : (known : List TitledStatement) (d : TheoremParser) (f : RawLine) → d.section ≡ places.Making → Stands places.Making d → UnprovedOf d → FewNamed d.names → HasItems f → Line known places.Making d f
-unfolding stepped
+unfolding after_line
 at_making known d (rawlines.Declare sort new) at s u few some = declare_alike known places.Making d sort new tt at s u few
 at_making known d (rawlines.Given raws) at s u few some = give_alike known places.Making d raws tt s u few some
 at_making known d (rawlines.Made sort new) at s u few some = make_alike known places.Making d sort new tt s u few some
@@ -119,7 +119,7 @@ at_making known d rawlines.Proof at s u few some = proof_alike known places.Maki
 at_making known d f at s u few some = refl
 
 at_showing : (known : List TitledStatement) (d : TheoremParser) (f : RawLine) → d.section ≡ places.Showing → Stands places.Showing d → UnprovedOf d → FewNamed d.names → HasItems f → Line known places.Showing d f
-unfolding stepped
+unfolding after_line
 at_showing known d (rawlines.Declare sort new) at s u few some = declare_alike known places.Showing d sort new tt at s u few
 at_showing known d (rawlines.Given raws) at s u few some = give_alike known places.Showing d raws tt s u few some
 at_showing known d (rawlines.Made sort new) at s u few some = make_alike known places.Showing d sort new tt s u few some
@@ -134,25 +134,25 @@ in_block known d f r t a =
     subst (λ (ns : Names). Alike known r (goes_on known ns (head_of d) (around_of d.blocks) d.steps f >>= then_limits known f)) t.counted.names a
 
 at_proving : (known : List TitledStatement) (d : TheoremParser) (f : RawLine) → d.section ≡ places.Proving → BlockOf known d → FewNamed d.names → HasItems f → Line known places.Proving d f
-unfolding stepped
-at_proving known d (rawlines.By rule names l) at t few plain = in_block known d (rawlines.By rule names l) (cited d rule names l) t (by_alike known d rule names l t at few plain)
-at_proving known d (rawlines.Hence l) at t few some = in_block known d (rawlines.Hence l) (inferred d l) t (hence_alike known d l t at few)
-at_proving known d (rawlines.Let l) at t few some = in_block known d (rawlines.Let l) (built d l) t (let_alike known d l t at few)
-at_proving known d (rawlines.Apply a) at t few some = in_block known d (rawlines.Apply a) (applied known d a) t (apply_alike known d a t at few)
-at_proving known d (rawlines.Claim ls) at t few some = in_block known d (rawlines.Claim ls) (claimed d ls) t (claim_alike known d ls t at few)
-at_proving known d (rawlines.Superpose s) at t few some = in_block known d (rawlines.Superpose s) (superposed d s) t (superpose_alike known d s t at few)
-at_proving known d (rawlines.Cases l) at t few some = in_block known d (rawlines.Cases l) (split d l) t (cases_alike known d l t at few)
-at_proving known d (rawlines.Qed names) at t few some = in_block known d (rawlines.Qed names) (concluded d names) t (qed_alike known d names t at few)
-at_proving known d rawlines.Contradiction at t few some = in_block known d rawlines.Contradiction (shut d closes.Contradiction) t (contradiction_alike known d t at few)
+unfolding after_line
+at_proving known d (rawlines.By rule names l) at t few plain = in_block known d (rawlines.By rule names l) (after_by d rule names l) t (by_alike known d rule names l t at few plain)
+at_proving known d (rawlines.Hence l) at t few some = in_block known d (rawlines.Hence l) (after_hence d l) t (hence_alike known d l t at few)
+at_proving known d (rawlines.Let l) at t few some = in_block known d (rawlines.Let l) (after_let d l) t (let_alike known d l t at few)
+at_proving known d (rawlines.Apply a) at t few some = in_block known d (rawlines.Apply a) (after_apply known d a) t (apply_alike known d a t at few)
+at_proving known d (rawlines.Claim ls) at t few some = in_block known d (rawlines.Claim ls) (after_claim d ls) t (claim_alike known d ls t at few)
+at_proving known d (rawlines.Superpose s) at t few some = in_block known d (rawlines.Superpose s) (after_superpose d s) t (superpose_alike known d s t at few)
+at_proving known d (rawlines.Cases l) at t few some = in_block known d (rawlines.Cases l) (after_cases d l) t (cases_alike known d l t at few)
+at_proving known d (rawlines.Qed names) at t few some = in_block known d (rawlines.Qed names) (after_qed d names) t (qed_alike known d names t at few)
+at_proving known d rawlines.Contradiction at t few some = in_block known d rawlines.Contradiction (after_close_line d closes.Contradiction) t (contradiction_alike known d t at few)
 at_proving known d f at t few some = refl
 
 at_splitting : (known : List TitledStatement) (d : TheoremParser) (f : RawLine) → Body known places.Splitting d → FewNamed d.names → Line known places.Splitting d f
-unfolding stepped
+unfolding after_line
 at_splitting known d rawlines.Else b few = else_alike known d b.0 b.1 few
 at_splitting known d f b few = refl
 
 at_closed : (known : List TitledStatement) (d : TheoremParser) (f : RawLine) → Body known places.Closed d → FewNamed d.names → Line known places.Closed d f
-unfolding stepped
+unfolding after_line
 at_closed known d rawlines.End b few = end_alike known d few b
 at_closed known d f b few = refl
 
@@ -180,11 +180,11 @@ free_title : (known : List TitledStatement) (b : Bool) (x : Result TheoremParser
 free_title known true x y h = refl
 free_title known false x y h = h
 
-begun_tied : (known : List TitledStatement) (t : List ℕ) → Alike known (read_ok (begun t)) (read_ok (Stating (empty_head t)))
+begun_tied : (known : List TitledStatement) (t : List ℕ) → Alike known (read_ok (with_title t)) (read_ok (Stating (empty_head t)))
 begun_tied known t =
-    let few : FewNamed (begun t).names = record { points = omega arith; lines = omega arith; circles = omega arith } in
-    let none : UnprovedOf (begun t) = record { steps = refl; blocks = refl; lines = refl; facts = refl; terms = refl; few_facts = omega arith; few_terms = omega arith } in
-    tied_there known (begun t) (Stating (empty_head t)) places.Declaring refl few ((refl, refl, refl), none) refl
+    let few : FewNamed (with_title t).names = record { points = omega arith; lines = omega arith; circles = omega arith } in
+    let none : UnprovedOf (with_title t) = record { steps = refl; blocks = refl; lines = refl; facts = refl; terms = refl; few_facts = omega arith; few_terms = omega arith } in
+    tied_there known (with_title t) (Stating (empty_head t)) places.Declaring refl few ((refl, refl, refl), none) refl
 
 abbrev begins_titled : List TitledStatement → List ℕ → Result Open FaultKind
 begins_titled known t = kept ((leb (length known + 1) most_theorems, limits.Theorems) ∷ []) (Stating (empty_head t))
@@ -193,8 +193,8 @@ pub begin_alike : (known : List TitledStatement) (f : RawLine) → Alike known (
 unfolding begin
 begin_alike known (rawlines.Theorem t) =
     let n = Stating (empty_head t) in
-    free_title known (is_known known t) (within (length known + 1) most_theorems limits.Theorems >>= λ few. read_ok (begun t)) (begins_titled known t)
-    (test known (read_ok (begun t)) n (length known + 1) most_theorems limits.Theorems [] (λ w. begun_tied known t))
+    free_title known (is_known known t) (within (length known + 1) most_theorems limits.Theorems >>= λ few. read_ok (with_title t)) (begins_titled known t)
+    (test known (read_ok (with_title t)) n (length known + 1) most_theorems limits.Theorems [] (λ w. begun_tied known t))
 begin_alike known f = refl
 
 -- ---- a line by its words

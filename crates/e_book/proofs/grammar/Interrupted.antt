@@ -18,7 +18,7 @@ use Rattle.e_line.specs.Reading.{◌>>=◌, Fails, Moves}
 use Rattle.e_book.specs.ParserViews.{script_of_close}
 use Rattle.e_line.specs.Limits.{most_facts, most_depth, within}
 use Rattle.e_book.specs.declared.inner.Saved.{Saved}
-use Rattle.e_book.specs.Steps.{terms_after, counted_from, outer_with, with_facts, resumed, closed_inside, closed, ClosesInside, FitsOuter, FitsScope}
+use Rattle.e_book.specs.Steps.{terms_after, counted_from, outer_with, with_facts, after_inner_block, closed_inside, parser_after_close, ClosesInside, FitsOuter, FitsScope}
 
 -- a test finds something in a list whichever way it goes
 pub any_reversed : {X : Type 0} (p : X → Bool) (xs : List X) → list_any p (reverse xs) ≡ list_any p xs
@@ -36,13 +36,13 @@ resumed_by_alike d xs ss o os n s (Ok u) (Err e) = refl
 resumed_by_alike d xs ss o os n s (Err e) terms = refl
 
 resumed_alike : (d : TheoremParser) (xs : List OpenBlock) (ss : List PlainStep) (o : OpenBlock) (os : List OpenBlock) (shown : List Lit) (s : PlainStep)
-    → resumed (record d { blocks = xs; steps = ss }) o os shown s ≡ resumed d o os shown s
-unfolding resumed counted_from
+    → after_inner_block (record d { blocks = xs; steps = ss }) o os shown s ≡ after_inner_block d o os shown s
+unfolding after_inner_block counted_from
 resumed_alike d xs ss o os shown s =
     resumed_by_alike d xs ss o os (o.facts + length shown) s (within (o.facts + length shown) most_facts limits.Facts) (terms_after o.terms shown)
 
 -- nor at its steps, which were taken out
-pub emptied : (d : TheoremParser) (o : OpenBlock) (os : List OpenBlock) (shown : List Lit) (s : PlainStep) → resumed d o os shown s ≡ resumed (record d { steps = [] }) o os shown s
+pub emptied : (d : TheoremParser) (o : OpenBlock) (os : List OpenBlock) (shown : List Lit) (s : PlainStep) → after_inner_block d o os shown s ≡ after_inner_block (record d { steps = [] }) o os shown s
 emptied d o os shown s = sym (resumed_alike d d.blocks [] o os shown s)
 
 inside_alike : (d : TheoremParser) (xs : List OpenBlock) (ss : List PlainStep) (o : OpenBlock) (os : List OpenBlock) (inner : Script) (again : CloseLine → Result TheoremParser FaultKind) (what : BlockKind)
@@ -60,38 +60,38 @@ again_alike d xs ss o os inner f g (kind.First lit) same = refl
 again_alike d xs ss o os inner f g (kind.Second lit first) same = same (closes.Cases lit first inner)
 
 closed_alike : (d : TheoremParser) (xs : List OpenBlock) (ss : List PlainStep) (os : List OpenBlock) (steps : List PlainStep) (close : CloseLine)
-    → closed (record d { blocks = xs; steps = ss }) os steps close ≡ closed d os steps close
-unfolding closed
+    → parser_after_close (record d { blocks = xs; steps = ss }) os steps close ≡ parser_after_close d os steps close
+unfolding parser_after_close
 closed_alike d xs ss [] steps close = refl
 closed_alike d xs ss (o ∷ os) steps close =
-    again_alike d xs ss o os (all_before steps (script_of_close close)) (λ c. closed (record d { blocks = xs; steps = ss }) os o.steps c) (λ c. closed d os o.steps c) o.kind
+    again_alike d xs ss o os (all_before steps (script_of_close close)) (λ c. parser_after_close (record d { blocks = xs; steps = ss }) os o.steps c) (λ c. parser_after_close d os o.steps c) o.kind
     (λ c. closed_alike d xs ss os o.steps c)
 
 -- ---- the innermost of the blocks around is taken out
 
 top_alike : (d : TheoremParser) (o : OpenBlock) (os : List OpenBlock) (close : CloseLine) → d.blocks ≡ o ∷ os
-    → closed_inside (record d { blocks = os }) o os (all_before d.steps (script_of_close close)) (λ c. closed d os o.steps c) o.kind ≡ closed d d.blocks d.steps close
-unfolding closed
+    → closed_inside (record d { blocks = os }) o os (all_before d.steps (script_of_close close)) (λ c. parser_after_close d os o.steps c) o.kind ≡ parser_after_close d d.blocks d.steps close
+unfolding parser_after_close
 top_alike d o os close is =
-    inside_alike d os d.steps o os (all_before d.steps (script_of_close close)) (λ c. closed d os o.steps c) o.kind
-    ∙ ap (λ (xs : List OpenBlock). closed d xs d.steps close) (sym is)
+    inside_alike d os d.steps o os (all_before d.steps (script_of_close close)) (λ c. parser_after_close d os o.steps c) o.kind
+    ∙ ap (λ (xs : List OpenBlock). parser_after_close d xs d.steps close) (sym is)
 
 -- closing stops there, or goes on, or fails
 pub top_stops : (d q : TheoremParser) (o : OpenBlock) (os : List OpenBlock) (close : CloseLine) → d.blocks ≡ o ∷ os → ClosesInside (record d { blocks = os }) o close (Ok None) q
-    → closed d d.blocks d.steps close ≡ Ok q
-top_stops d q o os close is inside = sym (top_alike d o os close is) ∙ inside (λ c. closed d os o.steps c)
+    → parser_after_close d d.blocks d.steps close ≡ Ok q
+top_stops d q o os close is inside = sym (top_alike d o os close is) ∙ inside (λ c. parser_after_close d os o.steps c)
 
 pub top_goes_on : (d q new : TheoremParser) (o : OpenBlock) (os : List OpenBlock) (close next : CloseLine) (result : Result (Unit {0}) LineError) → d.blocks ≡ o ∷ os
-    → ClosesInside (record d { blocks = os }) o close (Ok (Some next)) q → Moves result new (closed q q.blocks q.steps next) → Moves result new (closed d d.blocks d.steps close)
+    → ClosesInside (record d { blocks = os }) o close (Ok (Some next)) q → Moves result new (parser_after_close q q.blocks q.steps next) → Moves result new (parser_after_close d d.blocks d.steps close)
 top_goes_on d q new o os close next result is inside moves =
-    let again : CloseLine → Result TheoremParser FaultKind = λ c. closed d os o.steps c in
+    let again : CloseLine → Result TheoremParser FaultKind = λ c. parser_after_close d os o.steps c in
     let p : TheoremParser = record d { blocks = os; steps = o.steps } in
-    let there : closed q q.blocks q.steps next ≡ closed p os o.steps next = ap (λ (x : TheoremParser). closed x x.blocks x.steps next) inside.1 in
+    let there : parser_after_close q q.blocks q.steps next ≡ parser_after_close p os o.steps next = ap (λ (x : TheoremParser). parser_after_close x x.blocks x.steps next) inside.1 in
     subst (Moves result new) (there ∙ closed_alike d os o.steps os o.steps next ∙ sym (inside.0 again) ∙ top_alike d o os close is) moves
 
 pub top_fails : (d q : TheoremParser) (o : OpenBlock) (os : List OpenBlock) (close : CloseLine) (e : LineError) → d.blocks ≡ o ∷ os → ClosesInside (record d { blocks = os }) o close (Err e) q
-    → Fails e (closed d d.blocks d.steps close)
-top_fails d q o os close e is inside = subst (Fails e) (top_alike d o os close is) (inside (λ c. closed d os o.steps c))
+    → Fails e (parser_after_close d d.blocks d.steps close)
+top_fails d q o os close e is inside = subst (Fails e) (top_alike d o os close is) (inside (λ c. parser_after_close d os o.steps c))
 
 -- ---- what fits
 
@@ -103,13 +103,13 @@ pub record TopFits (d : TheoremParser) (o : OpenBlock) (os : List OpenBlock) : T
 -- ---- what a block shows is too much
 
 pub resumed_fails : (d p new : TheoremParser) (o : OpenBlock) (close : CloseLine) (shown : List Lit) (step : PlainStep) (inner : Script) (what : BlockKind) (e : LineError) → o.kind ≡ what → p ≡ record d { steps = [] }
-    → inner ≡ all_before d.steps (script_of_close close) → ((again : CloseLine → Result TheoremParser FaultKind) → closed_inside d o d.blocks inner again what ≡ resumed d o d.blocks shown step)
-    → Fails e (resumed p (record o { kind = what }) p.blocks shown step) → ClosesInside d o close (Err e) new
+    → inner ≡ all_before d.steps (script_of_close close) → ((again : CloseLine → Result TheoremParser FaultKind) → closed_inside d o d.blocks inner again what ≡ after_inner_block d o d.blocks shown step)
+    → Fails e (after_inner_block p (record o { kind = what }) p.blocks shown step) → ClosesInside d o close (Err e) new
 resumed_fails d p new o close shown step inner what e is taken block shows fails again =
     let whole : record o { kind = what } ≡ o = sym (ap (λ (x : BlockKind). record o { kind = x }) is) in
-    let there : resumed p (record o { kind = what }) p.blocks shown step ≡ resumed d o d.blocks shown step =
-    ap (λ (x : OpenBlock). resumed p x p.blocks shown step) whole ∙ ap (λ (x : TheoremParser). resumed x o x.blocks shown step) taken ∙ sym (emptied d o d.blocks shown step) in
-    let here : closed_inside d o d.blocks (all_before d.steps (script_of_close close)) again o.kind ≡ resumed d o d.blocks shown step =
+    let there : after_inner_block p (record o { kind = what }) p.blocks shown step ≡ after_inner_block d o d.blocks shown step =
+    ap (λ (x : OpenBlock). after_inner_block p x p.blocks shown step) whole ∙ ap (λ (x : TheoremParser). after_inner_block x o x.blocks shown step) taken ∙ sym (emptied d o d.blocks shown step) in
+    let here : closed_inside d o d.blocks (all_before d.steps (script_of_close close)) again o.kind ≡ after_inner_block d o d.blocks shown step =
     ap (λ (s : Script). closed_inside d o d.blocks s again o.kind) (sym block) ∙ ap (λ (x : BlockKind). closed_inside d o d.blocks inner again x) is ∙ shows again in
     subst (Fails e) (there ∙ sym here) fails
 
@@ -123,7 +123,7 @@ resumed_as d around os n s (Ok u) (Err e) = refl
 resumed_as d around os n s (Err e) terms = refl
 
 pub resumed_with : (d : TheoremParser) (around : Saved) (what : BlockKind) (os : List OpenBlock) (shown : List Lit) (s : PlainStep)
-    → resumed d (outer_with around what) os shown s ≡ (with_facts around shown >>= λ a. Ok (record d { steps = a.steps ++ s ∷ []; in_scope = a.in_scope; facts = a.facts; terms = a.terms; blocks = os }))
-unfolding resumed counted_from with_facts
+    → after_inner_block d (outer_with around what) os shown s ≡ (with_facts around shown >>= λ a. Ok (record d { steps = a.steps ++ s ∷ []; in_scope = a.in_scope; facts = a.facts; terms = a.terms; blocks = os }))
+unfolding after_inner_block counted_from with_facts
 resumed_with d around what os shown s =
     resumed_as d around os (around.facts + length shown) s (within (around.facts + length shown) most_facts limits.Facts) (terms_after around.terms shown)

@@ -24,7 +24,7 @@ use Rattle.e_line.specs.Limits.{most_of, most_steps, most_depth, most_facts, mos
 use Rattle.e_names.specs.Scope.{fresh, lit_in, lits_in}
 use Rattle.e_line.specs.LineLimits.{count_monos, few_monos}
 use Rattle.e_book.specs.LineLimits.{FewNamed}
-use Rattle.e_book.specs.Steps.{allowed, declared, with_terms, declares, supposes, makes, shows, proof_begun}
+use Rattle.e_book.specs.Steps.{line_may_come, with_declared, with_terms, after_declare, after_given, after_made, after_show, after_proof}
 use Rattle.e_book.specs.ParserViews.{statement_of_parser}
 use Rattle.e_book.specs.Open.{Open, Stating, Proving}
 use Rattle.e_book.specs.Counts.{LineContext}
@@ -67,35 +67,35 @@ IsStating places.Closed = ⊥
 IsStating places.Done = ⊥
 IsStating place = Unit {0}
 
-may_declare : (p : Section) (d : TheoremParser) (sort : Sort) (new : List (List ℕ)) → IsStating p → Stands p d → allowed p (rawlines.Declare sort new) ≡ none_given (statement_of_parser d)
+may_declare : (p : Section) (d : TheoremParser) (sort : Sort) (new : List (List ℕ)) → IsStating p → Stands p d → line_may_come p (rawlines.Declare sort new) ≡ none_given (statement_of_parser d)
 may_declare places.Declaring d sort new st s = sym (and_from (is_empty d.given) (none_made (statement_of_parser d)) s.0 (and_from (is_empty d.made) (is_empty d.shown) s.1 s.2))
 may_declare places.Giving d sort new st s = sym (and_left (is_empty d.given) (none_made (statement_of_parser d)) s.0)
 may_declare places.Making d sort new st s = sym (and_right (is_empty d.given) (none_made (statement_of_parser d)) (and_left (is_empty d.made) (is_empty d.shown) s.0))
 may_declare places.Showing d sort new st s = sym (and_right (is_empty d.given) (none_made (statement_of_parser d)) (and_right (is_empty d.made) (is_empty d.shown) s))
 may_declare p d sort new st s = absurd st
 
-pub may_give : (p : Section) (d : TheoremParser) (raws : List RawLit) → IsStating p → Stands p d → allowed p (rawlines.Given raws) ≡ none_made (statement_of_parser d)
+pub may_give : (p : Section) (d : TheoremParser) (raws : List RawLit) → IsStating p → Stands p d → line_may_come p (rawlines.Given raws) ≡ none_made (statement_of_parser d)
 may_give places.Declaring d raws st s = sym (and_from (is_empty d.made) (is_empty d.shown) s.1 s.2)
 may_give places.Giving d raws st s = sym (and_from (is_empty d.made) (is_empty d.shown) s.1 s.2)
 may_give places.Making d raws st s = sym (and_left (is_empty d.made) (is_empty d.shown) s.0)
 may_give places.Showing d raws st s = sym (and_right (is_empty d.made) (is_empty d.shown) s)
 may_give p d raws st s = absurd st
 
-may_make : (p : Section) (d : TheoremParser) (sort : Sort) (new : List (List ℕ)) → IsStating p → Stands p d → allowed p (rawlines.Made sort new) ≡ is_empty d.shown
+may_make : (p : Section) (d : TheoremParser) (sort : Sort) (new : List (List ℕ)) → IsStating p → Stands p d → line_may_come p (rawlines.Made sort new) ≡ is_empty d.shown
 may_make places.Declaring d sort new st s = sym s.2
 may_make places.Giving d sort new st s = sym s.2
 may_make places.Making d sort new st s = sym s.1
 may_make places.Showing d sort new st s = sym s
 may_make p d sort new st s = absurd st
 
-may_show : (p : Section) (raws : List RawLit) → IsStating p → allowed p (rawlines.Show raws) ≡ true
+may_show : (p : Section) (raws : List RawLit) → IsStating p → line_may_come p (rawlines.Show raws) ≡ true
 may_show places.Declaring raws st = refl
 may_show places.Giving raws st = refl
 may_show places.Making raws st = refl
 may_show places.Showing raws st = refl
 may_show p raws st = absurd st
 
-may_prove : (p : Section) (d : TheoremParser) → IsStating p → Stands p d → allowed p rawlines.Proof ≡ not (is_empty d.shown)
+may_prove : (p : Section) (d : TheoremParser) → IsStating p → Stands p d → line_may_come p rawlines.Proof ≡ not (is_empty d.shown)
 may_prove places.Declaring d st s = sym (ap not s.2)
 may_prove places.Giving d st s = sym (ap not s.2)
 may_prove places.Making d st s = sym (ap not s.1)
@@ -103,7 +103,7 @@ may_prove places.Showing d st s = sym (ap not s)
 may_prove p d st s = absurd st
 
 -- where objects may be declared nothing else stands
-declaring : (p : Section) (sort : Sort) (new : List (List ℕ)) → allowed p (rawlines.Declare sort new) ≡ true → p ≡ places.Declaring
+declaring : (p : Section) (sort : Sort) (new : List (List ℕ)) → line_may_come p (rawlines.Declare sort new) ≡ true → p ≡ places.Declaring
 declaring places.Declaring sort new a = refl
 declaring p sort new a = absurd cc
 
@@ -155,8 +155,8 @@ few_given : (d : TheoremParser) → UnprovedOf d → FewGiven d
 few_given d u = record { facts = omega (arith, u.facts, u.few_facts); terms = omega (arith, u.terms, u.few_terms) }
 
 pub declare_alike : (known : List TitledStatement) (p : Section) (d : TheoremParser) (sort : Sort) (new : List (List ℕ)) → IsStating p → d.section ≡ p → Stands p d → UnprovedOf d → FewNamed d.names
-    → Alike known (cond (allowed p (rawlines.Declare sort new)) (declares d sort new) (Err Malformed)) (states (head_of d) (rawlines.Declare sort new) >>= then_limits known (rawlines.Declare sort new))
-unfolding declared
+    → Alike known (cond (line_may_come p (rawlines.Declare sort new)) (after_declare d sort new) (Err Malformed)) (states (head_of d) (rawlines.Declare sort new) >>= then_limits known (rawlines.Declare sort new))
+unfolding with_declared
 declare_alike known p d sort new st at s u few =
     let f = rawlines.Declare sort new in
     let now = with_new d.names sort new in
@@ -165,7 +165,7 @@ declare_alike known p d sort new st at s u few =
     let r : Names → Result TheoremParser FaultKind = λ names. read_ok (record d { names = names; declared = d.declared ++ replicate (length new) sort }) in
     let fits : Result Names FaultKind = within (length (names_of_sort d.names sort) + length new) (most_of sort) (what_of sort) >>= λ few. read_ok now in
     let g = few_given d u in
-    in_place known (allowed p f) (none_given (statement_of_parser d)) (declares d sort new) (fresh d.names [] new >>= λ free. read_open n) (then_limits known f) (may_declare p d sort new st s)
+    in_place known (line_may_come p f) (none_given (statement_of_parser d)) (after_declare d sort new) (fresh d.names [] new >>= λ free. read_open n) (then_limits known f) (may_declare p d sort new st s)
     (λ may. both_in known (fresh d.names [] new) (λ free. fits) r (λ free. read_open n) (then_limits known f)
     (λ free q. new_alike known d.names sort new r n 0 0 (length d.given) (count_monomials d.given) few
     (λ some. pass_later known (read_ok e) n 0 0 (length d.given) (count_monomials d.given) (omega arith) (omega arith) g.facts g.terms
@@ -173,8 +173,8 @@ declare_alike known p d sort new st at s u few =
     tied_there known e n places.Declaring (at ∙ is) some (subst (λ (x : Section). Stands x d) is s, u) refl))))
 
 pub make_alike : (known : List TitledStatement) (p : Section) (d : TheoremParser) (sort : Sort) (new : List (List ℕ)) → IsStating p → Stands p d → UnprovedOf d → FewNamed d.names → 0 < length new
-    → Alike known (cond (allowed p (rawlines.Made sort new)) (makes d sort new) (Err Malformed)) (states (head_of d) (rawlines.Made sort new) >>= then_limits known (rawlines.Made sort new))
-unfolding declared
+    → Alike known (cond (line_may_come p (rawlines.Made sort new)) (after_made d sort new) (Err Malformed)) (states (head_of d) (rawlines.Made sort new) >>= then_limits known (rawlines.Made sort new))
+unfolding with_declared
 make_alike known p d sort new st s u few some_new =
     let f = rawlines.Made sort new in
     let now = with_new d.names sort new in
@@ -183,7 +183,7 @@ make_alike known p d sort new st s u few some_new =
     let r : Names → Result TheoremParser FaultKind = λ names. read_ok (record d { names = names; made = d.made ++ replicate (length new) sort; section = places.Making }) in
     let fits : Result Names FaultKind = within (length (names_of_sort d.names sort) + length new) (most_of sort) (what_of sort) >>= λ few. read_ok now in
     let g = few_given d u in
-    in_place known (allowed p f) (is_empty d.shown) (makes d sort new) (fresh d.names [] new >>= λ free. read_open n) (then_limits known f) (may_make p d sort new st s)
+    in_place known (line_may_come p f) (is_empty d.shown) (after_made d sort new) (fresh d.names [] new >>= λ free. read_open n) (then_limits known f) (may_make p d sort new st s)
     (λ may. both_in known (fresh d.names [] new) (λ free. fits) r (λ free. read_open n) (then_limits known f)
     (λ free q. new_alike known d.names sort new r n 0 0 (length d.given) (count_monomials d.given) few
     (λ some. pass_later known (read_ok e) n 0 0 (length d.given) (count_monomials d.given) (omega arith) (omega arith) g.facts g.terms
@@ -223,19 +223,19 @@ given_alike known d raws ls u few some none e =
     tied_there known x n places.Giving refl few (stands, unproved) refl))))))
 
 pub give_alike : (known : List TitledStatement) (p : Section) (d : TheoremParser) (raws : List RawLit) → IsStating p → Stands p d → UnprovedOf d → FewNamed d.names → 0 < length raws
-    → Alike known (cond (allowed p (rawlines.Given raws)) (supposes d raws) (Err Malformed)) (states (head_of d) (rawlines.Given raws) >>= then_limits known (rawlines.Given raws))
+    → Alike known (cond (line_may_come p (rawlines.Given raws)) (after_given d raws) (Err Malformed)) (states (head_of d) (rawlines.Given raws) >>= then_limits known (rawlines.Given raws))
 give_alike known p d raws st s u few some =
     let f = rawlines.Given raws in
     let said : List Lit → Result Open FaultKind = λ ls. read_open (Stating (head_of (record d { given = d.given ++ ls }))) in
     let next : List Lit → Result TheoremParser FaultKind = λ ls. within (d.facts + length raws) most_facts limits.Facts >>= λ few. with_terms (record d { given = ls; facts = d.facts + length raws; section = places.Giving }) raws in
-    in_place known (allowed p f) (none_made (statement_of_parser d)) (supposes d raws) (lits_in d.names raws >>= said) (then_limits known f) (may_give p d raws st s)
+    in_place known (line_may_come p f) (none_made (statement_of_parser d)) (after_given d raws) (lits_in d.names raws >>= said) (then_limits known f) (may_give p d raws st s)
     (λ may. both_in known (lits_in d.names raws) (λ ls. read_ok (d.given ++ ls)) next said (then_limits known f)
     (λ ls e. given_alike known d raws ls u few some (sym (may_give p d raws st s) ∙ may) e))
 
 -- ---- shown literals
 
 pub show_alike : (known : List TitledStatement) (p : Section) (d : TheoremParser) (raws : List RawLit) → IsStating p → UnprovedOf d → FewNamed d.names → 0 < length raws
-    → Alike known (cond (allowed p (rawlines.Show raws)) (shows d raws) (Err Malformed)) (states (head_of d) (rawlines.Show raws) >>= then_limits known (rawlines.Show raws))
+    → Alike known (cond (line_may_come p (rawlines.Show raws)) (after_show d raws) (Err Malformed)) (states (head_of d) (rawlines.Show raws) >>= then_limits known (rawlines.Show raws))
 show_alike known p d raws st u few some =
     let f = rawlines.Show raws in
     let said : List Lit → Result Open FaultKind = λ ls. read_open (Stating (head_of (record d { shown = d.shown ++ ls }))) in
@@ -243,7 +243,7 @@ show_alike known p d raws st u few some =
     let g = few_given d u in
     let k = length d.given in
     let m = count_monomials d.given in
-    may_come known (allowed p f) (shows d raws) (states (head_of d) f >>= then_limits known f) (may_show p raws st)
+    may_come known (line_may_come p f) (after_show d raws) (states (head_of d) f >>= then_limits known f) (may_show p raws st)
     (both_in known (lits_in d.names raws) (λ ls. read_ok (d.shown ++ ls)) next said (then_limits known f)
     (λ ls e.
     let x : TheoremParser = record d { shown = d.shown ++ ls; section = places.Showing } in
@@ -286,7 +286,7 @@ proof_block known d ns u few is =
     (subst (λ (n : ℕ). BlockTied known (head_of d) [] [] ns n d.facts d.terms) (sym u.lines) first))
 
 pub proof_alike : (known : List TitledStatement) (p : Section) (d : TheoremParser) → IsStating p → Stands p d → UnprovedOf d → FewNamed d.names
-    → Alike known (cond (allowed p rawlines.Proof) (proof_begun d) (Err Malformed)) (states (head_of d) rawlines.Proof >>= then_limits known rawlines.Proof)
+    → Alike known (cond (line_may_come p rawlines.Proof) (after_proof d) (Err Malformed)) (states (head_of d) rawlines.Proof >>= then_limits known rawlines.Proof)
 proof_alike known p d st s u few =
     let f = rawlines.Proof in
     let ns = declared_names (stated (statement_of_parser d)) d.names in
@@ -296,7 +296,7 @@ proof_alike known p d st s u few =
     let c : Counted ns d.facts d.terms (context_in known (head_of d) [] []) = record { names = refl; facts = u.facts; terms = u.terms } in
     let is : Proving (head_of d) (around_of d.blocks) d.steps ≡ n =
     ap (λ (os : List OpenBlock). Proving (head_of d) (around_of os) d.steps) u.blocks ∙ ap (λ (ss : List PlainStep). Proving (head_of d) [] ss) u.steps in
-    begins_proof known (allowed p f) (is_empty d.shown) (proof_begun d) (read_open n) (then_limits known f) (may_prove p d st s)
+    begins_proof known (line_may_come p f) (is_empty d.shown) (after_proof d) (read_open n) (then_limits known f) (may_prove p d st s)
     (block_limits known (read_ok e) (head_of d) [] [] f ns 0 1 d.facts d.terms c refl refl
     (pass_all known (read_ok e) n ns 0 1 d.facts d.terms some (omega arith) (omega arith) u.few_facts u.few_terms
     (tied_there known e n places.Proving refl few (proof_block known d ns u some refl) is)))

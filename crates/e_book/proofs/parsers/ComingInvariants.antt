@@ -39,7 +39,7 @@ use Rattle.e_names.specs.Scope.{scope_of_names, right_count, lit_in, lits_in}
 use Rattle.e_line.specs.LineLimits.{few_monos}
 use Rattle.e_names.specs.Canonical.{raw_of}
 use Rattle.e_book.specs.ParserViews.{entry_of_parser}
-use Rattle.e_book.specs.Steps.{allowed, declared, declares, shows, begun, begin, step}
+use Rattle.e_book.specs.Steps.{line_may_come, with_declared, after_declare, after_show, with_title, begin, step}
 use Rattle.e_book.specs.Book.{is_last}
 use Rattle.e_line.specs.Items.{book_line_of, listing_raw_line, is_show}
 use Rattle.e_names.specs.Meanings.{items_in}
@@ -119,11 +119,11 @@ states_there known d places.Making st b = (tt, b)
 states_there known d places.Showing st b = (tt, b)
 states_there known d p st b = absurd st
 
-declares_at : (p : Section) (sort : Sort) (new : List (List ℕ)) → allowed p (rawlines.Declare sort new) ≡ true → p ≡ places.Declaring
+declares_at : (p : Section) (sort : Sort) (new : List (List ℕ)) → line_may_come p (rawlines.Declare sort new) ≡ true → p ≡ places.Declaring
 declares_at places.Declaring sort new a = refl
 declares_at p sort new a = absurd cc
 
-shows_at : (p : Section) (raws : List RawLit) → allowed p (rawlines.Show raws) ≡ true → IsStating p
+shows_at : (p : Section) (raws : List RawLit) → line_may_come p (rawlines.Show raws) ≡ true → IsStating p
 shows_at places.Declaring raws a = tt
 shows_at places.Giving raws a = tt
 shows_at places.Making raws a = tt
@@ -145,8 +145,8 @@ definition_declares : (known : Known) (d e : TheoremParser) (sort : Sort) (new :
 unfolding defines_on
 definition_declares known d e sort new g s h =
     let next : Names → TheoremParser = λ names. record d { names = names; declared = d.declared ++ replicate (length new) sort } in
-    let r = bind_ok (right_count (allowed d.section (rawlines.Declare sort new))) (λ right. declares d sort new) e h in
-    let n = bind_ok (declared d.names sort new) (λ names. read_ok (next names)) e r.2 in
+    let r = bind_ok (right_count (line_may_come d.section (rawlines.Declare sort new))) (λ right. after_declare d sort new) e h in
+    let n = bind_ok (with_declared d.names sort new) (λ names. read_ok (next names)) e r.2 in
     let is : next n.0 ≡ e = ok_is (next n.0) e n.2 in
     let at : d.section ≡ places.Declaring = declares_at d.section sort new (counted _ r.0 r.1) in
     let to : e.section ≡ places.Declaring = ap (λ (x : TheoremParser). x.section) (sym is) ∙ at in
@@ -157,7 +157,7 @@ definition_shows : (known : Known) (d e : TheoremParser) (raws : List RawLit) �
 unfolding defines_on
 definition_shows known d e raws g s h =
     let then : List Lit → TheoremParser = λ ls. record d { shown = ls; section = places.Showing } in
-    let r = bind_ok (right_count (allowed d.section (rawlines.Show raws))) (λ right. shows d raws) e h in
+    let r = bind_ok (right_count (line_may_come d.section (rawlines.Show raws))) (λ right. after_show d raws) e h in
     let all = bind_ok (with_front d.shown (lits_in d.names raws)) (λ ls. few_monos raws >>= λ few. read_ok (then ls)) e r.2 in
     let ls = bind_ok (lits_in d.names raws) (λ xs. read_ok (d.shown ++ xs)) all.0 all.1 in
     let f = bind_ok (few_monos raws) (λ few. read_ok (then all.0)) e all.2 in
@@ -255,10 +255,10 @@ first_theorem known e f s h =
 first_definition : (known : Known) (e : Coming) (t : List ℕ) → begins_definition known t ≡ Ok e → GoodComing known e
 unfolding begins_definition
 first_definition known e t h =
-    let n = was_free (is_taken known t) (within (length known.notions + 1) most_notions limits.Notions >>= λ few. read_ok (coming true (begun t))) e h in
-    let w = bind_ok (within (length known.notions + 1) most_notions limits.Notions) (λ few. read_ok (coming true (begun t))) e n.1 in
+    let n = was_free (is_taken known t) (within (length known.notions + 1) most_notions limits.Notions >>= λ few. read_ok (coming true (with_title t))) e h in
+    let w = bind_ok (within (length known.notions + 1) most_notions limits.Notions) (λ few. read_ok (coming true (with_title t))) e n.1 in
     let good = good_begun known.theorems t (neither (is_known known.theorems t) (defines known.notions t) n.0).0 in
-    subst (λ (x : Coming). GoodComing known x) (ok_is (coming true (begun t)) e w.2) (record { title = n.0; head = good.head; made = refl; states = (tt, good.body); means = tt })
+    subst (λ (x : Coming). GoodComing known x) (ok_is (coming true (with_title t)) e w.2) (record { title = n.0; head = good.head; made = refl; states = (tt, good.body); means = tt })
 
 first_kept : (known : Known) (e : Coming) (words : List (List ℕ)) (l : BookLine) → LineSaid words l → machine.begins known l ≡ Ok e → GoodComing known e
 unfolding machine.begins

@@ -39,7 +39,7 @@ use Rattle.e_names.specs.Superposes.{superpose_in}
 use Rattle.e_names.specs.Applies.{count_blanks, apply_in}
 use Rattle.e_line.specs.LineLimits.{count_monos, few_monos}
 use Rattle.e_book.specs.LineLimits.{few_objects}
-use Rattle.e_book.specs.Steps.{terms_after, with_terms, with_step, built, used_by, applied, outer_of, deeper, claimed, superposed, split, counted_from, resumed, closed_inside, closed, shut, stepped}
+use Rattle.e_book.specs.Steps.{terms_after, with_terms, with_step, after_let, with_use, after_apply, outer_of, inside_if_room, after_claim, after_superpose, after_cases, counted_from, after_inner_block, closed_inside, parser_after_close, after_close_line, after_line}
 use Rattle.e_book.specs.ParserViews.{script_of_close}
 use Rattle.e_book.proofs.parsers.Answered.{within_ok}
 use Rattle.e_line.proofs.base.Bound.{bind_ok, ok_is, read_ok}
@@ -94,8 +94,8 @@ step_taken x e s n h =
     let b = bind_ok (within (x.facts + n) most_facts limits.Facts) (λ none. read_ok y) e a.2 in
     record { few = within_ok _ _ _ a.0 a.1; facts = within_ok _ _ _ b.0 b.1; is = ok_is y e b.2 }
 
-pub keeps_by : (known : List TitledStatement) (d e : TheoremParser) (r : List ℕ) (ns : List (List ℕ)) (l : RawLit) → Good known d → d.section ≡ Proving → Said (rawlines.By r ns l) → stepped known d (rawlines.By r ns l) ≡ Ok e → Good known e
-unfolding stepped
+pub keeps_by : (known : List TitledStatement) (d e : TheoremParser) (r : List ℕ) (ns : List (List ℕ)) (l : RawLit) → Good known d → d.section ≡ Proving → Said (rawlines.By r ns l) → after_line known d (rawlines.By r ns l) ≡ Ok e → Good known e
+unfolding after_line
 keeps_by known d e r ns l g at said h =
     let b = bind_ok (by_in d.in_scope r ns l) (λ b. with_step d (Cited b) 1) e h in
     let s = step_taken d e (Cited b.0) 1 b.2 in
@@ -104,8 +104,8 @@ keeps_by known d e r ns l g at said h =
     (λ rest fit. fits_cited (here known d) (made_in d.blocks d.made) (level d.blocks) b.0 rest (by_fits d.in_scope r ns l b.0 b.1) (by_plain d.in_scope r ns l b.0 said b.1) s.facts fit) in
     subst (λ (y : TheoremParser). Good known y) s.is (record { head = g.head; body = still_open known x at o })
 
-pub keeps_hence : (known : List TitledStatement) (d e : TheoremParser) (r : RawLit) → Good known d → d.section ≡ Proving → Said (rawlines.Hence r) → stepped known d (rawlines.Hence r) ≡ Ok e → Good known e
-unfolding stepped
+pub keeps_hence : (known : List TitledStatement) (d e : TheoremParser) (r : RawLit) → Good known d → d.section ≡ Proving → Said (rawlines.Hence r) → after_line known d (rawlines.Hence r) ≡ Ok e → Good known e
+unfolding after_line
 keeps_hence known d e r g at said h =
     let l = bind_ok (lit_in d.in_scope r) (λ l. with_step d (Inferred l None) 1 >>= λ x. with_terms x (r ∷ [])) e h in
     let x = bind_ok (with_step d (Inferred l.0 None) 1) (λ x. with_terms x (r ∷ [])) e l.2 in
@@ -120,8 +120,8 @@ keeps_hence known d e r g at said h =
     (subst (λ (at : Spot). ScriptFits at (made_in d.blocks d.made) (level d.blocks) rest) same fit)) in
     subst (λ (y : TheoremParser). Good known y) t.is (record { head = g.head; body = still_open known z at o })
 
-keeps_built : (known : List TitledStatement) (d e : TheoremParser) (l : RawLet) → Good known d → d.section ≡ Proving → built d l ≡ Ok e → Good known e
-unfolding built
+keeps_built : (known : List TitledStatement) (d e : TheoremParser) (l : RawLet) → Good known d → d.section ≡ Proving → after_let d l ≡ Ok e → Good known e
+unfolding after_let
 keeps_built known d e l g at h =
     let s = scope_of_names d.in_scope in
     let after : Construction → Names = λ f. named d.in_scope (sorts_made f) l.new in
@@ -134,13 +134,13 @@ keeps_built known d e l g at h =
     (λ rest fit. fits_made (here known d) (made_in d.blocks d.made) (level d.blocks) f.0 l.new [] rest (let_fits d.in_scope l f.0 f.1) w.1 t.facts fit) in
     subst (λ (y : TheoremParser). Good known y) t.is (record { head = g.head; body = still_open known x at o })
 
-pub keeps_let : (known : List TitledStatement) (d e : TheoremParser) (l : RawLet) → Good known d → d.section ≡ Proving → stepped known d (rawlines.Let l) ≡ Ok e → Good known e
-unfolding stepped
+pub keeps_let : (known : List TitledStatement) (d e : TheoremParser) (l : RawLet) → Good known d → d.section ≡ Proving → after_line known d (rawlines.Let l) ≡ Ok e → Good known e
+unfolding after_line
 keeps_let known d e l g at h = keeps_built known d e l g at h
 
 keeps_used : (known : List TitledStatement) (d e : TheoremParser) (raw : RawApply) (theorem : ℕ) (args : List (Option Obj)) → Good known d → d.section ≡ Proving → GoodUse known d.in_scope raw theorem args
-    → used_by d (theorem_of known theorem) theorem args raw.new ≡ Ok e → Good known e
-unfolding used_by
+    → with_use d (theorem_of known theorem) theorem args raw.new ≡ Ok e → Good known e
+unfolding with_use
 keeps_used known d e raw theorem args g at u h =
     let t = theorem_of known theorem in
     let after = named d.in_scope t.made raw.new in
@@ -171,14 +171,14 @@ keeps_used known d e raw theorem args g at u h =
     (λ rest f. fits_applied (here known d) (made_in d.blocks d.made) (level d.blocks) theorem args raw.new [] rest fit f) in
     subst (λ (y : TheoremParser). Good known y) z-is (record { head = g.head; body = still_open known z at o })
 
-keeps_applied : (known : List TitledStatement) (d e : TheoremParser) (raw : RawApply) → Good known d → d.section ≡ Proving → applied known d raw ≡ Ok e → Good known e
-unfolding applied
+keeps_applied : (known : List TitledStatement) (d e : TheoremParser) (raw : RawApply) → Good known d → d.section ≡ Proving → after_apply known d raw ≡ Ok e → Good known e
+unfolding after_apply
 keeps_applied known d e raw g at h =
-    let a = bind_ok (apply_in known d.in_scope raw) (λ a. used_by d (theorem_of known a.0) a.0 a.1 raw.new) e h in
+    let a = bind_ok (apply_in known d.in_scope raw) (λ a. with_use d (theorem_of known a.0) a.0 a.1 raw.new) e h in
     keeps_used known d e raw a.0.0 a.0.1 g at (use_fits known d.in_scope raw a.0 a.1) a.2
 
-pub keeps_apply : (known : List TitledStatement) (d e : TheoremParser) (raw : RawApply) → Good known d → d.section ≡ Proving → stepped known d (rawlines.Apply raw) ≡ Ok e → Good known e
-unfolding stepped
+pub keeps_apply : (known : List TitledStatement) (d e : TheoremParser) (raw : RawApply) → Good known d → d.section ≡ Proving → after_line known d (rawlines.Apply raw) ≡ Ok e → Good known e
+unfolding after_line
 keeps_apply known d e raw g at h = keeps_applied known d e raw g at h
 
 -- ---- an inner block begins
@@ -188,8 +188,8 @@ record Deeper (d e : TheoremParser) (op : BlockKind) (n : ℕ) : Type 0 where
   facts : d.facts + n ≤ most_facts
   is : record d { lines = d.lines + 1; blocks = outer_of d op ∷ d.blocks; steps = []; facts = d.facts + n } ≡ e
 
-goes_deeper : (d e : TheoremParser) (op : BlockKind) (n : ℕ) → deeper d op n ≡ Ok e → Deeper d e op n
-unfolding deeper
+goes_deeper : (d e : TheoremParser) (op : BlockKind) (n : ℕ) → inside_if_room d op n ≡ Ok e → Deeper d e op n
+unfolding inside_if_room
 goes_deeper d e op n h =
     let y : TheoremParser = record d { lines = d.lines + 1; blocks = outer_of d op ∷ d.blocks; steps = []; facts = d.facts + n } in
     let a = bind_ok (within (d.lines + 1) most_steps limits.Steps) (λ few. within (length d.blocks + 2) most_depth limits.Depth >>= λ shallow. within (d.facts + n) most_facts limits.Facts >>= λ none. read_ok y) e h in
@@ -205,12 +205,12 @@ opens known d op to o fit none deep is =
     subst (λ (at : Spot). Open (start known d) d.made (outer_of d op ∷ d.blocks) [] at (d.lines + 1)) is
     (open_inner (start known d) d.made d.blocks (outer_of d op) d.lines o fit none deep)
 
-keeps_claimed : (known : List TitledStatement) (d e : TheoremParser) (raws : List RawLit) → Good known d → d.section ≡ Proving → LitsSaid raws → claimed d raws ≡ Ok e → Good known e
-unfolding claimed
+keeps_claimed : (known : List TitledStatement) (d e : TheoremParser) (raws : List RawLit) → Good known d → d.section ≡ Proving → LitsSaid raws → after_claim d raws ≡ Ok e → Good known e
+unfolding after_claim
 keeps_claimed known d e raws g at said h =
-    let ls = bind_ok (lits_in d.in_scope raws) (λ ls. deeper d (kind.Claim ls) 0 >>= λ x. few_monos raws >>= λ few. read_ok x) e h in
+    let ls = bind_ok (lits_in d.in_scope raws) (λ ls. inside_if_room d (kind.Claim ls) 0 >>= λ x. few_monos raws >>= λ few. read_ok x) e h in
     let op = kind.Claim ls.0 in
-    let x = bind_ok (deeper d op 0) (λ x. few_monos raws >>= λ few. read_ok x) e ls.2 in
+    let x = bind_ok (inside_if_room d op 0) (λ x. few_monos raws >>= λ few. read_ok x) e ls.2 in
     let f = bind_ok (few_monos raws) (λ few. read_ok x.0) e x.2 in
     let w = goes_deeper d x.0 op 0 x.1 in
     let y : TheoremParser = record d { lines = d.lines + 1; blocks = outer_of d op ∷ d.blocks; steps = []; facts = d.facts + 0 } in
@@ -218,21 +218,21 @@ keeps_claimed known d e raws g at said h =
     let o = opens known d op (here known y) (open_at known d at g.body) (shown_fit known d raws ls.0 ls.1 said (few_ok raws f.0 f.1)) refl w.deep same in
     subst (λ (z : TheoremParser). Good known z) (w.is ∙ ok_is x.0 e f.2) (record { head = g.head; body = still_open known y at o })
 
-pub keeps_claim : (known : List TitledStatement) (d e : TheoremParser) (raws : List RawLit) → Good known d → d.section ≡ Proving → Said (rawlines.Claim raws) → stepped known d (rawlines.Claim raws) ≡ Ok e → Good known e
-unfolding stepped
+pub keeps_claim : (known : List TitledStatement) (d e : TheoremParser) (raws : List RawLit) → Good known d → d.section ≡ Proving → Said (rawlines.Claim raws) → after_line known d (rawlines.Claim raws) ≡ Ok e → Good known e
+unfolding after_line
 keeps_claim known d e raws g at said h = keeps_claimed known d e raws g at said.1 h
 
-keeps_superposed : (known : List TitledStatement) (d e : TheoremParser) (raw : RawSuperpose) → Good known d → d.section ≡ Proving → Said (rawlines.Superpose raw) → superposed d raw ≡ Ok e → Good known e
-unfolding superposed
+keeps_superposed : (known : List TitledStatement) (d e : TheoremParser) (raw : RawSuperpose) → Good known d → d.section ≡ Proving → Said (rawlines.Superpose raw) → after_superpose d raw ≡ Ok e → Good known e
+unfolding after_superpose
 keeps_superposed known d e raw g at said h =
     let given : Superpose → List Lit = λ form. superposing.gives_of_superposition form (scope_of_names d.in_scope) in
     let after = named d.in_scope superposing.sorts_copied raw.new in
     let then : TheoremParser → ℕ → Result TheoremParser FaultKind = λ x n. read_ok (record x { in_scope = after; terms = n }) in
-    let p = bind_ok (superpose_in d.in_scope raw) (λ p. few_objects after >>= λ objects. deeper d (kind.Superpose p.0 raw.new p.1) (length (given p.0)) >>= λ x. few_monos raw.shown >>= λ few. terms_after x.terms (given p.0) >>= λ n. then x n) e h in
+    let p = bind_ok (superpose_in d.in_scope raw) (λ p. few_objects after >>= λ objects. inside_if_room d (kind.Superpose p.0 raw.new p.1) (length (given p.0)) >>= λ x. few_monos raw.shown >>= λ few. terms_after x.terms (given p.0) >>= λ n. then x n) e h in
     let form = p.0.0 in
     let op = kind.Superpose form raw.new p.0.1 in
-    let b = bind_ok (few_objects after) (λ objects. deeper d op (length (given form)) >>= λ x. few_monos raw.shown >>= λ few. terms_after x.terms (given form) >>= λ n. then x n) e p.2 in
-    let x = bind_ok (deeper d op (length (given form))) (λ x. few_monos raw.shown >>= λ few. terms_after x.terms (given form) >>= λ n. then x n) e b.2 in
+    let b = bind_ok (few_objects after) (λ objects. inside_if_room d op (length (given form)) >>= λ x. few_monos raw.shown >>= λ few. terms_after x.terms (given form) >>= λ n. then x n) e p.2 in
+    let x = bind_ok (inside_if_room d op (length (given form))) (λ x. few_monos raw.shown >>= λ few. terms_after x.terms (given form) >>= λ n. then x n) e b.2 in
     let f = bind_ok (few_monos raw.shown) (λ few. terms_after x.0.terms (given form) >>= λ n. then x.0 n) e x.2 in
     let n = bind_ok (terms_after x.0.terms (given form)) (λ n. then x.0 n) e f.2 in
     let w = goes_deeper d x.0 op (length (given form)) x.1 in
@@ -245,16 +245,16 @@ keeps_superposed known d e raw g at said h =
     let o = opens known d op (here known z) (open_at known d at g.body) (copy, shown_fit known d raw.shown p.0.1 c.lits said.3 (few_ok raw.shown f.0 f.1)) refl w.deep refl in
     subst (λ (v : TheoremParser). Good known v) z-is (record { head = g.head; body = still_open known z at o })
 
-pub keeps_superpose : (known : List TitledStatement) (d e : TheoremParser) (raw : RawSuperpose) → Good known d → d.section ≡ Proving → Said (rawlines.Superpose raw) → stepped known d (rawlines.Superpose raw) ≡ Ok e → Good known e
-unfolding stepped
+pub keeps_superpose : (known : List TitledStatement) (d e : TheoremParser) (raw : RawSuperpose) → Good known d → d.section ≡ Proving → Said (rawlines.Superpose raw) → after_line known d (rawlines.Superpose raw) ≡ Ok e → Good known e
+unfolding after_line
 keeps_superpose known d e raw g at said h = keeps_superposed known d e raw g at said h
 
-keeps_split : (known : List TitledStatement) (d e : TheoremParser) (r : RawLit) → Good known d → d.section ≡ Proving → Said (rawlines.Cases r) → split d r ≡ Ok e → Good known e
-unfolding split
+keeps_split : (known : List TitledStatement) (d e : TheoremParser) (r : RawLit) → Good known d → d.section ≡ Proving → Said (rawlines.Cases r) → after_cases d r ≡ Ok e → Good known e
+unfolding after_cases
 keeps_split known d e r g at said h =
-    let l = bind_ok (lit_in d.in_scope r) (λ l. deeper d (kind.First l) 1 >>= λ x. with_terms x (r ∷ [])) e h in
+    let l = bind_ok (lit_in d.in_scope r) (λ l. inside_if_room d (kind.First l) 1 >>= λ x. with_terms x (r ∷ [])) e h in
     let op = kind.First l.0 in
-    let x = bind_ok (deeper d op 1) (λ x. with_terms x (r ∷ [])) e l.2 in
+    let x = bind_ok (inside_if_room d op 1) (λ x. with_terms x (r ∷ [])) e l.2 in
     let w = goes_deeper d x.0 op 1 x.1 in
     let y : TheoremParser = record d { lines = d.lines + 1; blocks = outer_of d op ∷ d.blocks; steps = []; facts = d.facts + 1 } in
     let t = terms_added y e (r ∷ []) (ap (λ (z : TheoremParser). with_terms z (r ∷ [])) w.is ∙ x.2) in
@@ -265,12 +265,12 @@ keeps_split known d e r g at said h =
     let o = opens known d op (here known z) (open_at known d at g.body) fit refl w.deep same in
     subst (λ (y : TheoremParser). Good known y) t.is (record { head = g.head; body = still_open known z at o })
 
-pub keeps_cases : (known : List TitledStatement) (d e : TheoremParser) (r : RawLit) → Good known d → d.section ≡ Proving → Said (rawlines.Cases r) → stepped known d (rawlines.Cases r) ≡ Ok e → Good known e
-unfolding stepped
+pub keeps_cases : (known : List TitledStatement) (d e : TheoremParser) (r : RawLit) → Good known d → d.section ≡ Proving → Said (rawlines.Cases r) → after_line known d (rawlines.Cases r) ≡ Ok e → Good known e
+unfolding after_line
 keeps_cases known d e r g at said h = keeps_split known d e r g at said h
 
-pub keeps_else : (known : List TitledStatement) (d e : TheoremParser) → Good known d → d.section ≡ Splitting → stepped known d rawlines.Else ≡ Ok e → Good known e
-unfolding stepped
+pub keeps_else : (known : List TitledStatement) (d e : TheoremParser) → Good known d → d.section ≡ Splitting → after_line known d rawlines.Else ≡ Ok e → Good known e
+unfolding after_line
 keeps_else known d e g at h =
     subst (λ (y : TheoremParser). Good known y) (ok_is (record d { section = Proving }) e h) (record { head = g.head; body = subst (λ (p : Section). Body known p d) at g.body })
 
@@ -281,8 +281,8 @@ record Resumed (d e : TheoremParser) (o : OpenBlock) (os : List OpenBlock) (show
   terms : o.terms + count_monomials shown ≤ most_terms
   is : record d { facts = o.facts + length shown; terms = o.terms + count_monomials shown; steps = o.steps ++ s ∷ []; in_scope = o.in_scope; blocks = os } ≡ e
 
-goes_on : (d e : TheoremParser) (o : OpenBlock) (os : List OpenBlock) (shown : List Lit) (s : PlainStep) → resumed d o os shown s ≡ Ok e → Resumed d e o os shown s
-unfolding resumed counted_from
+goes_on : (d e : TheoremParser) (o : OpenBlock) (os : List OpenBlock) (shown : List Lit) (s : PlainStep) → after_inner_block d o os shown s ≡ Ok e → Resumed d e o os shown s
+unfolding after_inner_block counted_from
 goes_on d e o os shown s h =
     let n = o.facts + length shown in
     let then : TheoremParser → TheoremParser = λ x. record x { steps = o.steps ++ s ∷ []; in_scope = o.in_scope; blocks = os } in
@@ -336,21 +336,21 @@ closes_inside known d e o os inner again (kind.Second lit first) head at steps s
 -- a block is closed, and with it those blocks around it that end with a split
 closes_block : (known : List TitledStatement) (d e : TheoremParser) (os : List OpenBlock) (ss : List PlainStep) (close : CloseLine) → HeadOf known d → d.section ≡ Proving → BlocksFit (start known d) d.made os
     → ScriptFits (first_spot (start known d) os) (made_in os d.made) (level os) (all_before ss (script_of_close close)) → d.lines ≡ size (all_before ss (script_of_close close)) + lines_around os → d.lines ≤ most_steps
-    → level os + 1 ≤ most_depth → closed d os ss close ≡ Ok e → Good known e
-unfolding closed
+    → level os + 1 ≤ most_depth → parser_after_close d os ss close ≡ Ok e → Good known e
+unfolding parser_after_close
 closes_block known d e [] ss close head at around fit n few deep h =
     let x : TheoremParser = record d { steps = ss; blocks = []; close = close; section = Closed } in
     subst (λ (y : TheoremParser). Good known y) (ok_is x e h) (record { head = head; body = record { fits = fit; short = omega (arith, n, few) } })
 closes_block known d e (o ∷ os) ss close head at around fit n few deep h =
-    closes_inside known d e o os (all_before ss (script_of_close close)) (λ c. closed d os o.steps c) o.kind head at around.0.steps around.0.kind around.1 fit n deep
+    closes_inside known d e o os (all_before ss (script_of_close close)) (λ c. parser_after_close d os o.steps c) o.kind head at around.0.steps around.0.kind around.1 fit n deep
     (λ c f k again. closes_block known d e os o.steps c head at around.1 f k few (omega (arith, deep)) again) h
 
 keeps_shut : (known : List TitledStatement) (d e : TheoremParser) (close : CloseLine) → Good known d → d.section ≡ Proving → ScriptFits (here known d) (made_in d.blocks d.made) (level d.blocks) (script_of_close close) → size (script_of_close close) ≡ 1
-    → shut d close ≡ Ok e → Good known e
-unfolding shut
+    → after_close_line d close ≡ Ok e → Good known e
+unfolding after_close_line
 keeps_shut known d e close g at fit one h =
     let x : TheoremParser = record d { lines = d.lines + 1 } in
-    let w = bind_ok (within (d.lines + 1) most_steps limits.Steps) (λ few. closed x d.blocks d.steps close) e h in
+    let w = bind_ok (within (d.lines + 1) most_steps limits.Steps) (λ few. parser_after_close x d.blocks d.steps close) e h in
     let o = open_at known d at g.body in
     closes_block known x e d.blocks d.steps close g.head at o.blocks (o.steps (script_of_close close) fit) (omega (arith, o.lines, one, size_is d.steps (script_of_close close))) (within_ok _ _ _ w.0 w.1) o.shallow w.2
 
@@ -358,16 +358,16 @@ pub one_line : (os : List Obj) → size (script_of_close (closes.Qed os)) ≡ 1
 unfolding size
 one_line os = refl
 
-pub keeps_qed : (known : List TitledStatement) (d e : TheoremParser) (ns : List (List ℕ)) → Good known d → d.section ≡ Proving → stepped known d (rawlines.Qed ns) ≡ Ok e → Good known e
-unfolding stepped
+pub keeps_qed : (known : List TitledStatement) (d e : TheoremParser) (ns : List (List ℕ)) → Good known d → d.section ≡ Proving → after_line known d (rawlines.Qed ns) ≡ Ok e → Good known e
+unfolding after_line
 keeps_qed known d e ns g at h =
     let sorts = made_in d.blocks d.made in
-    let os = bind_ok (qed_in d.in_scope sorts ns) (λ os. shut d (closes.Qed os)) e h in
+    let os = bind_ok (qed_in d.in_scope sorts ns) (λ os. after_close_line d (closes.Qed os)) e h in
     let o = open_at known d at g.body in
     keeps_shut known d e (closes.Qed os.0) g at (fits_qed (here known d) sorts (level d.blocks) os.0 (qed_fits d.in_scope sorts ns os.0 os.1) o.shallow) (one_line os.0) os.2
 
-pub keeps_contradiction : (known : List TitledStatement) (d e : TheoremParser) → Good known d → d.section ≡ Proving → stepped known d rawlines.Contradiction ≡ Ok e → Good known e
-unfolding stepped size
+pub keeps_contradiction : (known : List TitledStatement) (d e : TheoremParser) → Good known d → d.section ≡ Proving → after_line known d rawlines.Contradiction ≡ Ok e → Good known e
+unfolding after_line size
 keeps_contradiction known d e g at h =
     let o = open_at known d at g.body in
     keeps_shut known d e closes.Contradiction g at (fits_contradiction (here known d) (made_in d.blocks d.made) (level d.blocks) o.shallow) refl h

@@ -39,7 +39,7 @@ use Rattle.e_names.specs.Scope.{scope_of_names, fresh, lit_in, lits_in}
 use Rattle.e_line.specs.RawLines.{raw_line_of}
 use Rattle.e_line.specs.LineLimits.{count_monos, few_monos}
 use Rattle.e_book.specs.LineLimits.{FewNamed}
-use Rattle.e_book.specs.Steps.{with_terms, allowed, declared, stepped, step, begin, begun}
+use Rattle.e_book.specs.Steps.{with_terms, line_may_come, with_declared, after_line, step, begin, with_title}
 use Rattle.e_book.specs.ParserViews.{script_of_close, entry_of_parser, statement_of_parser}
 use Rattle.e_book.specs.TheoremViews.{TheoremView}
 use Rattle.e_names.specs.Fits.{NamesDiffer}
@@ -88,25 +88,25 @@ nothing_at {X} p xs e = subst (λ (l : List X). list_all p l ≡ true) (sym e) r
 -- ---- the statement
 
 -- where objects may be declared
-declaring : (known : List TitledStatement) (p : Section) (d : TheoremParser) (sort : Sort) (ns : List (List ℕ)) → allowed p (rawlines.Declare sort ns) ≡ true → Body known p d → (p ≡ Declaring) × (d.given ≡ []) × (d.made ≡ []) × (d.shown ≡ []) × NoProofOf d
+declaring : (known : List TitledStatement) (p : Section) (d : TheoremParser) (sort : Sort) (ns : List (List ℕ)) → line_may_come p (rawlines.Declare sort ns) ≡ true → Body known p d → (p ≡ Declaring) × (d.given ≡ []) × (d.made ≡ []) × (d.shown ≡ []) × NoProofOf d
 declaring known Declaring d sort ns a b = (refl, b.0, b.1, b.2, b.3)
 declaring known p d sort ns a b = absurd cc
 
 -- where literals may be given
-giving : (known : List TitledStatement) (p : Section) (d : TheoremParser) (raws : List RawLit) → allowed p (rawlines.Given raws) ≡ true → Body known p d → (d.made ≡ []) × (d.shown ≡ []) × NoProofOf d
+giving : (known : List TitledStatement) (p : Section) (d : TheoremParser) (raws : List RawLit) → line_may_come p (rawlines.Given raws) ≡ true → Body known p d → (d.made ≡ []) × (d.shown ≡ []) × NoProofOf d
 giving known Declaring d raws a b = (b.1, b.2, b.3)
 giving known Giving d raws a b = b
 giving known p d raws a b = absurd cc
 
 -- where objects may be made
-making : (known : List TitledStatement) (p : Section) (d : TheoremParser) (sort : Sort) (ns : List (List ℕ)) → allowed p (rawlines.Made sort ns) ≡ true → Body known p d → (d.shown ≡ []) × NoProofOf d
+making : (known : List TitledStatement) (p : Section) (d : TheoremParser) (sort : Sort) (ns : List (List ℕ)) → line_may_come p (rawlines.Made sort ns) ≡ true → Body known p d → (d.shown ≡ []) × NoProofOf d
 making known Declaring d sort ns a b = (b.2, b.3)
 making known Giving d sort ns a b = (b.1, b.2)
 making known Making d sort ns a b = b
 making known p d sort ns a b = absurd cc
 
 -- where literals may be shown
-showing : (known : List TitledStatement) (p : Section) (d : TheoremParser) (raws : List RawLit) → allowed p (rawlines.Show raws) ≡ true → Body known p d → NoProofOf d
+showing : (known : List TitledStatement) (p : Section) (d : TheoremParser) (raws : List RawLit) → line_may_come p (rawlines.Show raws) ≡ true → Body known p d → NoProofOf d
 showing known Declaring d raws a b = b.3
 showing known Giving d raws a b = b.2
 showing known Making d raws a b = b.1
@@ -114,7 +114,7 @@ showing known Showing d raws a b = b
 showing known p d raws a b = absurd cc
 
 -- where the proof may begin
-beginning : (known : List TitledStatement) (p : Section) (d : TheoremParser) → allowed p rawlines.Proof ≡ true → Body known p d → NoProofOf d
+beginning : (known : List TitledStatement) (p : Section) (d : TheoremParser) → line_may_come p rawlines.Proof ≡ true → Body known p d → NoProofOf d
 beginning known Showing d a b = b
 beginning known p d a b = absurd cc
 
@@ -124,22 +124,22 @@ record Grown (ns : Names) (sort : Sort) (new : List (List ℕ)) (now : Names) : 
   few : FewNamed (with_names ns sort (names_of_sort ns sort ++ new))
   differ : NamesDiffer (with_names ns sort (names_of_sort ns sort ++ new))
 
-grows : (ns : Names) (sort : Sort) (new : List (List ℕ)) (now : Names) → FewNamed ns → NamesDiffer ns → declared ns sort new ≡ Ok now → Grown ns sort new now
-unfolding declared
+grows : (ns : Names) (sort : Sort) (new : List (List ℕ)) (now : Names) → FewNamed ns → NamesDiffer ns → with_declared ns sort new ≡ Ok now → Grown ns sort new now
+unfolding with_declared
 grows ns sort new now few differ h =
     let next : Names = with_names ns sort (names_of_sort ns sort ++ new) in
     let f = bind_ok (fresh ns [] new) (λ free. within (length (names_of_sort ns sort) + length new) (most_of sort) (what_of sort) >>= λ few. read_ok next) now h in
     let w = bind_ok (within (length (names_of_sort ns sort) + length new) (most_of sort) (what_of sort)) (λ few. read_ok next) now f.2 in
     record { is = ok_is next now w.2; few = few_named ns sort new few (within_ok _ _ _ w.0 w.1); differ = still_differ ns sort new f.0 differ f.1 }
 
-keeps_declare : (known : List TitledStatement) (d e : TheoremParser) (sort : Sort) (ns : List (List ℕ)) → Good known d → allowed d.section (rawlines.Declare sort ns) ≡ true → stepped known d (rawlines.Declare sort ns) ≡ Ok e → Good known e
-unfolding stepped
+keeps_declare : (known : List TitledStatement) (d e : TheoremParser) (sort : Sort) (ns : List (List ℕ)) → Good known d → line_may_come d.section (rawlines.Declare sort ns) ≡ true → after_line known d (rawlines.Declare sort ns) ≡ Ok e → Good known e
+unfolding after_line
 keeps_declare known d e sort ns good a h =
     let g = good.head in
     let now : Names = with_names d.names sort (names_of_sort d.names sort ++ ns) in
     let more_sorts = replicate (length ns) sort in
     let x : TheoremParser = record d { names = now; declared = d.declared ++ more_sorts } in
-    let n = bind_ok (declared d.names sort ns) (λ names. read_ok (record d { names = names; declared = d.declared ++ more_sorts })) e h in
+    let n = bind_ok (with_declared d.names sort ns) (λ names. read_ok (record d { names = names; declared = d.declared ++ more_sorts })) e h in
     let w = grows d.names sort ns n.0 g.few g.differ n.1 in
     let at = declaring known d.section d sort ns a good.body in
     let none : (s : Scope) → grown s d.made ≡ s = λ s. ap (grown s) at.2 in
@@ -159,8 +159,8 @@ keeps_declare known d e sort ns good a h =
     } in
     subst (λ (y : TheoremParser). Good known y) x-is (record { head = head; body = subst (λ (p : Section). Body known p x) (sym at.0) (at.1, at.2, at.3, at.4) })
 
-keeps_given : (known : List TitledStatement) (d e : TheoremParser) (raws : List RawLit) → Good known d → allowed d.section (rawlines.Given raws) ≡ true → Said (rawlines.Given raws) → stepped known d (rawlines.Given raws) ≡ Ok e → Good known e
-unfolding stepped
+keeps_given : (known : List TitledStatement) (d e : TheoremParser) (raws : List RawLit) → Good known d → line_may_come d.section (rawlines.Given raws) ≡ true → Said (rawlines.Given raws) → after_line known d (rawlines.Given raws) ≡ Ok e → Good known e
+unfolding after_line
 keeps_given known d e raws good a said h =
     let g = good.head in
     let count = d.facts + length raws in
@@ -194,14 +194,14 @@ keeps_given known d e raws good a said h =
     let none_now : NoProofOf x = record { steps = none.steps; blocks = none.blocks; lines = none.lines; facts = facts; terms = terms } in
     subst (λ (y : TheoremParser). Good known y) t.is (record { head = head; body = (at.0, at.1, none_now) })
 
-keeps_made : (known : List TitledStatement) (d e : TheoremParser) (sort : Sort) (ns : List (List ℕ)) → Good known d → allowed d.section (rawlines.Made sort ns) ≡ true → stepped known d (rawlines.Made sort ns) ≡ Ok e → Good known e
-unfolding stepped
+keeps_made : (known : List TitledStatement) (d e : TheoremParser) (sort : Sort) (ns : List (List ℕ)) → Good known d → line_may_come d.section (rawlines.Made sort ns) ≡ true → after_line known d (rawlines.Made sort ns) ≡ Ok e → Good known e
+unfolding after_line
 keeps_made known d e sort ns good a h =
     let g = good.head in
     let now : Names = with_names d.names sort (names_of_sort d.names sort ++ ns) in
     let more_sorts = replicate (length ns) sort in
     let x : TheoremParser = record d { names = now; made = d.made ++ more_sorts; section = Making } in
-    let n = bind_ok (declared d.names sort ns) (λ names. read_ok (record d { names = names; made = d.made ++ more_sorts; section = Making })) e h in
+    let n = bind_ok (with_declared d.names sort ns) (λ names. read_ok (record d { names = names; made = d.made ++ more_sorts; section = Making })) e h in
     let w = grows d.names sort ns n.0 g.few g.differ n.1 in
     let at = making known d.section d sort ns a good.body in
     let x-is : x ≡ e = ap (λ (m : Names). record d { names = m; made = d.made ++ more_sorts; section = Making }) w.is ∙ ok_is (record d { names = n.0; made = d.made ++ more_sorts; section = Making }) e n.2 in
@@ -219,8 +219,8 @@ keeps_made known d e sort ns good a h =
     } in
     subst (λ (y : TheoremParser). Good known y) x-is (record { head = head; body = at })
 
-keeps_shown : (known : List TitledStatement) (d e : TheoremParser) (raws : List RawLit) → Good known d → allowed d.section (rawlines.Show raws) ≡ true → Said (rawlines.Show raws) → stepped known d (rawlines.Show raws) ≡ Ok e → Good known e
-unfolding stepped
+keeps_shown : (known : List TitledStatement) (d e : TheoremParser) (raws : List RawLit) → Good known d → line_may_come d.section (rawlines.Show raws) ≡ true → Said (rawlines.Show raws) → after_line known d (rawlines.Show raws) ≡ Ok e → Good known e
+unfolding after_line
 keeps_shown known d e raws good a said h =
     let g = good.head in
     let then : List Lit → TheoremParser = λ ls. record d { shown = ls; section = Showing } in
@@ -254,8 +254,8 @@ first_line at made gs os ss n facts terms f t none =
     (subst (λ (k : ℕ). Open at made [] [] (spot at.before at.names k terms) 0) (f ∙ sym none.facts)
     (subst (λ (k : ℕ). Open at made [] [] (spot at.before at.names at.facts k) 0) (t ∙ sym none.terms) (open_first at made)))))
 
-keeps_proof : (known : List TitledStatement) (d e : TheoremParser) → Good known d → allowed d.section rawlines.Proof ≡ true → stepped known d rawlines.Proof ≡ Ok e → Good known e
-unfolding stepped
+keeps_proof : (known : List TitledStatement) (d e : TheoremParser) → Good known d → line_may_come d.section rawlines.Proof ≡ true → after_line known d rawlines.Proof ≡ Ok e → Good known e
+unfolding after_line
 keeps_proof known d e g a h =
     let x : TheoremParser = record d { in_scope = (start known d).names; section = Proving } in
     let open_now : OpenOf known x = first_line (start known d) d.made d.given d.blocks d.steps d.lines d.facts d.terms refl refl (beginning known d.section d a g.body) in
@@ -263,62 +263,62 @@ keeps_proof known d e g a h =
 
 -- ---- the proof
 
-proving_by : (p : Section) (r : List ℕ) (ns : List (List ℕ)) (l : RawLit) → allowed p (rawlines.By r ns l) ≡ true → p ≡ Proving
+proving_by : (p : Section) (r : List ℕ) (ns : List (List ℕ)) (l : RawLit) → line_may_come p (rawlines.By r ns l) ≡ true → p ≡ Proving
 proving_by Proving r ns l a = refl
 proving_by p r ns l a = absurd cc
 
-proving_hence : (p : Section) (l : RawLit) → allowed p (rawlines.Hence l) ≡ true → p ≡ Proving
+proving_hence : (p : Section) (l : RawLit) → line_may_come p (rawlines.Hence l) ≡ true → p ≡ Proving
 proving_hence Proving l a = refl
 proving_hence p l a = absurd cc
 
-proving_let : (p : Section) (l : RawLet) → allowed p (rawlines.Let l) ≡ true → p ≡ Proving
+proving_let : (p : Section) (l : RawLet) → line_may_come p (rawlines.Let l) ≡ true → p ≡ Proving
 proving_let Proving l a = refl
 proving_let p l a = absurd cc
 
-proving_apply : (p : Section) (a : RawApply) → allowed p (rawlines.Apply a) ≡ true → p ≡ Proving
+proving_apply : (p : Section) (a : RawApply) → line_may_come p (rawlines.Apply a) ≡ true → p ≡ Proving
 proving_apply Proving a h = refl
 proving_apply p a h = absurd cc
 
-proving_qed : (p : Section) (ns : List (List ℕ)) → allowed p (rawlines.Qed ns) ≡ true → p ≡ Proving
+proving_qed : (p : Section) (ns : List (List ℕ)) → line_may_come p (rawlines.Qed ns) ≡ true → p ≡ Proving
 proving_qed Proving ns a = refl
 proving_qed p ns a = absurd cc
 
-proving_contradiction : (p : Section) → allowed p rawlines.Contradiction ≡ true → p ≡ Proving
+proving_contradiction : (p : Section) → line_may_come p rawlines.Contradiction ≡ true → p ≡ Proving
 proving_contradiction Proving a = refl
 proving_contradiction p a = absurd cc
 
-proving_claim : (p : Section) (ls : List RawLit) → allowed p (rawlines.Claim ls) ≡ true → p ≡ Proving
+proving_claim : (p : Section) (ls : List RawLit) → line_may_come p (rawlines.Claim ls) ≡ true → p ≡ Proving
 proving_claim Proving ls a = refl
 proving_claim p ls a = absurd cc
 
-proving_superpose : (p : Section) (s : RawSuperpose) → allowed p (rawlines.Superpose s) ≡ true → p ≡ Proving
+proving_superpose : (p : Section) (s : RawSuperpose) → line_may_come p (rawlines.Superpose s) ≡ true → p ≡ Proving
 proving_superpose Proving s a = refl
 proving_superpose p s a = absurd cc
 
-proving_cases : (p : Section) (l : RawLit) → allowed p (rawlines.Cases l) ≡ true → p ≡ Proving
+proving_cases : (p : Section) (l : RawLit) → line_may_come p (rawlines.Cases l) ≡ true → p ≡ Proving
 proving_cases Proving l a = refl
 proving_cases p l a = absurd cc
 
-splitting : (p : Section) → allowed p rawlines.Else ≡ true → p ≡ Splitting
+splitting : (p : Section) → line_may_come p rawlines.Else ≡ true → p ≡ Splitting
 splitting Splitting a = refl
 splitting p a = absurd cc
 
 -- a closed proof
-closed : (known : List TitledStatement) (p : Section) (d : TheoremParser) → allowed p rawlines.End ≡ true → Body known p d → ShutOf known d
+closed : (known : List TitledStatement) (p : Section) (d : TheoremParser) → line_may_come p rawlines.End ≡ true → Body known p d → ShutOf known d
 closed known Closed d a b = b
 closed known p d a b = absurd cc
 
-keeps_end : (known : List TitledStatement) (d e : TheoremParser) → Good known d → allowed d.section rawlines.End ≡ true → stepped known d rawlines.End ≡ Ok e → Good known e
-unfolding stepped
+keeps_end : (known : List TitledStatement) (d e : TheoremParser) → Good known d → line_may_come d.section rawlines.End ≡ true → after_line known d rawlines.End ≡ Ok e → Good known e
+unfolding after_line
 keeps_end known d e g a h = subst (λ (y : TheoremParser). Good known y) (ok_is (record d { section = Done }) e h) (record { head = g.head; body = closed known d.section d a g.body })
 
 -- ---- all lines
 
-pub no_title : (known : List TitledStatement) (d e : TheoremParser) (t : List ℕ) → stepped known d (rawlines.Theorem t) ≡ Ok e → ⊥
-unfolding stepped
+pub no_title : (known : List TitledStatement) (d e : TheoremParser) (t : List ℕ) → after_line known d (rawlines.Theorem t) ≡ Ok e → ⊥
+unfolding after_line
 no_title known d e t h = absurd cc
 
-keeps_stepped : (known : List TitledStatement) (d e : TheoremParser) (f : RawLine) → Good known d → allowed d.section f ≡ true → Said f → stepped known d f ≡ Ok e → Good known e
+keeps_stepped : (known : List TitledStatement) (d e : TheoremParser) (f : RawLine) → Good known d → line_may_come d.section f ≡ true → Said f → after_line known d f ≡ Ok e → Good known e
 keeps_stepped known d e (rawlines.Theorem t) g a s h = absurd (no_title known d e t h)
 keeps_stepped known d e (rawlines.Declare sort ns) g a s h = keeps_declare known d e sort ns g a h
 keeps_stepped known d e (rawlines.Given raws) g a s h = keeps_given known d e raws g a s h
@@ -339,11 +339,11 @@ keeps_stepped known d e rawlines.End g a s h = keeps_end known d e g a h
 
 pub keeps : (known : List TitledStatement) (d e : TheoremParser) (f : RawLine) → Good known d → Said f → step known d f ≡ Ok e → Good known e
 unfolding step
-keeps known d e f g said h = let p = passes (allowed d.section f) (stepped known d f) e h in keeps_stepped known d e f g p.0 said p.1
+keeps known d e f g said h = let p = passes (line_may_come d.section f) (after_line known d f) e h in keeps_stepped known d e f g p.0 said p.1
 
-pub good_begun : (known : List TitledStatement) (t : List ℕ) → is_known known t ≡ false → Good known (begun t)
+pub good_begun : (known : List TitledStatement) (t : List ℕ) → is_known known t ≡ false → Good known (with_title t)
 good_begun known t n =
-    let head : HeadOf known (begun t) = record {
+    let head : HeadOf known (with_title t) = record {
       new = n;
       scope = refl;
       differ = record { points = refl; lines = refl; circles = refl; points_lines = refl; points_circles = refl; lines_circles = refl };
@@ -355,15 +355,15 @@ good_begun known t n =
       few_given = omega arith;
       few_terms = omega arith;
     } in
-    let none : NoProofOf (begun t) = record { steps = refl; blocks = refl; lines = refl; facts = refl; terms = refl } in
+    let none : NoProofOf (with_title t) = record { steps = refl; blocks = refl; lines = refl; facts = refl; terms = refl } in
     record { head = head; body = (refl, refl, refl, none) }
 
 pub keeps_begin : (known : List TitledStatement) (f : RawLine) (e : TheoremParser) → begin known f ≡ Ok e → Good known e
 unfolding begin
 keeps_begin known (rawlines.Theorem t) e h =
-    let n = untaken (is_known known t) (within (length known + 1) most_theorems limits.Theorems >>= λ few. read_ok (begun t)) e h in
-    let w = bind_ok (within (length known + 1) most_theorems limits.Theorems) (λ few. read_ok (begun t)) e n.1 in
-    subst (λ (y : TheoremParser). Good known y) (ok_is (begun t) e w.2) (good_begun known t n.0)
+    let n = untaken (is_known known t) (within (length known + 1) most_theorems limits.Theorems >>= λ few. read_ok (with_title t)) e h in
+    let w = bind_ok (within (length known + 1) most_theorems limits.Theorems) (λ few. read_ok (with_title t)) e n.1 in
+    subst (λ (y : TheoremParser). Good known y) (ok_is (with_title t) e w.2) (good_begun known t n.0)
 keeps_begin known f e h = absurd cc
 
 abbrev GoodSoFar : List TitledStatement → Option TheoremParser → Type 0

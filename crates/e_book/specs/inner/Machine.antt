@@ -30,7 +30,8 @@ use Rattle.e_line.specs.Limits.{most_theorems, most_notions, most_expanded, with
 use Rattle.e_names.specs.Scope.{right_count, fresh}
 use Rattle.e_names.specs.Superposes.{placed_in}
 use Rattle.e_names.specs.Canonical.{raw_of}
-use Rattle.e_book.specs.Steps.{allowed, declares, shows, begun, begin, FitsScope}
+use Rattle.e_book.specs.Steps.{line_may_come, after_declare, after_show, with_title, begin}
+use Rattle.e_book.specs.Steps.{FitsScope}
 use Rattle.e_book.specs.Steps as steps
 use Rattle.e_book.specs.Book.{is_last}
 use Rattle.e_book.specs.ParserViews.{entry_of_parser}
@@ -58,7 +59,7 @@ head_names ns line = Ok tt
 -- a line that takes literals may come here
 abbrev pub is_ready : TheoremParser → Listing → Result (Unit {0}) FaultKind
 is_ready d line =
-    right_count (allowed d.section (listing_raw_line line []))
+    right_count (line_may_come d.section (listing_raw_line line []))
     >>= λ right. head_names d.in_scope line
 
 -- the line with its items written out, and how many literals are of notions
@@ -82,7 +83,7 @@ unfoldable pub begins_definition : Known → List ℕ → Result Coming FaultKin
 begins_definition known t =
     if is_taken known t then Err NameTaken else
     (within (length known.notions + 1) most_notions limits.Notions
-    >>= λ few. Ok (coming true (begun t)))
+    >>= λ few. Ok (coming true (with_title t)))
 
 unfoldable pub begins : Known → BookLine → Result Coming FaultKind
 begins known (Plain f) = begins_theorem known f
@@ -97,9 +98,10 @@ is_showing p = false
 
 unfoldable pub defines_on : TheoremParser → RawLine → Result TheoremParser FaultKind
 defines_on d (rawlines.Declare sort new) =
-    right_count (allowed d.section (rawlines.Declare sort new)) >>= λ right. declares d sort new
+    right_count (line_may_come d.section (rawlines.Declare sort new))
+    >>= λ right. after_declare d sort new
 defines_on d (rawlines.Show raws) =
-    right_count (allowed d.section (rawlines.Show raws)) >>= λ right. shows d raws
+    right_count (line_may_come d.section (rawlines.Show raws)) >>= λ right. after_show d raws
 defines_on d rawlines.End =
     right_count (is_showing d.section) >>= λ right. Ok (record d { section = Done })
 defines_on d f = Err Malformed

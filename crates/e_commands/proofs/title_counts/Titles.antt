@@ -25,13 +25,13 @@ use Rattle.e_line.specs.Literals.{lit_of, diagram_lit_of, lits_of}
 use Rattle.e_line.specs.Superposes.{superpose_of}
 use Rattle.e_line.specs.Lets.{let_of}
 use Rattle.e_line.specs.Applies.{apply_of}
-use Rattle.e_line.specs.RawLines.{declare_of, sort_of, made_of, by_of, theorem_line_of, bare, raw_line_named}
+use Rattle.e_line.specs.RawLines.{declare_of, sort_of, made_of, by_of, theorem_line_of, bare_line, raw_line_named}
 use Rattle.e_names.specs.TitledStatements.{TitledStatement}
 use Rattle.e_book.specs.TheoremViews.{TheoremView}
 use Rattle.e_names.specs.Taken.{nothing_known, is_taken}
 use Rattle.e_names.specs.Titled.{Titled}
 use Rattle.e_line.specs.Limits.{most_notions, most_expanded}
-use Rattle.e_line.specs.Items.{has_item, items_of, define_of, placing_of, listed, line_named, book_line_of, is_show}
+use Rattle.e_line.specs.Items.{has_item, items_of, define_of, placing_of, line_with_items, line_named, book_line_of, is_show}
 use Rattle.e_book.specs.Open.{Open, Head, Stating, Proving, Splitting, Proved, Ended}
 use Rattle.e_book.specs.Counts.{all_kept, limits_kept}
 use Rattle.e_book.specs.Grammar.{begins, empty_head, is_empty, next, line_after, theorem_ended, is_skipped, put_at, Rest}
@@ -112,26 +112,26 @@ cited ws =
     (read_on (names_of parts.0) (λ ns. diagram_lit_of parts.1 >>= λ l. read_ok (rawlines.By r.0 ns l)) (λ ns. read_on (diagram_lit_of parts.1) (λ l. read_ok (rawlines.By r.0 ns l)) (λ l. tt)))
     tt)
 
-alone : (ws : List (List ℕ)) (raw_line : RawLine) → IsNoTitle (Ok raw_line) → IsNoTitle (bare ws raw_line)
-unfolding bare
+alone : (ws : List (List ℕ)) (raw_line : RawLine) → IsNoTitle (Ok raw_line) → IsNoTitle (bare_line ws raw_line)
+unfolding bare_line
 alone ws raw_line h = read_on (end_at ws) (λ none. read_ok raw_line) (λ none. h)
 
 no_title : (w : List ℕ) (ws : List (List ℕ)) → bytes_eq w (codes "theorem") ≡ false → IsNoTitle (raw_line_named w ws)
 unfolding raw_line_named
 no_title w ws e =
     let r20 : Result RawLine FaultKind = Err Malformed in
-    let r19 : Result RawLine FaultKind = cond (bytes_eq w (codes "end")) (bare ws rawlines.End) r20 in
-    let r18 : Result RawLine FaultKind = cond (bytes_eq w (codes "else")) (bare ws rawlines.Else) r19 in
+    let r19 : Result RawLine FaultKind = cond (bytes_eq w (codes "end")) (bare_line ws rawlines.End) r20 in
+    let r18 : Result RawLine FaultKind = cond (bytes_eq w (codes "else")) (bare_line ws rawlines.Else) r19 in
     let r17 : Result RawLine FaultKind = cond (bytes_eq w (codes "cases")) (lit_of ws >>= λ l. read_ok (rawlines.Cases l)) r18 in
     let r16 : Result RawLine FaultKind = cond (bytes_eq w (codes "superpose")) (superpose_of ws >>= λ s. read_ok (rawlines.Superpose s)) r17 in
     let r15 : Result RawLine FaultKind = cond (bytes_eq w (codes "claim")) (lits_of ws >>= λ ls. read_ok (rawlines.Claim ls)) r16 in
-    let r14 : Result RawLine FaultKind = cond (bytes_eq w (codes "contradiction")) (bare ws rawlines.Contradiction) r15 in
+    let r14 : Result RawLine FaultKind = cond (bytes_eq w (codes "contradiction")) (bare_line ws rawlines.Contradiction) r15 in
     let r13 : Result RawLine FaultKind = cond (bytes_eq w (codes "qed")) (names_of ws >>= λ ns. read_ok (rawlines.Qed ns)) r14 in
     let r12 : Result RawLine FaultKind = cond (bytes_eq w (codes "apply")) (apply_of ws >>= λ a. read_ok (rawlines.Apply a)) r13 in
     let r11 : Result RawLine FaultKind = cond (bytes_eq w (codes "let")) (let_of ws >>= λ l. read_ok (rawlines.Let l)) r12 in
     let r10 : Result RawLine FaultKind = cond (bytes_eq w (codes "hence")) (lit_of ws >>= λ l. read_ok (rawlines.Hence l)) r11 in
     let r9 : Result RawLine FaultKind = cond (bytes_eq w (codes "by")) (by_of ws) r10 in
-    let r8 : Result RawLine FaultKind = cond (bytes_eq w (codes "proof")) (bare ws rawlines.Proof) r9 in
+    let r8 : Result RawLine FaultKind = cond (bytes_eq w (codes "proof")) (bare_line ws rawlines.Proof) r9 in
     let r7 : Result RawLine FaultKind = cond (bytes_eq w (codes "show")) (lits_of ws >>= λ ls. read_ok (rawlines.Show ls)) r8 in
     let r6 : Result RawLine FaultKind = cond (bytes_eq w (codes "made")) (made_of ws) r7 in
     let r5 : Result RawLine FaultKind = cond (bytes_eq w (codes "given")) (lits_of ws >>= λ ls. read_ok (rawlines.Given ls)) r6 in
@@ -145,18 +145,18 @@ no_title w ws e =
     (chosen (bytes_eq w (codes "given")) (lits_of ws >>= λ ls. read_ok (rawlines.Given ls)) r6 (read_on (lits_of ws) (λ ls. read_ok (rawlines.Given ls)) (λ ls. tt))
     (chosen (bytes_eq w (codes "made")) (made_of ws) r7 (made ws)
     (chosen (bytes_eq w (codes "show")) (lits_of ws >>= λ ls. read_ok (rawlines.Show ls)) r8 (read_on (lits_of ws) (λ ls. read_ok (rawlines.Show ls)) (λ ls. tt))
-    (chosen (bytes_eq w (codes "proof")) (bare ws rawlines.Proof) r9 (alone ws rawlines.Proof tt)
+    (chosen (bytes_eq w (codes "proof")) (bare_line ws rawlines.Proof) r9 (alone ws rawlines.Proof tt)
     (chosen (bytes_eq w (codes "by")) (by_of ws) r10 (cited ws)
     (chosen (bytes_eq w (codes "hence")) (lit_of ws >>= λ l. read_ok (rawlines.Hence l)) r11 (read_on (lit_of ws) (λ l. read_ok (rawlines.Hence l)) (λ l. tt))
     (chosen (bytes_eq w (codes "let")) (let_of ws >>= λ l. read_ok (rawlines.Let l)) r12 (read_on (let_of ws) (λ l. read_ok (rawlines.Let l)) (λ l. tt))
     (chosen (bytes_eq w (codes "apply")) (apply_of ws >>= λ a. read_ok (rawlines.Apply a)) r13 (read_on (apply_of ws) (λ a. read_ok (rawlines.Apply a)) (λ a. tt))
     (chosen (bytes_eq w (codes "qed")) (names_of ws >>= λ ns. read_ok (rawlines.Qed ns)) r14 (read_on (names_of ws) (λ ns. read_ok (rawlines.Qed ns)) (λ ns. tt))
-    (chosen (bytes_eq w (codes "contradiction")) (bare ws rawlines.Contradiction) r15 (alone ws rawlines.Contradiction tt)
+    (chosen (bytes_eq w (codes "contradiction")) (bare_line ws rawlines.Contradiction) r15 (alone ws rawlines.Contradiction tt)
     (chosen (bytes_eq w (codes "claim")) (lits_of ws >>= λ ls. read_ok (rawlines.Claim ls)) r16 (read_on (lits_of ws) (λ ls. read_ok (rawlines.Claim ls)) (λ ls. tt))
     (chosen (bytes_eq w (codes "superpose")) (superpose_of ws >>= λ s. read_ok (rawlines.Superpose s)) r17 (read_on (superpose_of ws) (λ s. read_ok (rawlines.Superpose s)) (λ s. tt))
     (chosen (bytes_eq w (codes "cases")) (lit_of ws >>= λ l. read_ok (rawlines.Cases l)) r18 (read_on (lit_of ws) (λ l. read_ok (rawlines.Cases l)) (λ l. tt))
-    (chosen (bytes_eq w (codes "else")) (bare ws rawlines.Else) r19 (alone ws rawlines.Else tt)
-    (chosen (bytes_eq w (codes "end")) (bare ws rawlines.End) r20 (alone ws rawlines.End tt) tt))))))))))))))))))
+    (chosen (bytes_eq w (codes "else")) (bare_line ws rawlines.Else) r19 (alone ws rawlines.Else tt)
+    (chosen (bytes_eq w (codes "end")) (bare_line ws rawlines.End) r20 (alone ws rawlines.End tt) tt))))))))))))))))))
 
 -- ---- what a line says of its title
 
@@ -164,8 +164,8 @@ not_title : (f : RawLine) → IsNoTitle (Ok f) → is_title_line (Plain f) ≡ f
 not_title (rawlines.Theorem t) h = absurd h
 not_title f h = refl
 
-listed_none : (line : Listing) (ws : List (List ℕ)) (l : BookLine) → listed line ws ≡ Ok l → is_title_line l ≡ false
-unfolding listed
+listed_none : (line : Listing) (ws : List (List ℕ)) (l : BookLine) → line_with_items line ws ≡ Ok l → is_title_line l ≡ false
+unfolding line_with_items
 listed_none line ws l e = of_reading (λ m. is_title_line m ≡ false) (items_of ws) (λ is. Listed line is) l (λ is k. refl) e
 
 define_none : (ws : List (List ℕ)) (l : BookLine) → define_of ws ≡ Ok l → is_title_line l ≡ false
@@ -183,21 +183,21 @@ unfolding line_named
 line_none w ws l is e =
     let P : BookLine → Type 0 = λ m. is_title_line m ≡ false in
     let r5 : Result BookLine FaultKind = raw_line_named w ws >>= λ f. read_ok (Plain f) in
-    let placed : Result BookLine FaultKind = placing_of (take 13 ws) >>= λ line. listed line (drop 13 ws) in
+    let placed : Result BookLine FaultKind = placing_of (take 13 ws) >>= λ line. line_with_items line (drop 13 ws) in
     let b4 = bytes_eq w (codes "superpose") && has_item (drop 13 ws) in
     let r4 : Result BookLine FaultKind = cond b4 placed r5 in
     let b3 = bytes_eq w (codes "claim") && has_item ws in
-    let r3 : Result BookLine FaultKind = cond b3 (listed listings.Claim ws) r4 in
+    let r3 : Result BookLine FaultKind = cond b3 (line_with_items listings.Claim ws) r4 in
     let b2 = bytes_eq w (codes "show") && has_item ws in
-    let r2 : Result BookLine FaultKind = cond b2 (listed listings.Show ws) r3 in
+    let r2 : Result BookLine FaultKind = cond b2 (line_with_items listings.Show ws) r3 in
     let b1 = bytes_eq w (codes "given") && has_item ws in
-    let r1 : Result BookLine FaultKind = cond b1 (listed listings.Given ws) r2 in
+    let r1 : Result BookLine FaultKind = cond b1 (line_with_items listings.Given ws) r2 in
     either P (bytes_eq w (codes "define")) (define_of ws) r1 l e (define_none ws l) (λ e1.
-    either P b1 (listed listings.Given ws) r2 l e1 (listed_none listings.Given ws l) (λ e2.
-    either P b2 (listed listings.Show ws) r3 l e2 (listed_none listings.Show ws l) (λ e3.
-    either P b3 (listed listings.Claim ws) r4 l e3 (listed_none listings.Claim ws l) (λ e4.
+    either P b1 (line_with_items listings.Given ws) r2 l e1 (listed_none listings.Given ws l) (λ e2.
+    either P b2 (line_with_items listings.Show ws) r3 l e2 (listed_none listings.Show ws l) (λ e3.
+    either P b3 (line_with_items listings.Claim ws) r4 l e3 (listed_none listings.Claim ws l) (λ e4.
     either P b4 placed r5 l e4
-    (λ k. let a = bind_ok (placing_of (take 13 ws)) (λ line. listed line (drop 13 ws)) l k in listed_none a.0 (drop 13 ws) l a.2)
+    (λ k. let a = bind_ok (placing_of (take 13 ws)) (λ line. line_with_items line (drop 13 ws)) l k in listed_none a.0 (drop 13 ws) l a.2)
     (plain_none w ws l is)))))
 
 theorem_read : (ws : List (List ℕ)) (f : RawLine) → theorem_line_of ws ≡ Ok f → is_title_line (Plain f) ≡ true

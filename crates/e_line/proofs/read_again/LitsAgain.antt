@@ -16,7 +16,7 @@ use Rattle.e_line.specs.declared.literal.RawLit.{RawLit}
 use Rattle.e_line.specs.declared.literal.RawAtom.{RawAtom}
 use Rattle.e_line.specs.declared.literal.RawAtom.TheVariants as raw
 use Rattle.e_line.specs.Reading.{each}
-use Rattle.e_line.specs.Literals.{sign_of, is_sign, single_name, sums_of, equal_sides, sides_of, negation_of, compared, signed, related, signed_of, lit_of, is_diagram_raw, diagram_lit_of, is_semicolon, lits_of}
+use Rattle.e_line.specs.Literals.{sign_of, is_sign, single_name, sums_of, equal_sides, sides_of, negation_of, lit_of_sides, signed_lit, lit_by_first_word, signed_of, lit_of, is_diagram_raw, diagram_lit_of, is_semicolon, lits_of}
 use Rattle.e_line.specs.Canonical.{sum_words, sums_words, atom_words, signed_words, lit_words, more_words, lits_words}
 use Rattle.e_line.proofs.read_again.NamesAgain.{Without, named, first_place}
 use Rattle.e_line.proofs.read_again.LetsAgain.{append_tokens}
@@ -116,8 +116,8 @@ no_signs ms h = sum_all (λ w. is_sign w ≡ false) no_sign refl ms h
 -- ---- comparisons are read again
 
 comparison : (negated neg : Bool) (w : List ℕ) (s : Sign) (left right : List (List ℕ)) (a : RawAtom) → AllByRecursion (λ v. is_sign v ≡ false) left → sign_of w ≡ Some s
-    → negation_of negated s ≡ Ok neg → sides_of s left right ≡ Ok a → compared negated (left ++ w ∷ right) ≡ Ok (signed neg a)
-unfolding compared
+    → negation_of negated s ≡ Ok neg → sides_of s left right ≡ Ok a → lit_of_sides negated (left ++ w ∷ right) ≡ Ok (signed_lit neg a)
+unfolding lit_of_sides
 comparison negated neg w s left right a none is n sides =
     let all = left ++ w ∷ right in
     let sign : is_sign w ≡ true = ap is_some is in
@@ -133,38 +133,38 @@ sides_again x y h = rw (sum_again x h.left, sum_again y h.right, h.some) refl
 equal_again : (x y : List RawMono) → SidesNamed x y → equal_sides (single_name (sum_words x)) (single_name (sum_words y)) (sums_of (sum_words x) (sum_words y)) ≡ Ok (raw.SumsEqual x y)
 equal_again x y h = rw (sum_no_object x, sides_again x y h) refl
 
-sums_equal : (x y : List RawMono) → SidesNamed x y → compared false (sums_words x (codes "=") y) ≡ Ok (signed false (raw.SumsEqual x y))
+sums_equal : (x y : List RawMono) → SidesNamed x y → lit_of_sides false (sums_words x (codes "=") y) ≡ Ok (signed_lit false (raw.SumsEqual x y))
 unfolding sides_of
 sums_equal x y h = comparison false false (codes "=") signs.Equal (sum_words x) (sum_words y) (raw.SumsEqual x y) (no_signs x h.left) refl refl (equal_again x y h)
 
-sums_differ : (x y : List RawMono) → SidesNamed x y → compared false (sums_words x (codes "!=") y) ≡ Ok (signed true (raw.SumsEqual x y))
+sums_differ : (x y : List RawMono) → SidesNamed x y → lit_of_sides false (sums_words x (codes "!=") y) ≡ Ok (signed_lit true (raw.SumsEqual x y))
 unfolding sides_of
 sums_differ x y h = comparison false true (codes "!=") signs.Differ (sum_words x) (sum_words y) (raw.SumsEqual x y) (no_signs x h.left) refl refl (equal_again x y h)
 
-sums_less : (neg : Bool) (x y : List RawMono) → SidesNamed x y → compared neg (sums_words x (codes "<") y) ≡ Ok (signed neg (raw.SumsLess x y))
+sums_less : (neg : Bool) (x y : List RawMono) → SidesNamed x y → lit_of_sides neg (sums_words x (codes "<") y) ≡ Ok (signed_lit neg (raw.SumsLess x y))
 unfolding sides_of
 sums_less neg x y h = comparison neg neg (codes "<") signs.Less (sum_words x) (sum_words y) (raw.SumsLess x y) (no_signs x h.left) refl refl (rw (sides_again x y h) refl)
 
-sums_at_most : (x y : List RawMono) → SidesNamed x y → compared false (sums_words x (codes "<=") y) ≡ Ok (signed false (raw.SumsAtMost x y))
+sums_at_most : (x y : List RawMono) → SidesNamed x y → lit_of_sides false (sums_words x (codes "<=") y) ≡ Ok (signed_lit false (raw.SumsAtMost x y))
 unfolding sides_of
 sums_at_most x y h = comparison false false (codes "<=") signs.AtMost (sum_words x) (sum_words y) (raw.SumsAtMost x y) (no_signs x h.left) refl refl (rw (sides_again x y h) refl)
 
 objects_again : (neg : Bool) (w : List ℕ) (s : Sign) (x y : List ℕ) → is_name x ≡ true → is_name y ≡ true → sign_of w ≡ Some s → negation_of false s ≡ Ok neg
-    → sides_of s (x ∷ []) (y ∷ []) ≡ Ok (raw.Equal x y) → compared false (x ∷ w ∷ y ∷ []) ≡ Ok (signed neg (raw.Equal x y))
+    → sides_of s (x ∷ []) (y ∷ []) ≡ Ok (raw.Equal x y) → lit_of_sides false (x ∷ w ∷ y ∷ []) ≡ Ok (signed_lit neg (raw.Equal x y))
 objects_again neg w s x y hx hy is n sides = comparison false neg w s (x ∷ []) (y ∷ []) (raw.Equal x y) (no_sign x (name_word x hx), tt) is n sides
 
-objects_equal : (x y : List ℕ) → is_name x ≡ true → is_name y ≡ true → compared false (x ∷ codes "=" ∷ y ∷ []) ≡ Ok (signed false (raw.Equal x y))
+objects_equal : (x y : List ℕ) → is_name x ≡ true → is_name y ≡ true → lit_of_sides false (x ∷ codes "=" ∷ y ∷ []) ≡ Ok (signed_lit false (raw.Equal x y))
 unfolding sides_of
 objects_equal x y hx hy = objects_again false (codes "=") signs.Equal x y hx hy refl refl (rw (named x hx, named y hy) refl)
 
-objects_differ : (x y : List ℕ) → is_name x ≡ true → is_name y ≡ true → compared false (x ∷ codes "!=" ∷ y ∷ []) ≡ Ok (signed true (raw.Equal x y))
+objects_differ : (x y : List ℕ) → is_name x ≡ true → is_name y ≡ true → lit_of_sides false (x ∷ codes "!=" ∷ y ∷ []) ≡ Ok (signed_lit true (raw.Equal x y))
 unfolding sides_of
 objects_differ x y hx hy = objects_again true (codes "!=") signs.Differ x y hx hy refl refl (rw (named x hx, named y hy) refl)
 
 -- ---- literals are read again
 
-related_compared : (neg : Bool) (w : List ℕ) (ws : List (List ℕ)) → is_mono_word w ≡ true → related neg w ws ≡ compared neg (w ∷ ws)
-unfolding related
+related_compared : (neg : Bool) (w : List ℕ) (ws : List (List ℕ)) → is_mono_word w ≡ true → lit_by_first_word neg w ws ≡ lit_of_sides neg (w ∷ ws)
+unfolding lit_by_first_word
 related_compared neg w ws h =
     let a = mono_word_differs w (codes "on") h no_on in
     let b = mono_word_differs w (codes "inside") h no_inside in
@@ -174,43 +174,43 @@ related_compared neg w ws h =
     let f = mono_word_differs w (codes "meets") h no_meets in
     rw (a, b, c, d, e, f) refl
 
-plain_first : (w : List ℕ) (ws : List (List ℕ)) (l : RawLit) → is_mono_word w ≡ true → compared false (w ∷ ws) ≡ Ok l → lit_of (w ∷ ws) ≡ Ok l
+plain_first : (w : List ℕ) (ws : List (List ℕ)) (l : RawLit) → is_mono_word w ≡ true → lit_of_sides false (w ∷ ws) ≡ Ok l → lit_of (w ∷ ws) ≡ Ok l
 unfolding lit_of
 plain_first w ws l h e = rw (mono_word_differs w (codes "not") h no_not, related_compared false w ws h) e
 
-plain_again : (ws : List (List ℕ)) (l : RawLit) → Begins ws → compared false ws ≡ Ok l → lit_of ws ≡ Ok l
+plain_again : (ws : List (List ℕ)) (l : RawLit) → Begins ws → lit_of_sides false ws ≡ Ok l → lit_of ws ≡ Ok l
 plain_again ws l b e =
-    ap lit_of b.is ∙ plain_first b.first b.rest l b.word (sym (ap (compared false) b.is) ∙ e)
+    ap lit_of b.is ∙ plain_first b.first b.rest l b.word (sym (ap (lit_of_sides false) b.is) ∙ e)
 
-not_first : (w : List ℕ) (ws : List (List ℕ)) (l : RawLit) → is_mono_word w ≡ true → compared true (w ∷ ws) ≡ Ok l → lit_of (codes "not" ∷ w ∷ ws) ≡ Ok l
+not_first : (w : List ℕ) (ws : List (List ℕ)) (l : RawLit) → is_mono_word w ≡ true → lit_of_sides true (w ∷ ws) ≡ Ok l → lit_of (codes "not" ∷ w ∷ ws) ≡ Ok l
 unfolding lit_of signed_of
 not_first w ws l h e = related_compared true w ws h ∙ e
 
-not_again : (ws : List (List ℕ)) (l : RawLit) → Begins ws → compared true ws ≡ Ok l → lit_of (codes "not" ∷ ws) ≡ Ok l
+not_again : (ws : List (List ℕ)) (l : RawLit) → Begins ws → lit_of_sides true ws ≡ Ok l → lit_of (codes "not" ∷ ws) ≡ Ok l
 not_again ws l b e =
-    ap (λ (v : List (List ℕ)). lit_of (codes "not" ∷ v)) b.is ∙ not_first b.first b.rest l b.word (sym (ap (compared true) b.is) ∙ e)
+    ap (λ (v : List (List ℕ)). lit_of (codes "not" ∷ v)) b.is ∙ not_first b.first b.rest l b.word (sym (ap (lit_of_sides true) b.is) ∙ e)
 
-signed_again : (neg : Bool) (a : RawAtom) → AtomNamed a → MaySign neg a → lit_of (signed_words neg a) ≡ Ok (signed neg a)
-unfolding lit_of signed_of related
+signed_again : (neg : Bool) (a : RawAtom) → AtomNamed a → MaySign neg a → lit_of (signed_words neg a) ≡ Ok (signed_lit neg a)
+unfolding lit_of signed_of lit_by_first_word
 signed_again false (raw.On x y) h s = rw (two_again x y h.0 h.1) refl
 signed_again false (raw.Inside x y) h s = rw (two_again x y h.0 h.1) refl
 signed_again false (raw.Center x y) h s = rw (two_again x y h.0 h.1) refl
 signed_again false (raw.Between x y z) h s = rw (three_again x y z h.0 h.1 h.2) refl
 signed_again false (raw.Same x y z) h s = rw (three_again x y z h.0 h.1 h.2) refl
 signed_again false (raw.Meets x y) h s = rw (two_again x y h.0 h.1) refl
-signed_again false (raw.Equal x y) h s = plain_first x (codes "=" ∷ y ∷ []) (signed false (raw.Equal x y)) (name_word x h.0) (objects_equal x y h.0 h.1)
-signed_again false (raw.SumsEqual x y) h s = plain_again (sums_words x (codes "=") y) (signed false (raw.SumsEqual x y)) (sum_begins x (codes "=" ∷ sum_words y) h.left) (sums_equal x y h)
-signed_again false (raw.SumsLess x y) h s = plain_again (sums_words x (codes "<") y) (signed false (raw.SumsLess x y)) (sum_begins x (codes "<" ∷ sum_words y) h.left) (sums_less false x y h)
-signed_again false (raw.SumsAtMost x y) h s = plain_again (sums_words x (codes "<=") y) (signed false (raw.SumsAtMost x y)) (sum_begins x (codes "<=" ∷ sum_words y) h.left) (sums_at_most x y h)
+signed_again false (raw.Equal x y) h s = plain_first x (codes "=" ∷ y ∷ []) (signed_lit false (raw.Equal x y)) (name_word x h.0) (objects_equal x y h.0 h.1)
+signed_again false (raw.SumsEqual x y) h s = plain_again (sums_words x (codes "=") y) (signed_lit false (raw.SumsEqual x y)) (sum_begins x (codes "=" ∷ sum_words y) h.left) (sums_equal x y h)
+signed_again false (raw.SumsLess x y) h s = plain_again (sums_words x (codes "<") y) (signed_lit false (raw.SumsLess x y)) (sum_begins x (codes "<" ∷ sum_words y) h.left) (sums_less false x y h)
+signed_again false (raw.SumsAtMost x y) h s = plain_again (sums_words x (codes "<=") y) (signed_lit false (raw.SumsAtMost x y)) (sum_begins x (codes "<=" ∷ sum_words y) h.left) (sums_at_most x y h)
 signed_again true (raw.On x y) h s = rw (two_again x y h.0 h.1) refl
 signed_again true (raw.Inside x y) h s = rw (two_again x y h.0 h.1) refl
 signed_again true (raw.Center x y) h s = rw (two_again x y h.0 h.1) refl
 signed_again true (raw.Between x y z) h s = rw (three_again x y z h.0 h.1 h.2) refl
 signed_again true (raw.Same x y z) h s = rw (three_again x y z h.0 h.1 h.2) refl
 signed_again true (raw.Meets x y) h s = rw (two_again x y h.0 h.1) refl
-signed_again true (raw.Equal x y) h s = plain_first x (codes "!=" ∷ y ∷ []) (signed true (raw.Equal x y)) (name_word x h.0) (objects_differ x y h.0 h.1)
-signed_again true (raw.SumsEqual x y) h s = plain_again (sums_words x (codes "!=") y) (signed true (raw.SumsEqual x y)) (sum_begins x (codes "!=" ∷ sum_words y) h.left) (sums_differ x y h)
-signed_again true (raw.SumsLess x y) h s = not_again (sums_words x (codes "<") y) (signed true (raw.SumsLess x y)) (sum_begins x (codes "<" ∷ sum_words y) h.left) (sums_less true x y h)
+signed_again true (raw.Equal x y) h s = plain_first x (codes "!=" ∷ y ∷ []) (signed_lit true (raw.Equal x y)) (name_word x h.0) (objects_differ x y h.0 h.1)
+signed_again true (raw.SumsEqual x y) h s = plain_again (sums_words x (codes "!=") y) (signed_lit true (raw.SumsEqual x y)) (sum_begins x (codes "!=" ∷ sum_words y) h.left) (sums_differ x y h)
+signed_again true (raw.SumsLess x y) h s = not_again (sums_words x (codes "<") y) (signed_lit true (raw.SumsLess x y)) (sum_begins x (codes "<" ∷ sum_words y) h.left) (sums_less true x y h)
 signed_again true (raw.SumsAtMost x y) h s = absurd s
 
 pub lit_again : (l : RawLit) → LitNamed l → lit_of (lit_words l) ≡ Ok l

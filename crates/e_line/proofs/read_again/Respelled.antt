@@ -11,7 +11,7 @@ use Rattle.e_line.specs.declared.raw_line.RawLine.{RawLine}
 use Rattle.e_line.specs.declared.raw_line.RawLine.TheVariants as rawlines
 use Rattle.e_line.specs.Reading.{◌>>=◌, word_at, first_title, end_at, cut_at, names_of}
 use Rattle.e_line.specs.Literals.{is_diagram_raw, diagram_lit_of}
-use Rattle.e_line.specs.RawLines.{declare_of, sort_of, made_of, by_of, theorem_line_of, bare, raw_line_named, raw_line_of}
+use Rattle.e_line.specs.RawLines.{declare_of, sort_of, made_of, by_of, theorem_line_of, bare_line, raw_line_named, raw_line_of}
 use Rattle.e_line.specs.Canonical.{lit_words, sort_word, raw_line_words}
 use Rattle.e_line.specs.HasSpelling.{AreNames}
 use Rattle.e_line.proofs.base.Bound.{name_differs}
@@ -77,7 +77,7 @@ by_again r ns l hr hns hl hd =
     one ∙ ap (by_rest r) (cut_again (codes ":") ns (lit_words l) (no_colon ns hns)) ∙ rw (names_again ns hns, diagram_again l hl hd) refl
 
 pub form_again : (f : RawLine) → GoodForm f → raw_line_of (raw_line_words f) ≡ Ok (as_read f)
-unfolding raw_line_of raw_line_named theorem_line_of bare first_title word_at end_at
+unfolding raw_line_of raw_line_named theorem_line_of bare_line first_title word_at end_at
 form_again (rawlines.Theorem t) h = rw (titled t h) refl
 form_again (rawlines.Declare sort []) h = absurd h
 form_again (rawlines.Declare sorts.Point (n ∷ ns)) h = declare_again sorts.Point n ns h

@@ -18,7 +18,7 @@ use Rattle.e_line.specs.Lets.{are_words_of, new_words, argument_words}
 use Rattle.e_line.specs.Superposes.{superpose_pieces}
 use Rattle.e_line.specs.RawLines.{raw_line_named, raw_line_of}
 use Rattle.e_line.specs.HasSpelling.{AreNames}
-use Rattle.e_line.specs.Items.{is_as, as_of, item_of, items_of, has_item, define_of, placing_of, listed, line_named, book_line_of}
+use Rattle.e_line.specs.Items.{is_as, as_of, item_of, items_of, has_item, define_of, placing_of, line_with_items, line_named, book_line_of}
 use Rattle.e_line.proofs.base.Bound.{bind_ok, ok_is, read_ok, each_length}
 use Rattle.e_line.proofs.base.Choices.{either, passed, of_reading}
 use Rattle.e_line.proofs.read_lines.SumsOfLiterals.{lit_said}
@@ -62,8 +62,8 @@ items_said ws is e =
 
 -- ---- lines
 
-listed_said : (words : List (List ℕ)) (line : Listing) (ws : List (List ℕ)) (l : BookLine) → ListingSaid line → listed line ws ≡ Ok l → LineSaid words l
-unfolding listed
+listed_said : (words : List (List ℕ)) (line : Listing) (ws : List (List ℕ)) (l : BookLine) → ListingSaid line → line_with_items line ws ≡ Ok l → LineSaid words l
+unfolding line_with_items
 listed_said words line ws l h e = of_reading (LineSaid words) (items_of ws) (λ is. Listed line is) l (λ is k. (h, (items_said ws is k).0, (items_said ws is k).1)) e
 
 define_said : (words ws : List (List ℕ)) (l : BookLine) → define_of ws ≡ Ok l → LineSaid words l
@@ -91,21 +91,21 @@ unfolding line_named
 named_said w ws l e =
     let P : BookLine → Type 0 = LineSaid (w ∷ ws) in
     let r5 : Result BookLine FaultKind = raw_line_named w ws >>= λ f. read_ok (Plain f) in
-    let placed : Result BookLine FaultKind = placing_of (take 13 ws) >>= λ line. listed line (drop 13 ws) in
+    let placed : Result BookLine FaultKind = placing_of (take 13 ws) >>= λ line. line_with_items line (drop 13 ws) in
     let b4 = bytes_eq w (codes "superpose") && has_item (drop 13 ws) in
     let r4 : Result BookLine FaultKind = cond b4 placed r5 in
     let b3 = bytes_eq w (codes "claim") && has_item ws in
-    let r3 : Result BookLine FaultKind = cond b3 (listed listings.Claim ws) r4 in
+    let r3 : Result BookLine FaultKind = cond b3 (line_with_items listings.Claim ws) r4 in
     let b2 = bytes_eq w (codes "show") && has_item ws in
-    let r2 : Result BookLine FaultKind = cond b2 (listed listings.Show ws) r3 in
+    let r2 : Result BookLine FaultKind = cond b2 (line_with_items listings.Show ws) r3 in
     let b1 = bytes_eq w (codes "given") && has_item ws in
-    let r1 : Result BookLine FaultKind = cond b1 (listed listings.Given ws) r2 in
+    let r1 : Result BookLine FaultKind = cond b1 (line_with_items listings.Given ws) r2 in
     either P (bytes_eq w (codes "define")) (define_of ws) r1 l e (define_said (w ∷ ws) ws l) (λ e1.
-    either P b1 (listed listings.Given ws) r2 l e1 (listed_said (w ∷ ws) listings.Given ws l tt) (λ e2.
-    either P b2 (listed listings.Show ws) r3 l e2 (listed_said (w ∷ ws) listings.Show ws l tt) (λ e3.
-    either P b3 (listed listings.Claim ws) r4 l e3 (listed_said (w ∷ ws) listings.Claim ws l tt) (λ e4.
+    either P b1 (line_with_items listings.Given ws) r2 l e1 (listed_said (w ∷ ws) listings.Given ws l tt) (λ e2.
+    either P b2 (line_with_items listings.Show ws) r3 l e2 (listed_said (w ∷ ws) listings.Show ws l tt) (λ e3.
+    either P b3 (line_with_items listings.Claim ws) r4 l e3 (listed_said (w ∷ ws) listings.Claim ws l tt) (λ e4.
     either P b4 placed r5 l e4
-    (λ k. let a = bind_ok (placing_of (take 13 ws)) (λ line. listed line (drop 13 ws)) l k in listed_said (w ∷ ws) a.0 (drop 13 ws) l (placing_said (take 13 ws) a.0 a.1) a.2)
+    (λ k. let a = bind_ok (placing_of (take 13 ws)) (λ line. line_with_items line (drop 13 ws)) l k in listed_said (w ∷ ws) a.0 (drop 13 ws) l (placing_said (take 13 ws) a.0 a.1) a.2)
     (plain_said w ws l)))))
 
 pub line_read_as : (words : List (List ℕ)) (l : BookLine) → book_line_of words ≡ Ok l → LineSaid words l

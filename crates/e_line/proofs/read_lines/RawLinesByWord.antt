@@ -17,7 +17,7 @@ use Rattle.e_line.specs.Literals.{lit_of, diagram_lit_of, lits_of}
 use Rattle.e_line.specs.Superposes.{superpose_of}
 use Rattle.e_line.specs.Lets.{let_of}
 use Rattle.e_line.specs.Applies.{apply_of}
-use Rattle.e_line.specs.RawLines.{declare_of, sort_of, made_of, by_of, theorem_line_of, bare, raw_line_named, raw_line_of}
+use Rattle.e_line.specs.RawLines.{declare_of, sort_of, made_of, by_of, theorem_line_of, bare_line, raw_line_named, raw_line_of}
 use Rattle.e_line.proofs.base.Bound.{bind_ok, read_ok}
 use Rattle.e_line.proofs.base.Choices.{either, passed, of_reading}
 
@@ -68,8 +68,8 @@ by_by_word P h ws f e =
     let c = bind_ok (names_of parts.0) (λ ns. diagram_lit_of parts.1 >>= λ l. read_ok (rawlines.By a.0.0 ns l)) f b.1 in
     of_reading P (diagram_lit_of parts.1) (λ l. rawlines.By a.0.0 c.0 l) f (h.of_by a.0.0 c.0 parts.1) c.2
 
-bare_by_word : (P : RawLine → Type 0) (ws : List (List ℕ)) (g f : RawLine) → P g → bare ws g ≡ Ok f → P f
-unfolding bare
+bare_by_word : (P : RawLine → Type 0) (ws : List (List ℕ)) (g f : RawLine) → P g → bare_line ws g ≡ Ok f → P f
+unfolding bare_line
 bare_by_word P ws g f h e = of_reading P (end_at ws) (λ none. g) f (λ none k. h) e
 
 no_form : (P : RawLine → Type 0) (f : RawLine) → Err Malformed ≡ read_ok f → P f
@@ -79,18 +79,18 @@ named_by_word : (P : RawLine → Type 0) → OfEachForm P → (w : List ℕ) (ws
 unfolding raw_line_named
 named_by_word P h w ws f e =
     let r20 : Result RawLine FaultKind = Err Malformed in
-    let r19 : Result RawLine FaultKind = cond (bytes_eq w (codes "end")) (bare ws rawlines.End) r20 in
-    let r18 : Result RawLine FaultKind = cond (bytes_eq w (codes "else")) (bare ws rawlines.Else) r19 in
+    let r19 : Result RawLine FaultKind = cond (bytes_eq w (codes "end")) (bare_line ws rawlines.End) r20 in
+    let r18 : Result RawLine FaultKind = cond (bytes_eq w (codes "else")) (bare_line ws rawlines.Else) r19 in
     let r17 : Result RawLine FaultKind = cond (bytes_eq w (codes "cases")) (lit_of ws >>= λ l. read_ok (rawlines.Cases l)) r18 in
     let r16 : Result RawLine FaultKind = cond (bytes_eq w (codes "superpose")) (superpose_of ws >>= λ s. read_ok (rawlines.Superpose s)) r17 in
     let r15 : Result RawLine FaultKind = cond (bytes_eq w (codes "claim")) (lits_of ws >>= λ ls. read_ok (rawlines.Claim ls)) r16 in
-    let r14 : Result RawLine FaultKind = cond (bytes_eq w (codes "contradiction")) (bare ws rawlines.Contradiction) r15 in
+    let r14 : Result RawLine FaultKind = cond (bytes_eq w (codes "contradiction")) (bare_line ws rawlines.Contradiction) r15 in
     let r13 : Result RawLine FaultKind = cond (bytes_eq w (codes "qed")) (names_of ws >>= λ ns. read_ok (rawlines.Qed ns)) r14 in
     let r12 : Result RawLine FaultKind = cond (bytes_eq w (codes "apply")) (apply_of ws >>= λ a. read_ok (rawlines.Apply a)) r13 in
     let r11 : Result RawLine FaultKind = cond (bytes_eq w (codes "let")) (let_of ws >>= λ l. read_ok (rawlines.Let l)) r12 in
     let r10 : Result RawLine FaultKind = cond (bytes_eq w (codes "hence")) (lit_of ws >>= λ l. read_ok (rawlines.Hence l)) r11 in
     let r9 : Result RawLine FaultKind = cond (bytes_eq w (codes "by")) (by_of ws) r10 in
-    let r8 : Result RawLine FaultKind = cond (bytes_eq w (codes "proof")) (bare ws rawlines.Proof) r9 in
+    let r8 : Result RawLine FaultKind = cond (bytes_eq w (codes "proof")) (bare_line ws rawlines.Proof) r9 in
     let r7 : Result RawLine FaultKind = cond (bytes_eq w (codes "show")) (lits_of ws >>= λ ls. read_ok (rawlines.Show ls)) r8 in
     let r6 : Result RawLine FaultKind = cond (bytes_eq w (codes "made")) (made_of ws) r7 in
     let r5 : Result RawLine FaultKind = cond (bytes_eq w (codes "given")) (lits_of ws >>= λ ls. read_ok (rawlines.Given ls)) r6 in
@@ -104,18 +104,18 @@ named_by_word P h w ws f e =
     either P (bytes_eq w (codes "given")) (lits_of ws >>= λ ls. read_ok (rawlines.Given ls)) r6 f e4 (of_reading P (lits_of ws) (λ ls. rawlines.Given ls) f (h.of_given ws)) (λ e5.
     either P (bytes_eq w (codes "made")) (made_of ws) r7 f e5 (made_by_word P h ws f) (λ e6.
     either P (bytes_eq w (codes "show")) (lits_of ws >>= λ ls. read_ok (rawlines.Show ls)) r8 f e6 (of_reading P (lits_of ws) (λ ls. rawlines.Show ls) f (h.of_show ws)) (λ e7.
-    either P (bytes_eq w (codes "proof")) (bare ws rawlines.Proof) r9 f e7 (bare_by_word P ws rawlines.Proof f h.of_proof) (λ e8.
+    either P (bytes_eq w (codes "proof")) (bare_line ws rawlines.Proof) r9 f e7 (bare_by_word P ws rawlines.Proof f h.of_proof) (λ e8.
     either P (bytes_eq w (codes "by")) (by_of ws) r10 f e8 (by_by_word P h ws f) (λ e9.
     either P (bytes_eq w (codes "hence")) (lit_of ws >>= λ l. read_ok (rawlines.Hence l)) r11 f e9 (of_reading P (lit_of ws) (λ l. rawlines.Hence l) f (h.of_hence ws)) (λ e10.
     either P (bytes_eq w (codes "let")) (let_of ws >>= λ l. read_ok (rawlines.Let l)) r12 f e10 (of_reading P (let_of ws) (λ l. rawlines.Let l) f (h.of_let ws)) (λ e11.
     either P (bytes_eq w (codes "apply")) (apply_of ws >>= λ a. read_ok (rawlines.Apply a)) r13 f e11 (of_reading P (apply_of ws) (λ a. rawlines.Apply a) f (h.of_apply ws)) (λ e12.
     either P (bytes_eq w (codes "qed")) (names_of ws >>= λ ns. read_ok (rawlines.Qed ns)) r14 f e12 (of_reading P (names_of ws) (λ ns. rawlines.Qed ns) f (λ ns k. h.of_qed ns)) (λ e13.
-    either P (bytes_eq w (codes "contradiction")) (bare ws rawlines.Contradiction) r15 f e13 (bare_by_word P ws rawlines.Contradiction f h.of_contradiction) (λ e14.
+    either P (bytes_eq w (codes "contradiction")) (bare_line ws rawlines.Contradiction) r15 f e13 (bare_by_word P ws rawlines.Contradiction f h.of_contradiction) (λ e14.
     either P (bytes_eq w (codes "claim")) (lits_of ws >>= λ ls. read_ok (rawlines.Claim ls)) r16 f e14 (of_reading P (lits_of ws) (λ ls. rawlines.Claim ls) f (h.of_claim ws)) (λ e15.
     either P (bytes_eq w (codes "superpose")) (superpose_of ws >>= λ s. read_ok (rawlines.Superpose s)) r17 f e15 (of_reading P (superpose_of ws) (λ s. rawlines.Superpose s) f (h.of_superpose ws)) (λ e16.
     either P (bytes_eq w (codes "cases")) (lit_of ws >>= λ l. read_ok (rawlines.Cases l)) r18 f e16 (of_reading P (lit_of ws) (λ l. rawlines.Cases l) f (h.of_cases ws)) (λ e17.
-    either P (bytes_eq w (codes "else")) (bare ws rawlines.Else) r19 f e17 (bare_by_word P ws rawlines.Else f h.of_else) (λ e18.
-    either P (bytes_eq w (codes "end")) (bare ws rawlines.End) r20 f e18 (bare_by_word P ws rawlines.End f h.of_end) (no_form P f)))))))))))))))))))
+    either P (bytes_eq w (codes "else")) (bare_line ws rawlines.Else) r19 f e17 (bare_by_word P ws rawlines.Else f h.of_else) (λ e18.
+    either P (bytes_eq w (codes "end")) (bare_line ws rawlines.End) r20 f e18 (bare_by_word P ws rawlines.End f h.of_end) (no_form P f)))))))))))))))))))
 
 -- a form that is read is of one of the kinds
 pub form_by_word : (P : RawLine → Type 0) → OfEachForm P → (words : List (List ℕ)) (f : RawLine) → raw_line_of words ≡ Ok f → P f

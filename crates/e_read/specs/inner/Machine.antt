@@ -62,8 +62,9 @@ unfoldable pub with_cert_line : BlockParser → CertLine → Result BlockParser 
 with_cert_line r m = after_cert_line r.owed m >>= λ o. Ok (record r { owed = o })
 
 -- a line of a certificate, which may come in the version of the text
-unfoldable pub certified : BlockParser → List ℕ → List (List ℕ) → Result BlockParser FaultKind
-certified r line words =
+unfoldable pub parser_after_certificate : BlockParser → List ℕ → List (List ℕ)
+    → Result BlockParser FaultKind
+parser_after_certificate r line words =
     exact_cert_line line words
     >>= λ m. if cert_line_is_of r.version m then with_cert_line r m else Err Malformed
 
@@ -73,10 +74,10 @@ owed_by known d f =
     due_of known d f >>= λ new. Ok (record { names = d.in_scope; due = new; sums = None })
 
 -- a line begins a theorem, or goes on with it, and owes certificates of its own
-abbrev pub gone_on : List TitledStatement → Option TheoremParser → RawLine
+abbrev pub parser_and_owed : List TitledStatement → Option TheoremParser → RawLine
     → Result (TheoremParser × Pending) FaultKind
-gone_on known None f = begin known f >>= λ e. Ok (e, owes_nothing)
-gone_on known (Some d) f =
+parser_and_owed known None f = begin known f >>= λ e. Ok (e, owes_nothing)
+parser_and_owed known (Some d) f =
     if is_apart d f then (owed_by known d f >>= λ o. step known d f >>= λ e. Ok (e, o)) else
     Err Malformed
 
@@ -94,7 +95,7 @@ finish_line r =
 unfoldable pub with_raw_line : List TitledStatement → BlockParser → RawLine
     → Result BlockParser FaultKind
 with_raw_line known r f =
-    finish_line r >>= λ s. gone_on known s.parser f
+    finish_line r >>= λ s. parser_and_owed known s.parser f
     >>= λ e. Ok (record { version = s.version; parser = Some e.0; owed = e.1; kept = s.kept })
 
 unfoldable pub parser_after_exact_line : List TitledStatement → BlockParser → List ℕ
@@ -102,16 +103,16 @@ unfoldable pub parser_after_exact_line : List TitledStatement → BlockParser �
 parser_after_exact_line known r line = exact_line line >>= λ f. with_raw_line known r f
 
 -- a line by its words: the sign `|` comes before each line of a certificate
-unfoldable pub worded : List TitledStatement → BlockParser → List ℕ → List (List ℕ)
+unfoldable pub parser_after_words : List TitledStatement → BlockParser → List ℕ → List (List ℕ)
     → Result BlockParser FaultKind
-worded known r line [] = Err Malformed
-worded known r line (w ∷ ws) =
-    if is_bar w then certified r line ws else parser_after_exact_line known r line
+parser_after_words known r line [] = Err Malformed
+parser_after_words known r line (w ∷ ws) =
+    if is_bar w then parser_after_certificate r line ws else parser_after_exact_line known r line
 
 -- a line by its bytes
 unfoldable pub parser_after_bytes : List TitledStatement → BlockParser → List ℕ
     → Result BlockParser FaultKind
-parser_after_bytes known r line = worded known r line (tokens_of line)
+parser_after_bytes known r line = parser_after_words known r line (tokens_of line)
 
 -- each line ends with a line feed
 unfoldable pub parser_after_line : List TitledStatement → BlockParser → LineView
@@ -126,8 +127,8 @@ is_last_line known l =
     if is_lf_end l.end then bytes_eq l.bytes (last_line_of (length known)) else false
 
 -- a theorem with its certificates at their lines
-abbrev pub derived : TheoremParser → List StepCerts → TheoremView
-derived d kept =
+abbrev pub theorem_with_certs : TheoremParser → List StepCerts → TheoremView
+theorem_with_certs d kept =
     let t = entry_of_parser d in record t { script = (script_with_certs t.script kept).0 }
 
 -- the last line of a theorem has come
@@ -135,9 +136,9 @@ abbrev pub is_finished : Option TheoremParser → Bool
 is_finished None = false
 is_finished (Some d) = is_done d
 
-abbrev pub finished : Option TheoremParser → List StepCerts → Option TheoremView
-finished None kept = None
-finished (Some d) kept = if is_done d then Some (derived d kept) else None
+abbrev pub finished_theorem : Option TheoremParser → List StepCerts → Option TheoremView
+finished_theorem None kept = None
+finished_theorem (Some d) kept = if is_done d then Some (theorem_with_certs d kept) else None
 
 abbrev pub or_on : Option TheoremView → List (Result LineView LineFault)
     → Result (TextPiece × List (Result LineView LineFault)) ℕ
@@ -159,7 +160,8 @@ piece_from known last r (Err f ∷ lines) = Err (line_of_fault f)
 piece_from known last r (Ok line ∷ lines) =
     if is_end known r.parser line then Ok (Last, lines) else
     (garbled_at line.number (parser_after_line known r line)
-    >>= λ next. or_on (finished next.parser next.kept) lines (piece_from known last next lines))
+    >>= λ next. or_on (finished_theorem next.parser next.kept) lines
+    (piece_from known last next lines))
 
 -- what a line made of a block, unless memory ran out
 abbrev pub LineReads : Result (Unit {0}) TextFault → BlockParser → Result BlockParser ℕ → Type 0
@@ -183,7 +185,7 @@ ProgressIs known old line new (Ok turns.Last) =
     (last : ℕ) (rest : List (Result LineView LineFault))
     → piece_from known last old (Ok line ∷ rest) ≡ Ok (Last, rest)
 ProgressIs known old line new (Ok turns.Complete) = IsTrue (is_finished new.parser)
-    × ((t : TheoremView) → finished new.parser new.kept ≡ Some t → (last : ℕ)
+    × ((t : TheoremView) → finished_theorem new.parser new.kept ≡ Some t → (last : ℕ)
     (rest : List (Result LineView LineFault))
     → piece_from known last old (Ok line ∷ rest) ≡ Ok (Derived t, rest))
 ProgressIs known old line new (Ok turns.Continue) =

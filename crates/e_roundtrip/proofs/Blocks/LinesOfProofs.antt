@@ -48,7 +48,7 @@ use Rattle.e_names.specs.Applies.{count_blanks, apply_in}
 use Rattle.e_book.specs.Book.{is_last}
 use Rattle.e_line.specs.LineLimits.{few_monos}
 use Rattle.e_book.specs.LineLimits.{few_objects}
-use Rattle.e_book.specs.Steps.{with_step, terms_after_raw, terms_after, with_terms, built, used_by, applied, outer_of, interrupted, deeper, claimed, superposed, split, shut, stepped}
+use Rattle.e_book.specs.Steps.{with_step, terms_after_raw, terms_after, with_terms, after_let, with_use, after_apply, outer_of, inside_block, inside_if_room, after_claim, after_superpose, after_cases, after_close_line, after_line}
 use Rattle.e_line.specs.Canonical.{line_of}
 use Rattle.e_names.specs.Canonical.{by_raw_line, hence_raw_line, let_raw_line, apply_raw_line, claim_raw_line, superpose_raw_line, cases_raw_line, qed_raw_line, contradiction_raw_line}
 use Rattle.e_line.proofs.base.Bound.{bind_ok, ok_is, read_ok}
@@ -140,8 +140,8 @@ terms_go known d x e raws ks ls g w =
 -- ---- steps
 
 pub takes_by : (known : List TitledStatement) (d e : TheoremParser) (r : List ℕ) (ns : List (List ℕ)) (l : RawLit) (owes : Obligation) (ks : List StepCerts) (ls : List (List ℕ)) → d.section ≡ Proving → BodySaid known Proving d ks ls → Read (rawlines.By r ns l)
-    → due_of known d (rawlines.By r ns l) ≡ Ok owes → stepped known d (rawlines.By r ns l) ≡ Ok e → Takes known d e (rawlines.By r ns l) owes ks ls
-unfolding stepped due_of
+    → due_of known d (rawlines.By r ns l) ≡ Ok owes → after_line known d (rawlines.By r ns l) ≡ Ok e → Takes known d e (rawlines.By r ns l) owes ks ls
+unfolding after_line due_of
 takes_by known d e r ns l owes ks ls p b s o h =
     let by = bind_ok (by_in d.in_scope r ns l) (λ b. with_step d (Cited b) 1) e h in
     let line = ap (λ (f : RawLine). line_of f ∷ []) (by_spelled d.in_scope r ns l by.0 s by.1) in
@@ -152,8 +152,8 @@ takes_by known d e r ns l owes ks ls p b s o h =
     (owing_nothing known d e (rawlines.By r ns l) ks ls (goes_as known d e (ks ++ []) ks (ls ++ line_of (rawlines.By r ns l) ∷ []) (ls ++ line_of (rawlines.By r ns l) ∷ []) (append-nil ks) refl goes))
 
 pub takes_hence : (known : List TitledStatement) (d e : TheoremParser) (r : RawLit) (owes : Obligation) (ks : List StepCerts) (ls : List (List ℕ)) → d.section ≡ Proving → BodySaid known Proving d ks ls → is_direct r ≡ true → Signed r
-    → due_of known d (rawlines.Hence r) ≡ Ok owes → stepped known d (rawlines.Hence r) ≡ Ok e → Takes known d e (rawlines.Hence r) owes ks ls
-unfolding stepped due_of
+    → due_of known d (rawlines.Hence r) ≡ Ok owes → after_line known d (rawlines.Hence r) ≡ Ok e → Takes known d e (rawlines.Hence r) owes ks ls
+unfolding after_line due_of
 takes_hence known d e r owes ks ls p b dir s o h =
     let ns = d.in_scope in
     let l = bind_ok (lit_in ns r) (λ l. with_step d (Inferred l None) 1 >>= λ x. with_terms x (r ∷ [])) e h in
@@ -172,9 +172,9 @@ takes_hence known d e r owes ks ls p b dir s o h =
 abbrev at_names : TheoremParser → Names → TheoremParser
 at_names d ns = record d { in_scope = ns }
 
-built_goes : (known : List TitledStatement) (d e : TheoremParser) (l : RawLet) (read : Construction) (cs : List Cert) (ks : List StepCerts) (ls : List (List ℕ)) → let_in d.in_scope l ≡ Ok read → certs_formed (scope_of_names d.in_scope) (needs_of_construction read) cs ≡ true → d.section ≡ Proving → BodySaid known Proving d ks ls → OneLine l → built d l ≡ Ok e
+built_goes : (known : List TitledStatement) (d e : TheoremParser) (l : RawLet) (read : Construction) (cs : List Cert) (ks : List StepCerts) (ls : List (List ℕ)) → let_in d.in_scope l ≡ Ok read → certs_formed (scope_of_names d.in_scope) (needs_of_construction read) cs ≡ true → d.section ≡ Proving → BodySaid known Proving d ks ls → OneLine l → after_let d l ≡ Ok e
     → Goes known d e (ks ++ kept.Certs cs ∷ []) (ls ++ line_of (rawlines.Let l) ∷ certs_lines d.in_scope cs)
-unfolding built
+unfolding after_let
 built_goes known d e l read cs ks ls r c p b s h =
     let ns = d.in_scope in
     let after : Construction → Names = λ form. named ns (sorts_made form) l.new in
@@ -191,16 +191,16 @@ built_goes known d e l read cs ks ls r c p b s h =
     step_goes known d (at_names d (after form.0)) e (Made form.0 l.new []) (length (gives_of_construction form.0 (scope_of_names ns))) (ks ++ kept.Certs cs ∷ []) (ls ++ lines) refl p blocks few.2
 
 pub takes_let : (known : List TitledStatement) (d e : TheoremParser) (l : RawLet) (owes : Obligation) (ks : List StepCerts) (ls : List (List ℕ)) → d.section ≡ Proving → BodySaid known Proving d ks ls → OneLine l
-    → due_of known d (rawlines.Let l) ≡ Ok owes → stepped known d (rawlines.Let l) ≡ Ok e → Takes known d e (rawlines.Let l) owes ks ls
-unfolding stepped due_of
+    → due_of known d (rawlines.Let l) ≡ Ok owes → after_line known d (rawlines.Let l) ≡ Ok e → Takes known d e (rawlines.Let l) owes ks ls
+unfolding after_line due_of
 takes_let known d e l owes ks ls p b s o h =
     let w = bind_ok (let_in d.in_scope l) (λ construction. read_ok (one_each (needs_of_construction construction))) owes o in
     subst (λ (y : Obligation). Takes known d e (rawlines.Let l) y ks ls) (ok_is (one_each (needs_of_construction w.0)) owes w.2)
     (owing_certs known d e (rawlines.Let l) (needs_of_construction w.0) ks ls (λ cs c. built_goes known d e l w.0 cs ks ls w.1 c p b s h))
 
 used_goes : (known : List TitledStatement) (d e : TheoremParser) (t : StatementView) (theorem : ℕ) (args : List (Option Obj)) (new : List (List ℕ)) (js : List StepCerts) (ls : List (List ℕ)) → d.section ≡ Proving
-    → BlocksSaid known (start_of d) d.blocks (d.steps ++ Applied theorem args new [] ∷ []) js (named d.in_scope t.made new) ls → used_by d t theorem args new ≡ Ok e → Goes known d e js ls
-unfolding used_by
+    → BlocksSaid known (start_of d) d.blocks (d.steps ++ Applied theorem args new [] ∷ []) js (named d.in_scope t.made new) ls → with_use d t theorem args new ≡ Ok e → Goes known d e js ls
+unfolding with_use
 used_goes known d e t theorem args new js ls p b h =
     let after = named d.in_scope t.made new in
     let x : TheoremParser = at_names d after in
@@ -211,12 +211,12 @@ used_goes known d e t theorem args new js ls p b h =
     let w = bind_ok (within (count_blanks args) most_blanks limits.Blanks) (λ written. read_ok (with_count y.0 n.0)) e n.2 in
     counts_go known d y.0 e n.0 js ls (step_goes known d x y.0 (Applied theorem args new []) (length t.shown) js ls refl p b y.1) (ok_is (with_count y.0 n.0) e w.2)
 
-applied_goes : (known : List TitledStatement) (d e : TheoremParser) (raw : RawApply) (wanted : List Lit) (cs : List Cert) (ks : List StepCerts) (ls : List (List ℕ)) → needs_of_raw_apply known d raw ≡ Ok wanted → certs_formed (scope_of_names d.in_scope) wanted cs ≡ true → d.section ≡ Proving → BodySaid known Proving d ks ls → applied known d raw ≡ Ok e
+applied_goes : (known : List TitledStatement) (d e : TheoremParser) (raw : RawApply) (wanted : List Lit) (cs : List Cert) (ks : List StepCerts) (ls : List (List ℕ)) → needs_of_raw_apply known d raw ≡ Ok wanted → certs_formed (scope_of_names d.in_scope) wanted cs ≡ true → d.section ≡ Proving → BodySaid known Proving d ks ls → after_apply known d raw ≡ Ok e
     → Goes known d e (ks ++ kept.Certs cs ∷ []) (ls ++ line_of (rawlines.Apply raw) ∷ certs_lines d.in_scope cs)
-unfolding applied needs_of_raw_apply
+unfolding after_apply needs_of_raw_apply
 applied_goes known d e raw wanted cs ks ls u c p b h =
     let ns = d.in_scope in
-    let a = bind_ok (apply_in known ns raw) (λ a. used_by d (theorem_of known a.0) a.0 a.1 raw.new) e h in
+    let a = bind_ok (apply_in known ns raw) (λ a. with_use d (theorem_of known a.0) a.0 a.1 raw.new) e h in
     let s = scope_of_names ns in
     let t = theorem_of known a.0.0 in
     let entries = a.0.1 in
@@ -238,8 +238,8 @@ applied_goes known d e raw wanted cs ks ls u c p b h =
     (blocks_more known (start_of d) d.blocks d.steps (Applied a.0.0 a.0.1 raw.new [] ∷ []) ks (kept.Certs cs ∷ []) ns after ls lines b said) a.2
 
 pub takes_apply : (known : List TitledStatement) (d e : TheoremParser) (raw : RawApply) (owes : Obligation) (ks : List StepCerts) (ls : List (List ℕ)) → d.section ≡ Proving → BodySaid known Proving d ks ls
-    → due_of known d (rawlines.Apply raw) ≡ Ok owes → stepped known d (rawlines.Apply raw) ≡ Ok e → Takes known d e (rawlines.Apply raw) owes ks ls
-unfolding stepped due_of
+    → due_of known d (rawlines.Apply raw) ≡ Ok owes → after_line known d (rawlines.Apply raw) ≡ Ok e → Takes known d e (rawlines.Apply raw) owes ks ls
+unfolding after_line due_of
 takes_apply known d e raw owes ks ls p b o h =
     let w = bind_ok (needs_of_raw_apply known d raw) (λ ls. read_ok (one_each ls)) owes o in
     subst (λ (y : Obligation). Takes known d e (rawlines.Apply raw) y ks ls) (ok_is (one_each w.0) owes w.2)
@@ -247,51 +247,51 @@ takes_apply known d e raw owes ks ls p b o h =
 
 -- ---- inner blocks
 
-deeper_is : (d e : TheoremParser) (op : BlockKind) (n : ℕ) → deeper d op n ≡ Ok e → interrupted d op n ≡ e
-unfolding deeper
+deeper_is : (d e : TheoremParser) (op : BlockKind) (n : ℕ) → inside_if_room d op n ≡ Ok e → inside_block d op n ≡ e
+unfolding inside_if_room
 deeper_is d e op n h =
-    let few = bind_ok (within (d.lines + 1) most_steps limits.Steps) (λ few. within (length d.blocks + 2) most_depth limits.Depth >>= λ shallow. within (d.facts + n) most_facts limits.Facts >>= λ none. read_ok (interrupted d op n)) e h in
-    let shallow = bind_ok (within (length d.blocks + 2) most_depth limits.Depth) (λ shallow. within (d.facts + n) most_facts limits.Facts >>= λ none. read_ok (interrupted d op n)) e few.2 in
-    let none = bind_ok (within (d.facts + n) most_facts limits.Facts) (λ none. read_ok (interrupted d op n)) e shallow.2 in
-    ok_is (interrupted d op n) e none.2
+    let few = bind_ok (within (d.lines + 1) most_steps limits.Steps) (λ few. within (length d.blocks + 2) most_depth limits.Depth >>= λ shallow. within (d.facts + n) most_facts limits.Facts >>= λ none. read_ok (inside_block d op n)) e h in
+    let shallow = bind_ok (within (length d.blocks + 2) most_depth limits.Depth) (λ shallow. within (d.facts + n) most_facts limits.Facts >>= λ none. read_ok (inside_block d op n)) e few.2 in
+    let none = bind_ok (within (d.facts + n) most_facts limits.Facts) (λ none. read_ok (inside_block d op n)) e shallow.2 in
+    ok_is (inside_block d op n) e none.2
 
 -- an inner block begins with these names
 abbrev inner_at : TheoremParser → BlockKind → ℕ → Names → ℕ → TheoremParser
-inner_at d op n ns terms = record (interrupted d op n) { in_scope = ns; terms = terms }
+inner_at d op n ns terms = record (inside_block d op n) { in_scope = ns; terms = terms }
 
 inner_goes : (known : List TitledStatement) (d : TheoremParser) (op : BlockKind) (n : ℕ) (start : Names) (terms : ℕ) (ks js : List StepCerts) (ls ms : List (List ℕ)) → d.section ≡ Proving → BodySaid known Proving d ks ls → Opening known (goal_inside (start_of d) d.blocks) d.in_scope op js start ms
     → Goes known d (inner_at d op n start terms) (ks ++ js) (ls ++ ms)
 inner_goes known d op n start terms ks js ls ms p b o =
     goes_on known d (inner_at d op n start terms) (ks ++ js) (ls ++ ms) refl p (blocks_open known (start_of d) d.blocks (outer_of d op) ks js start ls ms b o)
 
-claimed_goes : (known : List TitledStatement) (d e : TheoremParser) (raws : List RawLit) (ks : List StepCerts) (ls : List (List ℕ)) → d.section ≡ Proving → BodySaid known Proving d ks ls → are_direct raws ≡ true → AllSigned raws → claimed d raws ≡ Ok e
+claimed_goes : (known : List TitledStatement) (d e : TheoremParser) (raws : List RawLit) (ks : List StepCerts) (ls : List (List ℕ)) → d.section ≡ Proving → BodySaid known Proving d ks ls → are_direct raws ≡ true → AllSigned raws → after_claim d raws ≡ Ok e
     → Goes known d e ks (ls ++ line_of (rawlines.Claim raws) ∷ [])
-unfolding claimed
+unfolding after_claim
 claimed_goes known d e raws ks ls p b dir s h =
-    let shown = bind_ok (lits_in d.in_scope raws) (λ shown. deeper d (kind.Claim shown) 0 >>= λ x. few_monos raws >>= λ few. read_ok x) e h in
-    let x = bind_ok (deeper d (kind.Claim shown.0) 0) (λ x. few_monos raws >>= λ few. read_ok x) e shown.2 in
+    let shown = bind_ok (lits_in d.in_scope raws) (λ shown. inside_if_room d (kind.Claim shown) 0 >>= λ x. few_monos raws >>= λ few. read_ok x) e h in
+    let x = bind_ok (inside_if_room d (kind.Claim shown.0) 0) (λ x. few_monos raws >>= λ few. read_ok x) e shown.2 in
     let few = bind_ok (few_monos raws) (λ few. read_ok x.0) e x.2 in
     let line = ap (λ (f : RawLine). line_of f ∷ []) (claim_spelled d.in_scope raws shown.0 dir s shown.1) in
     let goes = inner_goes known d (kind.Claim shown.0) 0 d.in_scope d.terms ks [] ls (line_of (claim_raw_line d.in_scope shown.0) ∷ []) p b (refl, refl, refl, lits_within d.in_scope raws shown.0 shown.1) in
     subst (λ (y : TheoremParser). Goes known d y ks (ls ++ line_of (rawlines.Claim raws) ∷ [])) (deeper_is d x.0 (kind.Claim shown.0) 0 x.1 ∙ ok_is x.0 e few.2)
-    (goes_as known d (interrupted d (kind.Claim shown.0) 0) (ks ++ []) ks (ls ++ line_of (claim_raw_line d.in_scope shown.0) ∷ []) (ls ++ line_of (rawlines.Claim raws) ∷ []) (append-nil ks) (ap (λ (l : List (List ℕ)). ls ++ l) line) goes)
+    (goes_as known d (inside_block d (kind.Claim shown.0) 0) (ks ++ []) ks (ls ++ line_of (claim_raw_line d.in_scope shown.0) ∷ []) (ls ++ line_of (rawlines.Claim raws) ∷ []) (append-nil ks) (ap (λ (l : List (List ℕ)). ls ++ l) line) goes)
 
 pub takes_claim : (known : List TitledStatement) (d e : TheoremParser) (raws : List RawLit) (owes : Obligation) (ks : List StepCerts) (ls : List (List ℕ)) → d.section ≡ Proving → BodySaid known Proving d ks ls → are_direct raws ≡ true → AllSigned raws
-    → due_of known d (rawlines.Claim raws) ≡ Ok owes → stepped known d (rawlines.Claim raws) ≡ Ok e → Takes known d e (rawlines.Claim raws) owes ks ls
-unfolding stepped due_of
+    → due_of known d (rawlines.Claim raws) ≡ Ok owes → after_line known d (rawlines.Claim raws) ≡ Ok e → Takes known d e (rawlines.Claim raws) owes ks ls
+unfolding after_line due_of
 takes_claim known d e raws owes ks ls p b dir s o h =
     subst (λ (y : Obligation). Takes known d e (rawlines.Claim raws) y ks ls) (ok_is due.Nothing owes o) (owing_nothing known d e (rawlines.Claim raws) ks ls (claimed_goes known d e raws ks ls p b dir s h))
 
 superposed_goes : (known : List TitledStatement) (d e : TheoremParser) (raw : RawSuperpose) (read : Superpose × List Lit) (cs : List Cert) (ks : List StepCerts) (ls : List (List ℕ)) → superpose_in d.in_scope raw ≡ Ok read
     → certs_formed (scope_of_names d.in_scope) (superposing.needs_of_superposition read.0) cs ≡ true → length raw.new ≡ 2 → d.section ≡ Proving → BodySaid known Proving d ks ls → are_direct raw.shown ≡ true → AllSigned raw.shown
-    → superposed d raw ≡ Ok e → Goes known d e (ks ++ kept.Certs cs ∷ []) (ls ++ line_of (rawlines.Superpose raw) ∷ certs_lines d.in_scope cs)
-unfolding superposed
+    → after_superpose d raw ≡ Ok e → Goes known d e (ks ++ kept.Certs cs ∷ []) (ls ++ line_of (rawlines.Superpose raw) ∷ certs_lines d.in_scope cs)
+unfolding after_superpose
 superposed_goes known d e raw read cs ks ls r c two p b dir s h =
     let ns = d.in_scope in
     let after = named ns superposing.sorts_copied raw.new in
     let given : Superpose → List Lit = λ superposition. superposing.gives_of_superposition superposition (scope_of_names ns) in
     let at_end : TheoremParser → ℕ → TheoremParser = λ x n. record x { in_scope = after; terms = n } in
-    let rest : Superpose × List Lit → Result TheoremParser FaultKind = λ q. few_objects after >>= λ objects. deeper d (kind.Superpose q.0 raw.new q.1) (length (given q.0)) >>= λ x. few_monos raw.shown >>= λ few. terms_after x.terms (given q.0) >>= λ n. read_ok (at_end x n) in
+    let rest : Superpose × List Lit → Result TheoremParser FaultKind = λ q. few_objects after >>= λ objects. inside_if_room d (kind.Superpose q.0 raw.new q.1) (length (given q.0)) >>= λ x. few_monos raw.shown >>= λ few. terms_after x.terms (given q.0) >>= λ n. read_ok (at_end x n) in
     let q = bind_ok (superpose_in ns raw) rest e h in
     let good = superpose_fits ns raw q.0 q.1 in
     let formed : CopyFormed ns q.0.0 raw.new q.0.1 cs = record {
@@ -301,8 +301,8 @@ superposed_goes known d e raw read cs ks ls r c two p b dir s h =
       certs = subst (λ (x : Superpose × List Lit). certs_formed (scope_of_names ns) (superposing.needs_of_superposition x.0) cs ≡ true) (ok_is read q.0 (sym r ∙ q.1)) c;
     } in
     let op = kind.Superpose q.0.0 raw.new q.0.1 in
-    let o = bind_ok (few_objects after) (λ objects. deeper d op (length (given q.0.0)) >>= λ x. few_monos raw.shown >>= λ few. terms_after x.terms (given q.0.0) >>= λ n. read_ok (at_end x n)) e q.2 in
-    let x = bind_ok (deeper d op (length (given q.0.0))) (λ x. few_monos raw.shown >>= λ few. terms_after x.terms (given q.0.0) >>= λ n. read_ok (at_end x n)) e o.2 in
+    let o = bind_ok (few_objects after) (λ objects. inside_if_room d op (length (given q.0.0)) >>= λ x. few_monos raw.shown >>= λ few. terms_after x.terms (given q.0.0) >>= λ n. read_ok (at_end x n)) e q.2 in
+    let x = bind_ok (inside_if_room d op (length (given q.0.0))) (λ x. few_monos raw.shown >>= λ few. terms_after x.terms (given q.0.0) >>= λ n. read_ok (at_end x n)) e o.2 in
     let few = bind_ok (few_monos raw.shown) (λ few. terms_after x.0.terms (given q.0.0) >>= λ n. read_ok (at_end x.0 n)) e x.2 in
     let n = bind_ok (terms_after x.0.terms (given q.0.0)) (λ n. read_ok (at_end x.0 n)) e few.2 in
     let line = ap (λ (f : RawLine). line_of f ∷ certs_lines ns cs) (superpose_spelled ns raw q.0 dir s q.1) in
@@ -313,28 +313,28 @@ superposed_goes known d e raw read cs ks ls r c two p b dir s h =
     (goes_as known d (inner_at d op (length (given q.0.0)) after n.0) (ks ++ kept.Certs cs ∷ []) (ks ++ kept.Certs cs ∷ []) (ls ++ lines) (ls ++ line_of (rawlines.Superpose raw) ∷ certs_lines ns cs) refl (ap (λ (l : List (List ℕ)). ls ++ l) line) goes)
 
 pub takes_superpose : (known : List TitledStatement) (d e : TheoremParser) (raw : RawSuperpose) (owes : Obligation) (ks : List StepCerts) (ls : List (List ℕ)) → length raw.new ≡ 2 → d.section ≡ Proving → BodySaid known Proving d ks ls → are_direct raw.shown ≡ true → AllSigned raw.shown
-    → due_of known d (rawlines.Superpose raw) ≡ Ok owes → stepped known d (rawlines.Superpose raw) ≡ Ok e → Takes known d e (rawlines.Superpose raw) owes ks ls
-unfolding stepped due_of
+    → due_of known d (rawlines.Superpose raw) ≡ Ok owes → after_line known d (rawlines.Superpose raw) ≡ Ok e → Takes known d e (rawlines.Superpose raw) owes ks ls
+unfolding after_line due_of
 takes_superpose known d e raw owes ks ls two p b dir s o h =
     let w = bind_ok (superpose_in d.in_scope raw) (λ q. read_ok (one_each (superposing.needs_of_superposition q.0))) owes o in
     subst (λ (y : Obligation). Takes known d e (rawlines.Superpose raw) y ks ls) (ok_is (one_each (superposing.needs_of_superposition w.0.0)) owes w.2)
     (owing_certs known d e (rawlines.Superpose raw) (superposing.needs_of_superposition w.0.0) ks ls (λ cs c. superposed_goes known d e raw w.0 cs ks ls w.1 c two p b dir s h))
 
-split_goes : (known : List TitledStatement) (d e : TheoremParser) (r : RawLit) (ks : List StepCerts) (ls : List (List ℕ)) → d.section ≡ Proving → BodySaid known Proving d ks ls → is_direct r ≡ true → Signed r → split d r ≡ Ok e
+split_goes : (known : List TitledStatement) (d e : TheoremParser) (r : RawLit) (ks : List StepCerts) (ls : List (List ℕ)) → d.section ≡ Proving → BodySaid known Proving d ks ls → is_direct r ≡ true → Signed r → after_cases d r ≡ Ok e
     → Goes known d e ks (ls ++ line_of (rawlines.Cases r) ∷ [])
-unfolding split
+unfolding after_cases
 split_goes known d e r ks ls p b dir s h =
-    let l = bind_ok (lit_in d.in_scope r) (λ l. deeper d (kind.First l) 1 >>= λ x. with_terms x (r ∷ [])) e h in
-    let x = bind_ok (deeper d (kind.First l.0) 1) (λ x. with_terms x (r ∷ [])) e l.2 in
+    let l = bind_ok (lit_in d.in_scope r) (λ l. inside_if_room d (kind.First l) 1 >>= λ x. with_terms x (r ∷ [])) e h in
+    let x = bind_ok (inside_if_room d (kind.First l.0) 1) (λ x. with_terms x (r ∷ [])) e l.2 in
     let line = ap (λ (f : RawLine). line_of f ∷ []) (cases_spelled d.in_scope r l.0 dir s l.1) in
     let goes = inner_goes known d (kind.First l.0) 1 d.in_scope d.terms ks [] ls (line_of (cases_raw_line d.in_scope l.0) ∷ []) p b (refl, refl, refl, lit_in_scope d.in_scope r l.0 l.1) in
     terms_go known d x.0 e (r ∷ []) ks (ls ++ line_of (rawlines.Cases r) ∷ [])
     (subst (λ (y : TheoremParser). Goes known d y ks (ls ++ line_of (rawlines.Cases r) ∷ [])) (deeper_is d x.0 (kind.First l.0) 1 x.1)
-    (goes_as known d (interrupted d (kind.First l.0) 1) (ks ++ []) ks (ls ++ line_of (cases_raw_line d.in_scope l.0) ∷ []) (ls ++ line_of (rawlines.Cases r) ∷ []) (append-nil ks) (ap (λ (l : List (List ℕ)). ls ++ l) line) goes)) x.2
+    (goes_as known d (inside_block d (kind.First l.0) 1) (ks ++ []) ks (ls ++ line_of (cases_raw_line d.in_scope l.0) ∷ []) (ls ++ line_of (rawlines.Cases r) ∷ []) (append-nil ks) (ap (λ (l : List (List ℕ)). ls ++ l) line) goes)) x.2
 
 pub takes_cases : (known : List TitledStatement) (d e : TheoremParser) (r : RawLit) (owes : Obligation) (ks : List StepCerts) (ls : List (List ℕ)) → d.section ≡ Proving → BodySaid known Proving d ks ls → is_direct r ≡ true → Signed r
-    → due_of known d (rawlines.Cases r) ≡ Ok owes → stepped known d (rawlines.Cases r) ≡ Ok e → Takes known d e (rawlines.Cases r) owes ks ls
-unfolding stepped due_of
+    → due_of known d (rawlines.Cases r) ≡ Ok owes → after_line known d (rawlines.Cases r) ≡ Ok e → Takes known d e (rawlines.Cases r) owes ks ls
+unfolding after_line due_of
 takes_cases known d e r owes ks ls p b dir s o h =
     subst (λ (y : Obligation). Takes known d e (rawlines.Cases r) y ks ls) (ok_is due.Nothing owes o) (owing_nothing known d e (rawlines.Cases r) ks ls (split_goes known d e r ks ls p b dir s h))
 
@@ -342,8 +342,8 @@ abbrev at_place : TheoremParser → Section → TheoremParser
 at_place d p = record d { section = p }
 
 -- the second block of a split begins
-pub takes_else : (known : List TitledStatement) (d e : TheoremParser) (owes : Obligation) (ks : List StepCerts) (ls : List (List ℕ)) → BodySaid known Splitting d ks ls → due_of known d rawlines.Else ≡ Ok owes → stepped known d rawlines.Else ≡ Ok e → Takes known d e rawlines.Else owes ks ls
-unfolding stepped due_of
+pub takes_else : (known : List TitledStatement) (d e : TheoremParser) (owes : Obligation) (ks : List StepCerts) (ls : List (List ℕ)) → BodySaid known Splitting d ks ls → due_of known d rawlines.Else ≡ Ok owes → after_line known d rawlines.Else ≡ Ok e → Takes known d e rawlines.Else owes ks ls
+unfolding after_line due_of
 takes_else known d e owes ks ls b o h =
     subst (λ (y : Obligation). Takes known d e rawlines.Else y ks ls) (ok_is due.Nothing owes o)
     (owing_nothing known d e rawlines.Else ks ls (subst (λ (y : TheoremParser). Goes known d y ks (ls ++ line_of rawlines.Else ∷ [])) (ok_is (at_place d Proving) e h) (record { head = refl; body = b; unfinished = refl })))
@@ -365,11 +365,11 @@ goal_sorts first [] made e = e
 goal_sorts first (o ∷ os) made e = sorts_by o.kind (shown_around os) first.goal made (has_claim os) (goal_sorts first os made e)
 
 pub takes_qed : (known : List TitledStatement) (d e : TheoremParser) (ns : List (List ℕ)) (owes : Obligation) (ks : List StepCerts) (ls : List (List ℕ)) → d.section ≡ Proving → BodySaid known Proving d ks ls
-    → due_of known d (rawlines.Qed ns) ≡ Ok owes → stepped known d (rawlines.Qed ns) ≡ Ok e → Takes known d e (rawlines.Qed ns) owes ks ls
-unfolding stepped due_of needs_at_qed
+    → due_of known d (rawlines.Qed ns) ≡ Ok owes → after_line known d (rawlines.Qed ns) ≡ Ok e → Takes known d e (rawlines.Qed ns) owes ks ls
+unfolding after_line due_of needs_at_qed
 takes_qed known d e ns owes ks ls p b o h =
     let sorts = made_in d.blocks d.made in
-    let os = bind_ok (qed_in d.in_scope sorts ns) (λ os. shut d (closes.Qed os)) e h in
+    let os = bind_ok (qed_in d.in_scope sorts ns) (λ os. after_close_line d (closes.Qed os)) e h in
     let w = bind_ok (needs_at_qed d ns) (λ ls. read_ok (one_each ls)) owes o in
     let goal = open_goal d in
     let s = scope_of_names d.in_scope in
@@ -385,8 +385,8 @@ takes_qed known d e ns owes ks ls p b o h =
     shut_goes known d e (closes.Qed os.0) ks (kept.Certs cs ∷ []) ls (line_of (rawlines.Qed ns) ∷ certs_lines d.in_scope cs) p b said os.2))
 
 pub takes_contradiction : (known : List TitledStatement) (d e : TheoremParser) (owes : Obligation) (ks : List StepCerts) (ls : List (List ℕ)) → d.section ≡ Proving → BodySaid known Proving d ks ls
-    → due_of known d rawlines.Contradiction ≡ Ok owes → stepped known d rawlines.Contradiction ≡ Ok e → Takes known d e rawlines.Contradiction owes ks ls
-unfolding stepped due_of
+    → due_of known d rawlines.Contradiction ≡ Ok owes → after_line known d rawlines.Contradiction ≡ Ok e → Takes known d e rawlines.Contradiction owes ks ls
+unfolding after_line due_of
 takes_contradiction known d e owes ks ls p b o h =
     subst (λ (y : Obligation). Takes known d e rawlines.Contradiction y ks ls) (ok_is (due.Contradiction None) owes o)
     (owing_against known d e rawlines.Contradiction ks ls (λ a c.

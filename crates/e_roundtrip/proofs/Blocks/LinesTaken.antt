@@ -35,7 +35,7 @@ use Rattle.e_line.specs.Strict.{is_strict_line, exact_line_of, exact_line}
 use Rattle.e_read.specs.inner.Strict.{is_apart}
 use Rattle.e_cert.specs.Owed.{after_cert_line, finish_certs}
 use Rattle.e_read.specs.inner.Needs.{due_of}
-use Rattle.e_read.specs.inner.Machine.{certified, with_cert_line, owed_by, with_raw_line, parser_after_exact_line, worded}
+use Rattle.e_read.specs.inner.Machine.{parser_after_certificate, with_cert_line, owed_by, with_raw_line, parser_after_exact_line, parser_after_words}
 use Rattle.e_roundtrip.proofs.Certificates.CertLinesAgain.{CertLineNamed, cert_line_tokens_again, strict_cert_line_again}
 use Rattle.e_roundtrip.proofs.Certificates.Feeding.{OneCertLine, Fed, owing}
 use Rattle.e_roundtrip.proofs.Certificates.CertsPut.{Keeps}
@@ -84,8 +84,8 @@ strict_form_again f g s =
     rw (words_again f g, form_again f g, s, same) refl
 
 -- no such line begins with the sign of certificates
-pub no_bar : (known : List TitledStatement) (r : BlockParser) (line : List ℕ) (f : RawLine) → worded known r line (raw_line_words f) ≡ parser_after_exact_line known r line
-unfolding worded
+pub no_bar : (known : List TitledStatement) (r : BlockParser) (line : List ℕ) (f : RawLine) → parser_after_words known r line (raw_line_words f) ≡ parser_after_exact_line known r line
+unfolding parser_after_words
 no_bar known r line (rawlines.Theorem t) = refl
 no_bar known r line (rawlines.Declare sorts.Point ns) = refl
 no_bar known r line (rawlines.Declare sorts.Line ns) = refl
@@ -112,7 +112,7 @@ no_bar known r line rawlines.End = refl
 pub record OneLine (known : List TitledStatement) (r : BlockParser) (line : List ℕ) (next : BlockParser) : Type 0 where
   pub before : TheoremParser
   pub here : r.parser ≡ Some before
-  pub leads : worded known r line (tokens_of line) ≡ Ok next
+  pub leads : parser_after_words known r line (tokens_of line) ≡ Ok next
   pub after : TheoremParser
   pub there : next.parser ≡ Some after
   pub going : is_done after ≡ false
@@ -159,16 +159,16 @@ along_append known d e f xs ys js ls p q = λ r ks of s.
 
 -- ---- lines of certificates
 
-cert_line_leads : (known : List TitledStatement) (r : BlockParser) (m : CertLine) (o : Pending) → CertLineNamed m → cert_line_is_of r.version m ≡ true → after_cert_line r.owed m ≡ Ok o → worded known r (cert_line_text m) (tokens_of (cert_line_text m)) ≡ Ok (record r { owed = o })
-unfolding with_cert_line certified worded
+cert_line_leads : (known : List TitledStatement) (r : BlockParser) (m : CertLine) (o : Pending) → CertLineNamed m → cert_line_is_of r.version m ≡ true → after_cert_line r.owed m ≡ Ok o → parser_after_words known r (cert_line_text m) (tokens_of (cert_line_text m)) ≡ Ok (record r { owed = o })
+unfolding with_cert_line parser_after_certificate parser_after_words
 cert_line_leads known r m o h of e =
-    ap (λ (ws : List (List ℕ)). worded known r (cert_line_text m) ws) (cert_line_tokens_again m h) ∙ rw (strict_cert_line_again m h, of, e) refl
+    ap (λ (ws : List (List ℕ)). parser_after_words known r (cert_line_text m) ws) (cert_line_tokens_again m h) ∙ rw (strict_cert_line_again m h, of, e) refl
 
-words_lead : (known : List TitledStatement) (r : BlockParser) (words : List (List ℕ)) (o : Pending) → LineOf r.version words → OneCertLine r.owed words o → worded known r (joined_words words) (tokens_of (joined_words words)) ≡ Ok (record r { owed = o })
+words_lead : (known : List TitledStatement) (r : BlockParser) (words : List (List ℕ)) (o : Pending) → LineOf r.version words → OneCertLine r.owed words o → parser_after_words known r (joined_words words) (tokens_of (joined_words words)) ≡ Ok (record r { owed = o })
 words_lead known r words o l m =
     let same : l.0 ≡ m.cert_line = same_cert_line l.0 m.cert_line l.2 m.named (sym l.1 ∙ m.spelled) in
     let of : cert_line_is_of r.version m.cert_line ≡ true = sym (ap (cert_line_is_of r.version) same) ∙ l.3 in
-    subst (λ (ws : List (List ℕ)). worded known r (joined_words ws) (tokens_of (joined_words ws)) ≡ Ok (record r { owed = o })) (sym m.spelled) (cert_line_leads known r m.cert_line o m.named of m.leads)
+    subst (λ (ws : List (List ℕ)). parser_after_words known r (joined_words ws) (tokens_of (joined_words ws)) ≡ Ok (record r { owed = o })) (sym m.spelled) (cert_line_leads known r m.cert_line o m.named of m.leads)
 
 cert_lines_taken : (known : List TitledStatement) (r : BlockParser) (d : TheoremParser) (lines : List (List (List ℕ))) (last : Pending) → r.parser ≡ Some d → is_done d ≡ false → LinesOf r.version lines → Fed r.owed lines last → AllTaken known r (map joined_words lines) (record r { owed = last })
 cert_lines_taken known r d [] last here going of fed = ap (λ (o : Pending). record r { owed = o }) fed
@@ -181,10 +181,10 @@ cert_lines_taken known r d (words ∷ lines) last here going of fed = (
 -- ---- a line of the script with its certificates
 
 pub form_leads : (known : List TitledStatement) (r : BlockParser) (d e : TheoremParser) (ks : List StepCerts) (f : RawLine) (owed : Obligation) → Stands r d ks → GoodForm f → is_strict_line (as_read f) ≡ true → is_apart d (as_read f) ≡ true → due_of known d (as_read f) ≡ Ok owed
-    → step known d (as_read f) ≡ Ok e → worded known r (line_of f) (tokens_of (line_of f)) ≡ Ok (record { version = r.version; parser = Some e; owed = owing d.in_scope owed None; kept = ks })
+    → step known d (as_read f) ≡ Ok e → parser_after_words known r (line_of f) (tokens_of (line_of f)) ≡ Ok (record { version = r.version; parser = Some e; owed = owing d.in_scope owed None; kept = ks })
 unfolding with_raw_line owed_by parser_after_exact_line
 form_leads known r d e ks f owed s good strict apart due steps =
-    ap (worded known r (line_of f)) (words_again f good) ∙ no_bar known r (line_of f) f
+    ap (parser_after_words known r (line_of f)) (words_again f good) ∙ no_bar known r (line_of f) f
     ∙ rw (strict_form_again f good strict, s.settles, s.parser, apart, due, steps) (ap (λ (x : List StepCerts). Ok (record { version = r.version; parser = Some e; owed = owing d.in_scope owed None; kept = x })) s.kept)
 
 pub step_along : (known : List TitledStatement) (d e : TheoremParser) (f : RawLine) (owed : Obligation) (lines : List (List (List ℕ))) (k : Option StepCerts) → GoodForm f → is_strict_line (as_read f) ≡ true → is_apart d (as_read f) ≡ true → due_of known d (as_read f) ≡ Ok owed

@@ -28,7 +28,7 @@ use Rattle.e_clause.specs.declared.cert.Against.TheVariants as against
 use Rattle.e_names.specs.Scope.{scope_of_names, lit_in, let_in}
 use Rattle.e_names.specs.Superposes.{superpose_in}
 use Rattle.e_book.specs.Book.{is_last}
-use Rattle.e_book.specs.Steps.{allowed, stepped, step}
+use Rattle.e_book.specs.Steps.{line_may_come, after_line, step}
 use Rattle.e_line.specs.Canonical.{line_of}
 use Rattle.e_book.specs.Canonical.{head_raw_lines}
 use Rattle.e_book.proofs.parsers.Answered.{passes}
@@ -118,47 +118,47 @@ proof_left known d e f owes p ks ls i t =
 abbrev Inside : List TitledStatement → Section → TheoremParser → List StepCerts → List (List ℕ) → Type 0
 Inside known p d ks ls = (p ≡ Proving) × InProof known Proving d ks ls
 
-at_by : (known : List TitledStatement) (p : Section) (d : TheoremParser) (ks : List StepCerts) (ls : List (List ℕ)) (r : List ℕ) (ns : List (List ℕ)) (l : RawLit) → allowed p (rawlines.By r ns l) ≡ true → ParserSaid known p d ks ls → Inside known p d ks ls
+at_by : (known : List TitledStatement) (p : Section) (d : TheoremParser) (ks : List StepCerts) (ls : List (List ℕ)) (r : List ℕ) (ns : List (List ℕ)) (l : RawLit) → line_may_come p (rawlines.By r ns l) ≡ true → ParserSaid known p d ks ls → Inside known p d ks ls
 at_by known Proving d ks ls r ns l a h = (refl, h)
 at_by known p d ks ls r ns l a h = absurd cc
 
-at_hence : (known : List TitledStatement) (p : Section) (d : TheoremParser) (ks : List StepCerts) (ls : List (List ℕ)) (l : RawLit) → allowed p (rawlines.Hence l) ≡ true → ParserSaid known p d ks ls → Inside known p d ks ls
+at_hence : (known : List TitledStatement) (p : Section) (d : TheoremParser) (ks : List StepCerts) (ls : List (List ℕ)) (l : RawLit) → line_may_come p (rawlines.Hence l) ≡ true → ParserSaid known p d ks ls → Inside known p d ks ls
 at_hence known Proving d ks ls l a h = (refl, h)
 at_hence known p d ks ls l a h = absurd cc
 
-at_let : (known : List TitledStatement) (p : Section) (d : TheoremParser) (ks : List StepCerts) (ls : List (List ℕ)) (l : RawLet) → allowed p (rawlines.Let l) ≡ true → ParserSaid known p d ks ls → Inside known p d ks ls
+at_let : (known : List TitledStatement) (p : Section) (d : TheoremParser) (ks : List StepCerts) (ls : List (List ℕ)) (l : RawLet) → line_may_come p (rawlines.Let l) ≡ true → ParserSaid known p d ks ls → Inside known p d ks ls
 at_let known Proving d ks ls l a h = (refl, h)
 at_let known p d ks ls l a h = absurd cc
 
-at_apply : (known : List TitledStatement) (p : Section) (d : TheoremParser) (ks : List StepCerts) (ls : List (List ℕ)) (raw : RawApply) → allowed p (rawlines.Apply raw) ≡ true → ParserSaid known p d ks ls → Inside known p d ks ls
+at_apply : (known : List TitledStatement) (p : Section) (d : TheoremParser) (ks : List StepCerts) (ls : List (List ℕ)) (raw : RawApply) → line_may_come p (rawlines.Apply raw) ≡ true → ParserSaid known p d ks ls → Inside known p d ks ls
 at_apply known Proving d ks ls raw a h = (refl, h)
 at_apply known p d ks ls raw a h = absurd cc
 
-at_claim : (known : List TitledStatement) (p : Section) (d : TheoremParser) (ks : List StepCerts) (ls : List (List ℕ)) (raws : List RawLit) → allowed p (rawlines.Claim raws) ≡ true → ParserSaid known p d ks ls → Inside known p d ks ls
+at_claim : (known : List TitledStatement) (p : Section) (d : TheoremParser) (ks : List StepCerts) (ls : List (List ℕ)) (raws : List RawLit) → line_may_come p (rawlines.Claim raws) ≡ true → ParserSaid known p d ks ls → Inside known p d ks ls
 at_claim known Proving d ks ls raws a h = (refl, h)
 at_claim known p d ks ls raws a h = absurd cc
 
-at_superpose : (known : List TitledStatement) (p : Section) (d : TheoremParser) (ks : List StepCerts) (ls : List (List ℕ)) (raw : RawSuperpose) → allowed p (rawlines.Superpose raw) ≡ true → ParserSaid known p d ks ls → Inside known p d ks ls
+at_superpose : (known : List TitledStatement) (p : Section) (d : TheoremParser) (ks : List StepCerts) (ls : List (List ℕ)) (raw : RawSuperpose) → line_may_come p (rawlines.Superpose raw) ≡ true → ParserSaid known p d ks ls → Inside known p d ks ls
 at_superpose known Proving d ks ls raw a h = (refl, h)
 at_superpose known p d ks ls raw a h = absurd cc
 
-at_cases : (known : List TitledStatement) (p : Section) (d : TheoremParser) (ks : List StepCerts) (ls : List (List ℕ)) (l : RawLit) → allowed p (rawlines.Cases l) ≡ true → ParserSaid known p d ks ls → Inside known p d ks ls
+at_cases : (known : List TitledStatement) (p : Section) (d : TheoremParser) (ks : List StepCerts) (ls : List (List ℕ)) (l : RawLit) → line_may_come p (rawlines.Cases l) ≡ true → ParserSaid known p d ks ls → Inside known p d ks ls
 at_cases known Proving d ks ls l a h = (refl, h)
 at_cases known p d ks ls l a h = absurd cc
 
-at_qed : (known : List TitledStatement) (p : Section) (d : TheoremParser) (ks : List StepCerts) (ls : List (List ℕ)) (ns : List (List ℕ)) → allowed p (rawlines.Qed ns) ≡ true → ParserSaid known p d ks ls → Inside known p d ks ls
+at_qed : (known : List TitledStatement) (p : Section) (d : TheoremParser) (ks : List StepCerts) (ls : List (List ℕ)) (ns : List (List ℕ)) → line_may_come p (rawlines.Qed ns) ≡ true → ParserSaid known p d ks ls → Inside known p d ks ls
 at_qed known Proving d ks ls ns a h = (refl, h)
 at_qed known p d ks ls ns a h = absurd cc
 
-at_contradiction : (known : List TitledStatement) (p : Section) (d : TheoremParser) (ks : List StepCerts) (ls : List (List ℕ)) → allowed p rawlines.Contradiction ≡ true → ParserSaid known p d ks ls → Inside known p d ks ls
+at_contradiction : (known : List TitledStatement) (p : Section) (d : TheoremParser) (ks : List StepCerts) (ls : List (List ℕ)) → line_may_come p rawlines.Contradiction ≡ true → ParserSaid known p d ks ls → Inside known p d ks ls
 at_contradiction known Proving d ks ls a h = (refl, h)
 at_contradiction known p d ks ls a h = absurd cc
 
-at_else : (known : List TitledStatement) (p : Section) (d : TheoremParser) (ks : List StepCerts) (ls : List (List ℕ)) → allowed p rawlines.Else ≡ true → ParserSaid known p d ks ls → InProof known Splitting d ks ls
+at_else : (known : List TitledStatement) (p : Section) (d : TheoremParser) (ks : List StepCerts) (ls : List (List ℕ)) → line_may_come p rawlines.Else ≡ true → ParserSaid known p d ks ls → InProof known Splitting d ks ls
 at_else known Splitting d ks ls a h = h
 at_else known p d ks ls a h = absurd cc
 
-at_end : (known : List TitledStatement) (p : Section) (d : TheoremParser) (ks : List StepCerts) (ls : List (List ℕ)) → allowed p rawlines.End ≡ true → ParserSaid known p d ks ls → InProof known Closed d ks ls
+at_end : (known : List TitledStatement) (p : Section) (d : TheoremParser) (ks : List StepCerts) (ls : List (List ℕ)) → line_may_come p rawlines.End ≡ true → ParserSaid known p d ks ls → InProof known Closed d ks ls
 at_end known Closed d ks ls a h = h
 at_end known p d ks ls a h = absurd cc
 
@@ -168,8 +168,8 @@ abbrev at_place : TheoremParser → Section → TheoremParser
 at_place d p = record d { section = p }
 
 -- the last line of a theorem
-puts_end : (known : List TitledStatement) (d e : TheoremParser) (ks : List StepCerts) (ls : List (List ℕ)) → InProof known Closed d ks ls → stepped known d rawlines.End ≡ Ok e → Puts known e rawlines.End ks ls
-unfolding stepped
+puts_end : (known : List TitledStatement) (d e : TheoremParser) (ks : List StepCerts) (ls : List (List ℕ)) → InProof known Closed d ks ls → after_line known d rawlines.End ≡ Ok e → Puts known e rawlines.End ks ls
+unfolding after_line
 puts_end known d e ks ls i h =
     subst (λ (y : TheoremParser). Puts known y rawlines.End ks ls) (ok_is (at_place d Done) e h)
     (record {
@@ -179,7 +179,7 @@ puts_end known d e ks ls i h =
     })
 
 pub line_left : (known : List TitledStatement) (d e : TheoremParser) (f : RawLine) (owes : Obligation) (ks : List StepCerts) (ls : List (List ℕ)) → ParserSaid known d.section d ks ls → Read f → is_strict_line f ≡ true → is_apart d f ≡ true
-    → due_of known d f ≡ Ok owes → allowed d.section f ≡ true → stepped known d f ≡ Ok e → Leaves known d e f owes ks ls
+    → due_of known d f ≡ Ok owes → line_may_come d.section f ≡ true → after_line known d f ≡ Ok e → Leaves known d e f owes ks ls
 unfolding due_of
 line_left known d e (rawlines.Theorem t) owes ks ls g r s n o a h = absurd (no_title known d e t h)
 line_left known d e (rawlines.Declare sort ns) owes ks ls g r s n o a h = head_left known d e (rawlines.Declare sort ns) owes ks ls o (puts_declared known d e sort ns ks ls a g r n h)
@@ -227,7 +227,7 @@ line_left known d e rawlines.End owes ks ls g r s n o a h = head_left known d e 
 pub step_left : (known : List TitledStatement) (d e : TheoremParser) (f : RawLine) (owes : Obligation) (ks : List StepCerts) (ls : List (List ℕ)) → ParserSaid known d.section d ks ls → Read f → is_strict_line f ≡ true → is_apart d f ≡ true
     → due_of known d f ≡ Ok owes → step known d f ≡ Ok e → Leaves known d e f owes ks ls
 unfolding step
-step_left known d e f owes ks ls g r s n o h = let p = passes (allowed d.section f) (stepped known d f) e h in line_left known d e f owes ks ls g r s n o p.0 p.1
+step_left known d e f owes ks ls g r s n o h = let p = passes (line_may_come d.section f) (after_line known d f) e h in line_left known d e f owes ks ls g r s n o p.0 p.1
 
 -- ---- what a line owes at first
 

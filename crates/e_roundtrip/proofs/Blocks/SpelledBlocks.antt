@@ -30,7 +30,7 @@ use Rattle.e_names.specs.TitledStatements.{TitledStatement}
 use Rattle.e_book.specs.ParserViews.{statement_of_parser, script_of_close}
 use Rattle.e_book.specs.TheoremViews.{TheoremView}
 use Rattle.e_book.specs.Book.{is_last}
-use Rattle.e_book.specs.Steps.{terms_after, counted_from, resumed, closed_inside, closed, shut}
+use Rattle.e_book.specs.Steps.{terms_after, counted_from, after_inner_block, closed_inside, parser_after_close, after_close_line}
 use Rattle.e_line.specs.Canonical.{line_of}
 use Rattle.e_names.specs.Canonical.{claim_raw_line, superpose_raw_line, cases_raw_line, else_raw_line, end_raw_line}
 use Rattle.e_line.proofs.base.Bound.{bind_ok, ok_is, read_ok}
@@ -196,8 +196,8 @@ resumed_at d o os s = record d { steps = o.steps ++ s ∷ []; in_scope = o.in_sc
 
 -- the block around goes on with a step
 resumes : (known : List TitledStatement) (d e : TheoremParser) (o : OpenBlock) (os : List OpenBlock) (shown : List Lit) (s : PlainStep) (ks : List StepCerts) (ls : List (List ℕ)) → d.section ≡ Proving
-    → BlocksSaid known (start_of d) os (o.steps ++ s ∷ []) ks o.in_scope ls → resumed d o os shown s ≡ Ok e → Goes known d e ks ls
-unfolding resumed counted_from
+    → BlocksSaid known (start_of d) os (o.steps ++ s ∷ []) ks o.in_scope ls → after_inner_block d o os shown s ≡ Ok e → Goes known d e ks ls
+unfolding after_inner_block counted_from
 resumes known d e o os shown s ks ls p b h =
     let x = bind_ok (counted_from d o.facts o.terms shown) (λ x. read_ok (resumed_at x o os s)) e h in
     let few = bind_ok (within (o.facts + length shown) most_facts limits.Facts) (λ few. terms_after o.terms shown >>= λ n. read_ok (counted d (o.facts + length shown) n)) x.0 x.1 in
@@ -236,14 +236,14 @@ shut_last d ss close = record d { steps = ss; blocks = []; close = close; sectio
 
 -- the block with these steps inside these blocks is closed
 closed_goes : (known : List TitledStatement) (d e : TheoremParser) (os : List OpenBlock) (ss : List PlainStep) (close : CloseLine) (ks kc : List StepCerts) (ns : Names) (ls lc : List (List ℕ)) → d.section ≡ Proving
-    → BlocksSaid known (start_of d) os ss ks ns ls → ScriptSaid known ns (goal_inside (start_of d) os) (script_of_close close) kc lc → closed d os ss close ≡ Ok e → Goes known d e (ks ++ kc) (ls ++ lc)
-unfolding closed
+    → BlocksSaid known (start_of d) os ss ks ns ls → ScriptSaid known ns (goal_inside (start_of d) os) (script_of_close close) kc lc → parser_after_close d os ss close ≡ Ok e → Goes known d e (ks ++ kc) (ls ++ lc)
+unfolding parser_after_close
 closed_goes known d e [] ss close ks kc ns ls lc p a s h =
     subst (λ (y : TheoremParser). Goes known d y (ks ++ kc) (ls ++ lc)) (ok_is (shut_last d ss close) e h)
     (record { head = refl; body = steps_closed known (start_of d).names ns (start_of d).goal ss (script_of_close close) ks kc ls lc a s; unfinished = refl })
 closed_goes known d e (o ∷ os) ss close ks kc ns ls lc p a s h =
     let inner = steps_closed known a.start ns (goal_inside (start_of d) (o ∷ os)) ss (script_of_close close) a.kept_inside kc a.lines_inside lc a.inside s in
-    let goes = inside_ends known d e o os (all_before ss (script_of_close close)) o.kind (λ c. closed d os o.steps c) a.kept_around a.kept_opening (a.kept_inside ++ kc) a.start a.lines_around a.lines_opening (a.lines_inside ++ lc) p a.around a.opening inner
+    let goes = inside_ends known d e o os (all_before ss (script_of_close close)) o.kind (λ c. parser_after_close d os o.steps c) a.kept_around a.kept_opening (a.kept_inside ++ kc) a.start a.lines_around a.lines_opening (a.lines_inside ++ lc) p a.around a.opening inner
     (λ c sc hc. closed_goes known d e os o.steps c a.kept_around (a.kept_opening ++ (a.kept_inside ++ kc)) o.in_scope a.lines_around (a.lines_opening ++ (a.lines_inside ++ lc)) p a.around sc hc) h in
     let kept : a.kept_around ++ (a.kept_opening ++ (a.kept_inside ++ kc)) ≡ ks ++ kc = sym (ap (λ (k : List StepCerts). k ++ kc) a.kept ∙ three a.kept_around a.kept_opening a.kept_inside kc) in
     let lines : a.lines_around ++ (a.lines_opening ++ (a.lines_inside ++ lc)) ≡ ls ++ lc = sym (ap (λ (l : List (List ℕ)). l ++ lc) a.lines ∙ three a.lines_around a.lines_opening a.lines_inside lc) in
@@ -251,10 +251,10 @@ closed_goes known d e (o ∷ os) ss close ks kc ns ls lc p a s h =
 
 -- a close line
 pub shut_goes : (known : List TitledStatement) (d e : TheoremParser) (close : CloseLine) (ks kc : List StepCerts) (ls lc : List (List ℕ)) → d.section ≡ Proving → BodySaid known Proving d ks ls → ScriptSaid known d.in_scope (goal_inside (start_of d) d.blocks) (script_of_close close) kc lc
-    → shut d close ≡ Ok e → Goes known d e (ks ++ kc) (ls ++ lc)
-unfolding shut
+    → after_close_line d close ≡ Ok e → Goes known d e (ks ++ kc) (ls ++ lc)
+unfolding after_close_line
 shut_goes known d e close ks kc ls lc p a s h =
     let x : TheoremParser = record d { lines = d.lines + 1 } in
-    let w = bind_ok (within (d.lines + 1) most_steps limits.Steps) (λ few. closed x d.blocks d.steps close) e h in
+    let w = bind_ok (within (d.lines + 1) most_steps limits.Steps) (λ few. parser_after_close x d.blocks d.steps close) e h in
     let g = closed_goes known x e d.blocks d.steps close ks kc d.in_scope ls lc p a s w.2 in
     record { head = g.head; body = g.body; unfinished = g.unfinished }

@@ -17,7 +17,7 @@ use Rattle.e_line.specs.declared.raw_line.RawLine.{RawLine}
 use Rattle.e_book.specs.declared.parser.TheoremParser.{TheoremParser}
 use Rattle.e_names.specs.TitledStatements.{TitledStatement, stated_by}
 use Rattle.e_names.specs.Scope.{scope_of_names}
-use Rattle.e_book.specs.Steps.{closed, step}
+use Rattle.e_book.specs.Steps.{parser_after_close, step}
 use Rattle.e_book.specs.Book.{is_done}
 use Rattle.e_line.specs.Canonical.{line_of}
 use Rattle.e_line.proofs.read_again.Respelled.{GoodForm, as_read}
@@ -79,7 +79,7 @@ one_formed before x h =
 pub record Spelled (known : List TitledStatement) (d : TheoremParser) (i : Inside) (script : Script) : Type 0 where
   pub last : Inside
   pub lines : last.lines ≡ i.lines + size (erased script)
-  pub along : (e : TheoremParser) → closed (proving d last) i.blocks (i.steps ++ steps_of (erased script)) (close_of (erased script)) ≡ Ok e → is_done e ≡ false
+  pub along : (e : TheoremParser) → parser_after_close (proving d last) i.blocks (i.steps ++ steps_of (erased script)) (close_of (erased script)) ≡ Ok e → is_done e ≡ false
       → Along known (proving d i) (script_lines known i.in_scope script) e (kepts script)
 
 -- ---- one line

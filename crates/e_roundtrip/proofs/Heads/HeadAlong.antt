@@ -19,7 +19,7 @@ use Rattle.e_line.specs.Limits.{within, most_facts}
 use Rattle.e_names.specs.TitledStatements.{TitledStatement}
 use Rattle.e_names.specs.Scope.{lits_in}
 use Rattle.e_line.specs.LineLimits.{few_monos}
-use Rattle.e_book.specs.Steps.{terms_after_raw, with_terms, allowed, declared, declares, supposes, makes, shows, proof_begun, stepped, step}
+use Rattle.e_book.specs.Steps.{terms_after_raw, with_terms, line_may_come, with_declared, after_declare, after_given, after_made, after_show, after_proof, after_line, step}
 use Rattle.e_book.specs.Book.{is_done}
 use Rattle.e_line.specs.Canonical.{line_of}
 use Rattle.e_names.specs.Canonical.{name_of_object, given_raw_line, show_raw_line}
@@ -64,19 +64,19 @@ same_sorts x y ds ms e a b =
     record { declared = sym (ap (λ (d : TheoremParser). d.declared) is) ∙ a; made = sym (ap (λ (d : TheoremParser). d.made) is) ∙ b }
 
 declare_sorts : (known : List TitledStatement) (d e : TheoremParser) (sort : Sort) (ns : List (List ℕ)) → step known d (rawlines.Declare sort ns) ≡ Ok e → Sorts e (d.declared ++ replicate (length ns) sort) d.made
-unfolding step stepped
+unfolding step after_line
 declare_sorts known d e sort ns h =
-    let p = passed (allowed d.section (rawlines.Declare sort ns)) (declares d sort ns) e h in
+    let p = passed (line_may_come d.section (rawlines.Declare sort ns)) (after_declare d sort ns) e h in
     let with_new : Names → TheoremParser = λ names. record d { names = names; declared = d.declared ++ replicate (length ns) sort } in
-    let n = bind_ok (declared d.names sort ns) (λ names. Ok (with_new names)) e p.1 in
+    let n = bind_ok (with_declared d.names sort ns) (λ names. Ok (with_new names)) e p.1 in
     same_sorts (with_new n.0) e (d.declared ++ replicate (length ns) sort) d.made n.2 refl refl
 
 made_sorts : (known : List TitledStatement) (d e : TheoremParser) (sort : Sort) (ns : List (List ℕ)) → step known d (rawlines.Made sort ns) ≡ Ok e → Sorts e d.declared (d.made ++ replicate (length ns) sort)
-unfolding step stepped
+unfolding step after_line
 made_sorts known d e sort ns h =
-    let p = passed (allowed d.section (rawlines.Made sort ns)) (makes d sort ns) e h in
+    let p = passed (line_may_come d.section (rawlines.Made sort ns)) (after_made d sort ns) e h in
     let with_new : Names → TheoremParser = λ names. record d { names = names; made = d.made ++ replicate (length ns) sort; section = Making } in
-    let n = bind_ok (declared d.names sort ns) (λ names. Ok (with_new names)) e p.1 in
+    let n = bind_ok (with_declared d.names sort ns) (λ names. Ok (with_new names)) e p.1 in
     same_sorts (with_new n.0) e d.declared (d.made ++ replicate (length ns) sort) n.2 refl refl
 
 terms_sorts : (d e : TheoremParser) (raws : List RawLit) → with_terms d raws ≡ Ok e → Sorts e d.declared d.made
@@ -88,27 +88,27 @@ terms_sorts d e raws h =
     same_sorts (with_count b.0) e d.declared d.made b.2 refl refl
 
 given_sorts : (known : List TitledStatement) (d e : TheoremParser) (raws : List RawLit) → step known d (rawlines.Given raws) ≡ Ok e → Sorts e d.declared d.made
-unfolding step stepped
+unfolding step after_line
 given_sorts known d e raws h =
-    let p = passed (allowed d.section (rawlines.Given raws)) (supposes d raws) e h in
+    let p = passed (line_may_come d.section (rawlines.Given raws)) (after_given d raws) e h in
     let with_given : List Lit → TheoremParser = λ ls. record d { given = ls; facts = d.facts + length raws; section = Giving } in
     let a = bind_ok (with_front d.given (lits_in d.names raws)) (λ ls. within (d.facts + length raws) most_facts limits.Facts >>= λ few. with_terms (with_given ls) raws) e p.1 in
     let b = bind_ok (within (d.facts + length raws) most_facts limits.Facts) (λ few. with_terms (with_given a.0) raws) e a.2 in
     terms_sorts (with_given a.0) e raws b.2
 
 show_sorts : (known : List TitledStatement) (d e : TheoremParser) (raws : List RawLit) → step known d (rawlines.Show raws) ≡ Ok e → Sorts e d.declared d.made
-unfolding step stepped
+unfolding step after_line
 show_sorts known d e raws h =
-    let p = passed (allowed d.section (rawlines.Show raws)) (shows d raws) e h in
+    let p = passed (line_may_come d.section (rawlines.Show raws)) (after_show d raws) e h in
     let with_shown : List Lit → TheoremParser = λ ls. record d { shown = ls; section = Showing } in
     let a = bind_ok (with_front d.shown (lits_in d.names raws)) (λ ls. few_monos raws >>= λ few. Ok (with_shown ls)) e p.1 in
     let b = bind_ok (few_monos raws) (λ few. Ok (with_shown a.0)) e a.2 in
     same_sorts (with_shown a.0) e d.declared d.made b.2 refl refl
 
 proof_sorts : (known : List TitledStatement) (d e : TheoremParser) → step known d rawlines.Proof ≡ Ok e → Sorts e d.declared d.made
-unfolding step stepped
+unfolding step after_line
 proof_sorts known d e h =
-    let p = passed (allowed d.section rawlines.Proof) (proof_begun d) e h in
+    let p = passed (line_may_come d.section rawlines.Proof) (after_proof d) e h in
     same_sorts _ e d.declared d.made p.1 refl refl
 
 -- ---- the lines are taken

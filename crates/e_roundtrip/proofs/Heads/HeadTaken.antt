@@ -21,7 +21,7 @@ use Rattle.e_line.specs.Limits.{most_of, what_of, within, most_facts, most_theor
 use Rattle.e_names.specs.TitledStatements.{TitledStatement, is_known}
 use Rattle.e_names.specs.Scope.{fresh, lit_in, lits_in}
 use Rattle.e_line.specs.LineLimits.{few_monos}
-use Rattle.e_book.specs.Steps.{allowed, declared, terms_after_raw, with_terms, stepped, begun, begin}
+use Rattle.e_book.specs.Steps.{line_may_come, with_declared, terms_after_raw, with_terms, after_line, with_title, begin}
 use Rattle.e_line.specs.Canonical.{line_of}
 use Rattle.e_names.specs.Canonical.{given_raw_line, show_raw_line}
 use Rattle.e_book.specs.Canonical.{head_raw_lines, given_raw_lines, shown_raw_lines}
@@ -84,36 +84,36 @@ one_line said f ls e = ap (λ (l : List (List ℕ)). l ++ line_of f ∷ []) e �
 
 -- ---- where the lines of a head may come
 
-at_declared : (known : List TitledStatement) (p : Section) (d : TheoremParser) (ks : List StepCerts) (ls : List (List ℕ)) (sort : Sort) (ns : List (List ℕ)) → allowed p (rawlines.Declare sort ns) ≡ true → ParserSaid known p d ks ls → (p ≡ Declaring) × InHead Declaring d ks ls
+at_declared : (known : List TitledStatement) (p : Section) (d : TheoremParser) (ks : List StepCerts) (ls : List (List ℕ)) (sort : Sort) (ns : List (List ℕ)) → line_may_come p (rawlines.Declare sort ns) ≡ true → ParserSaid known p d ks ls → (p ≡ Declaring) × InHead Declaring d ks ls
 at_declared known Declaring d ks ls sort ns a h = (refl, h)
 at_declared known p d ks ls sort ns a h = absurd cc
 
-at_given : (known : List TitledStatement) (p : Section) (d : TheoremParser) (ks : List StepCerts) (ls : List (List ℕ)) (raws : List RawLit) → allowed p (rawlines.Given raws) ≡ true → ParserSaid known p d ks ls → InHead Giving d ks ls
+at_given : (known : List TitledStatement) (p : Section) (d : TheoremParser) (ks : List StepCerts) (ls : List (List ℕ)) (raws : List RawLit) → line_may_come p (rawlines.Given raws) ≡ true → ParserSaid known p d ks ls → InHead Giving d ks ls
 at_given known Declaring d ks ls raws a h = record { said = h.said; head = h.head; lines = h.lines; kept = h.kept; steps = h.steps; blocks = h.blocks; empty = (h.empty.1, h.empty.2) }
 at_given known Giving d ks ls raws a h = h
 at_given known p d ks ls raws a h = absurd cc
 
-at_made : (known : List TitledStatement) (p : Section) (d : TheoremParser) (ks : List StepCerts) (ls : List (List ℕ)) (sort : Sort) (ns : List (List ℕ)) → allowed p (rawlines.Made sort ns) ≡ true → ParserSaid known p d ks ls → InHead Making d ks ls
+at_made : (known : List TitledStatement) (p : Section) (d : TheoremParser) (ks : List StepCerts) (ls : List (List ℕ)) (sort : Sort) (ns : List (List ℕ)) → line_may_come p (rawlines.Made sort ns) ≡ true → ParserSaid known p d ks ls → InHead Making d ks ls
 at_made known Declaring d ks ls sort ns a h = record { said = h.said; head = h.head; lines = h.lines; kept = h.kept; steps = h.steps; blocks = h.blocks; empty = h.empty.2 }
 at_made known Giving d ks ls sort ns a h = record { said = h.said; head = h.head; lines = h.lines; kept = h.kept; steps = h.steps; blocks = h.blocks; empty = h.empty.1 }
 at_made known Making d ks ls sort ns a h = h
 at_made known p d ks ls sort ns a h = absurd cc
 
-at_shown : (known : List TitledStatement) (p : Section) (d : TheoremParser) (ks : List StepCerts) (ls : List (List ℕ)) (raws : List RawLit) → allowed p (rawlines.Show raws) ≡ true → ParserSaid known p d ks ls → InHead Showing d ks ls
+at_shown : (known : List TitledStatement) (p : Section) (d : TheoremParser) (ks : List StepCerts) (ls : List (List ℕ)) (raws : List RawLit) → line_may_come p (rawlines.Show raws) ≡ true → ParserSaid known p d ks ls → InHead Showing d ks ls
 at_shown known Declaring d ks ls raws a h = record { said = h.said; head = h.head; lines = h.lines; kept = h.kept; steps = h.steps; blocks = h.blocks; empty = tt }
 at_shown known Giving d ks ls raws a h = record { said = h.said; head = h.head; lines = h.lines; kept = h.kept; steps = h.steps; blocks = h.blocks; empty = tt }
 at_shown known Making d ks ls raws a h = record { said = h.said; head = h.head; lines = h.lines; kept = h.kept; steps = h.steps; blocks = h.blocks; empty = tt }
 at_shown known Showing d ks ls raws a h = h
 at_shown known p d ks ls raws a h = absurd cc
 
-at_proof : (known : List TitledStatement) (p : Section) (d : TheoremParser) (ks : List StepCerts) (ls : List (List ℕ)) → allowed p rawlines.Proof ≡ true → ParserSaid known p d ks ls → InHead Showing d ks ls
+at_proof : (known : List TitledStatement) (p : Section) (d : TheoremParser) (ks : List StepCerts) (ls : List (List ℕ)) → line_may_come p rawlines.Proof ≡ true → ParserSaid known p d ks ls → InHead Showing d ks ls
 at_proof known Showing d ks ls a h = h
 at_proof known p d ks ls a h = absurd cc
 
 -- ---- objects
 
-names_are : (ns : Names) (sort : Sort) (new : List (List ℕ)) (now : Names) → declared ns sort new ≡ Ok now → with_more ns sort new ≡ now
-unfolding declared
+names_are : (ns : Names) (sort : Sort) (new : List (List ℕ)) (now : Names) → with_declared ns sort new ≡ Ok now → with_more ns sort new ≡ now
+unfolding with_declared
 names_are ns sort new now e =
     let f = bind_ok (fresh ns [] new) (λ free. within (length (names_of_sort ns sort) + length new) (most_of sort) (what_of sort) >>= λ few. read_ok (with_more ns sort new)) now e in
     let w = bind_ok (within (length (names_of_sort ns sort) + length new) (most_of sort) (what_of sort)) (λ few. read_ok (with_more ns sort new)) now f.2 in
@@ -122,13 +122,13 @@ names_are ns sort new now e =
 abbrev declaring : TheoremParser → Names → Sort → List (List ℕ) → TheoremParser
 declaring d ns sort new = record d { names = ns; declared = d.declared ++ replicate (length new) sort }
 
-pub puts_declared : (known : List TitledStatement) (d e : TheoremParser) (sort : Sort) (new : List (List ℕ)) (ks : List StepCerts) (ls : List (List ℕ)) → allowed d.section (rawlines.Declare sort new) ≡ true → ParserSaid known d.section d ks ls → 0 < length new
-    → not (ends_with d.declared sort) ≡ true → stepped known d (rawlines.Declare sort new) ≡ Ok e → Puts known e (rawlines.Declare sort new) ks ls
-unfolding stepped
+pub puts_declared : (known : List TitledStatement) (d e : TheoremParser) (sort : Sort) (new : List (List ℕ)) (ks : List StepCerts) (ls : List (List ℕ)) → line_may_come d.section (rawlines.Declare sort new) ≡ true → ParserSaid known d.section d ks ls → 0 < length new
+    → not (ends_with d.declared sort) ≡ true → after_line known d (rawlines.Declare sort new) ≡ Ok e → Puts known e (rawlines.Declare sort new) ks ls
+unfolding after_line
 puts_declared known d e sort new ks ls a g lt apart h =
     let at = at_declared known d.section d ks ls sort new a g in
     let i = at.1 in
-    let n = bind_ok (declared d.names sort new) (λ ns. read_ok (declaring d ns sort new)) e h in
+    let n = bind_ok (with_declared d.names sort new) (λ ns. read_ok (declaring d ns sort new)) e h in
     let x : TheoremParser = declaring d (with_more d.names sort new) sort new in
     let is : x ≡ e = ap (λ (ns : Names). declaring d ns sort new) (names_are d.names sort new n.0 n.1) ∙ ok_is (declaring d n.0 sort new) e n.2 in
     let head : InHead Declaring x ks (ls ++ line_of (rawlines.Declare sort new) ∷ []) = record {
@@ -145,12 +145,12 @@ puts_declared known d e sort new ks ls a g lt apart h =
 abbrev making : TheoremParser → Names → Sort → List (List ℕ) → TheoremParser
 making d ns sort new = record d { names = ns; made = d.made ++ replicate (length new) sort; section = Making }
 
-pub puts_made : (known : List TitledStatement) (d e : TheoremParser) (sort : Sort) (new : List (List ℕ)) (ks : List StepCerts) (ls : List (List ℕ)) → allowed d.section (rawlines.Made sort new) ≡ true → ParserSaid known d.section d ks ls → 0 < length new
-    → not (ends_with d.made sort) ≡ true → stepped known d (rawlines.Made sort new) ≡ Ok e → Puts known e (rawlines.Made sort new) ks ls
-unfolding stepped
+pub puts_made : (known : List TitledStatement) (d e : TheoremParser) (sort : Sort) (new : List (List ℕ)) (ks : List StepCerts) (ls : List (List ℕ)) → line_may_come d.section (rawlines.Made sort new) ≡ true → ParserSaid known d.section d ks ls → 0 < length new
+    → not (ends_with d.made sort) ≡ true → after_line known d (rawlines.Made sort new) ≡ Ok e → Puts known e (rawlines.Made sort new) ks ls
+unfolding after_line
 puts_made known d e sort new ks ls a g lt apart h =
     let i = at_made known d.section d ks ls sort new a g in
-    let n = bind_ok (declared d.names sort new) (λ ns. read_ok (making d ns sort new)) e h in
+    let n = bind_ok (with_declared d.names sort new) (λ ns. read_ok (making d ns sort new)) e h in
     let x : TheoremParser = making d (with_more d.names sort new) sort new in
     let is : x ≡ e = ap (λ (ns : Names). making d ns sort new) (names_are d.names sort new n.0 n.1) ∙ ok_is (making d n.0 sort new) e n.2 in
     let head : InHead Making x ks (ls ++ line_of (rawlines.Made sort new) ∷ []) = record {
@@ -204,9 +204,9 @@ terms_are x e raws w =
     let n = bind_ok (terms_after_raw x.terms raws) (λ n. read_ok (with_count x n)) e few.2 in
     (n.0, ok_is (with_count x n.0) e n.2)
 
-pub puts_given : (known : List TitledStatement) (d e : TheoremParser) (raws : List RawLit) (ks : List StepCerts) (ls : List (List ℕ)) → allowed d.section (rawlines.Given raws) ≡ true → ParserSaid known d.section d ks ls → (eqb (length raws) 1) ≡ true
-    → are_direct raws ≡ true → AllSigned raws → stepped known d (rawlines.Given raws) ≡ Ok e → Puts known e (rawlines.Given raws) ks ls
-unfolding stepped
+pub puts_given : (known : List TitledStatement) (d e : TheoremParser) (raws : List RawLit) (ks : List StepCerts) (ls : List (List ℕ)) → line_may_come d.section (rawlines.Given raws) ≡ true → ParserSaid known d.section d ks ls → (eqb (length raws) 1) ≡ true
+    → are_direct raws ≡ true → AllSigned raws → after_line known d (rawlines.Given raws) ≡ Ok e → Puts known e (rawlines.Given raws) ks ls
+unfolding after_line
 puts_given known d e raws ks ls a g one dir s h =
     let i = at_given known d.section d ks ls raws a g in
     let all = bind_ok (with_front d.given (lits_in d.names raws)) (λ ls. within (d.facts + length raws) most_facts limits.Facts >>= λ few. with_terms (giving d ls (length raws)) raws) e h in
@@ -229,9 +229,9 @@ puts_given known d e raws ks ls a g one dir s h =
 abbrev showing : TheoremParser → List Lit → TheoremParser
 showing d ls = record d { shown = ls; section = Showing }
 
-pub puts_shown : (known : List TitledStatement) (d e : TheoremParser) (raws : List RawLit) (ks : List StepCerts) (ls : List (List ℕ)) → allowed d.section (rawlines.Show raws) ≡ true → ParserSaid known d.section d ks ls → (eqb (length raws) 1) ≡ true
-    → are_direct raws ≡ true → AllSigned raws → stepped known d (rawlines.Show raws) ≡ Ok e → Puts known e (rawlines.Show raws) ks ls
-unfolding stepped
+pub puts_shown : (known : List TitledStatement) (d e : TheoremParser) (raws : List RawLit) (ks : List StepCerts) (ls : List (List ℕ)) → line_may_come d.section (rawlines.Show raws) ≡ true → ParserSaid known d.section d ks ls → (eqb (length raws) 1) ≡ true
+    → are_direct raws ≡ true → AllSigned raws → after_line known d (rawlines.Show raws) ≡ Ok e → Puts known e (rawlines.Show raws) ks ls
+unfolding after_line
 puts_shown known d e raws ks ls a g one dir s h =
     let i = at_shown known d.section d ks ls raws a g in
     let all = bind_ok (with_front d.shown (lits_in d.names raws)) (λ ls. few_monos raws >>= λ few. read_ok (showing d ls)) e h in
@@ -260,8 +260,8 @@ none_said known first os ss ks o s k =
 abbrev proving : TheoremParser → TheoremParser
 proving d = record d { in_scope = (start_of d).names; section = Proving }
 
-pub puts_proof : (known : List TitledStatement) (d e : TheoremParser) (ks : List StepCerts) (ls : List (List ℕ)) → allowed d.section rawlines.Proof ≡ true → ParserSaid known d.section d ks ls → stepped known d rawlines.Proof ≡ Ok e → Puts known e rawlines.Proof ks ls
-unfolding stepped
+pub puts_proof : (known : List TitledStatement) (d e : TheoremParser) (ks : List StepCerts) (ls : List (List ℕ)) → line_may_come d.section rawlines.Proof ≡ true → ParserSaid known d.section d ks ls → after_line known d rawlines.Proof ≡ Ok e → Puts known e rawlines.Proof ks ls
+unfolding after_line
 puts_proof known d e ks ls a g h =
     let i = at_proof known d.section d ks ls a g in
     let title = rawlines.Theorem d.title in
@@ -281,12 +281,12 @@ puts_proof known d e ks ls a g h =
 pub puts_begun : (known : List TitledStatement) (e : TheoremParser) (f : RawLine) → begin known f ≡ Ok e → Puts known e f [] []
 unfolding begin
 puts_begun known e (rawlines.Theorem t) h =
-    let n = untaken (is_known known t) (within (length known + 1) most_theorems limits.Theorems >>= λ few. read_ok (begun t)) e h in
-    let w = bind_ok (within (length known + 1) most_theorems limits.Theorems) (λ few. read_ok (begun t)) e n.1 in
-    subst (λ (y : TheoremParser). Puts known y (rawlines.Theorem t) [] []) (ok_is (begun t) e w.2)
+    let n = untaken (is_known known t) (within (length known + 1) most_theorems limits.Theorems >>= λ few. read_ok (with_title t)) e h in
+    let w = bind_ok (within (length known + 1) most_theorems limits.Theorems) (λ few. read_ok (with_title t)) e n.1 in
+    subst (λ (y : TheoremParser). Puts known y (rawlines.Theorem t) [] []) (ok_is (with_title t) e w.2)
     (record {
       said = rawlines.Theorem t ∷ [];
-      head = title_said (begun t).names t refl;
+      head = title_said (with_title t).names t refl;
       lines = refl;
       kept = refl;
       steps = refl;

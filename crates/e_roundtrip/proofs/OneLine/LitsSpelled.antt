@@ -23,7 +23,7 @@ use Rattle.e_line.specs.declared.literal.RawLit.{RawLit}
 use Rattle.e_line.specs.declared.literal.RawAtom.{RawAtom}
 use Rattle.e_line.specs.declared.literal.RawAtom.TheVariants as raw
 use Rattle.e_line.specs.Reading.{◌>>=◌, each}
-use Rattle.e_line.specs.Literals.{signed, is_diagram_raw}
+use Rattle.e_line.specs.Literals.{signed_lit, is_diagram_raw}
 use Rattle.e_names.specs.Scope.{used, number_of_name, on_sort, line_meets, meets_from, equal_at, term_in, kind_of_raw, first_kind, mono_in, sums_in, atom_in, negated_in, lit_in, lits_in}
 use Rattle.e_names.specs.Canonical.{name_at, name_of_object, raw_term, raw_mono, raw_sum, raw_atom, raw_signed, raw_of}
 use Rattle.e_line.proofs.base.Bound.{bind_ok, ok_is, read_ok}
@@ -97,7 +97,7 @@ sums_named ns more x y p k e =
 
 -- the atom with its sign is spelled as it was read
 abbrev Spells : Names → Bool → RawAtom → Atom → Type 0
-Spells more neg r a = raw_signed more (negated_in r neg) a ≡ signed neg r
+Spells more neg r a = raw_signed more (negated_in r neg) a ≡ signed_lit neg r
 
 to : (more : Names) (neg : Bool) (r : RawAtom) (x a : Atom) → Spells more neg r x → read_ok x ≡ Ok a → Spells more neg r a
 to more neg r x a h e = subst (λ (y : Atom). Spells more neg r y) (ok_is x a e) h
@@ -106,16 +106,16 @@ abbrev is_less_atom : Atom → Bool
 is_less_atom (atoms.MagLt x y) = true
 is_less_atom a = false
 
-plainly : (more : Names) (neg : Bool) (a : Atom) → is_less_atom a ≡ false → raw_signed more neg a ≡ signed neg (raw_atom more a)
+plainly : (more : Names) (neg : Bool) (a : Atom) → is_less_atom a ≡ false → raw_signed more neg a ≡ signed_lit neg (raw_atom more a)
 plainly more false a h = refl
 plainly more true (atoms.MagLt x y) h = absurd cc
 plainly more true a h = refl
 
 -- an atom that is no comparison
 other : (more : Names) (neg : Bool) (r : RawAtom) (x a : Atom) → is_less_atom x ≡ false → is_at_most r ≡ false → raw_atom more x ≡ r → read_ok x ≡ Ok a → Spells more neg r a
-other more neg r x a hx hr h e = to more neg r x a (same_sign r hr (plainly more neg x hx ∙ ap (signed neg) h)) e
+other more neg r x a hx hr h e = to more neg r x a (same_sign r hr (plainly more neg x hx ∙ ap (signed_lit neg) h)) e
   where
-    same_sign : (r : RawAtom) → is_at_most r ≡ false → raw_signed more neg x ≡ signed neg r → Spells more neg r x
+    same_sign : (r : RawAtom) → is_at_most r ≡ false → raw_signed more neg x ≡ signed_lit neg r → Spells more neg r x
     same_sign (raw.SumsAtMost x y) hr h = absurd cc
     same_sign r hr h = h
 

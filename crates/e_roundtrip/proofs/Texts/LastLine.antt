@@ -23,7 +23,7 @@ use Rattle.e_read.specs.declared.reading.BlockParser.{BlockParser}
 use Rattle.e_cert.specs.Owed.{row_put, differs_put, clash_put, sums_after, due_after, after_cert_line}
 use Rattle.e_cert.specs.Rows.{row_in}
 use Rattle.e_read.specs.Text.{Last, is_lf_end, garbled_at, last_line_of}
-use Rattle.e_read.specs.inner.Machine.{owes_nothing, at_start, parser_after_line, finished, or_on, is_last_line, is_end, piece_from}
+use Rattle.e_read.specs.inner.Machine.{owes_nothing, at_start, parser_after_line, finished_theorem, or_on, is_last_line, is_end, piece_from}
 use Rattle.e_read.specs.Text as text
 use Rattle.e_read.proofs.TextTied.{text_read}
 use Rattle.e_read.proofs.Bridge.{Answer, no_last, garbled_ok}
@@ -51,13 +51,13 @@ never_last known last r d [] rest b e = absurd cc
 never_last known last r d (Err f ∷ lines) rest b e = absurd cc
 never_last known last r d (Ok l ∷ lines) rest b e =
     let next : Result BlockParser ℕ = garbled_at l.number (parser_after_line known r l) in
-    let then : BlockParser → Result Answer ℕ = λ x. or_on (finished x.parser x.kept) lines (piece_from known last x lines) in
+    let then : BlockParser → Result Answer ℕ = λ x. or_on (finished_theorem x.parser x.kept) lines (piece_from known last x lines) in
     elim (either (is_end known r.parser l) (ended lines) (next >>= then) (ended rest) e) [
       | inl p ↦ no_end known r.parser d l b p.0
       | inr p ↦
           let x = bind_ok next then (Last, rest) p.1 in
           let took = garbled_ok l.number (parser_after_line known r l) x.0 x.1 in
-          let more = goes_on_last (finished x.0.parser x.0.kept) lines rest (piece_from known last x.0 lines) x.2 in
+          let more = goes_on_last (finished_theorem x.0.parser x.0.kept) lines rest (piece_from known last x.0 lines) x.2 in
           elim (line_taken known r x.0 l took) [
             | inl c ↦ never_last known last x.0 d lines rest (c.2.parser ∙ b) more
             | inr s ↦ never_last known last x.0 s.1.parser lines rest (ap (λ (y : BlockParser). y.parser) s.1.next_is) more
@@ -97,13 +97,13 @@ shown_by_parser v known last [] rest e = absurd cc
 shown_by_parser v known last (Err f ∷ lines) rest e = absurd cc
 shown_by_parser v known last (Ok l ∷ lines) rest e =
     let next : Result BlockParser ℕ = garbled_at l.number (parser_after_line known (at_start v) l) in
-    let then : BlockParser → Result Answer ℕ = λ x. or_on (finished x.parser x.kept) lines (piece_from known last x lines) in
+    let then : BlockParser → Result Answer ℕ = λ x. or_on (finished_theorem x.parser x.kept) lines (piece_from known last x lines) in
     elim (either (is_last_line known l) (ended lines) (next >>= then) (ended rest) e) [
       | inl p ↦ let q = said l.end l.bytes (last_line_of (length known)) p.0 in (q.0, q.1, at_end lines rest p.1)
       | inr p ↦
           let x = bind_ok next then (Last, rest) p.1 in
           let took = garbled_ok l.number (parser_after_line known (at_start v) l) x.0 x.1 in
-          let more = goes_on_last (finished x.0.parser x.0.kept) lines rest (piece_from known last x.0 lines) x.2 in
+          let more = goes_on_last (finished_theorem x.0.parser x.0.kept) lines rest (piece_from known last x.0 lines) x.2 in
           elim (line_taken known (at_start v) x.0 l took) [
             | inl c ↦ absurd (no_cert_line c.2.cert_line x.0.owed c.2.owed)
             | inr s ↦ absurd (never_last known last x.0 s.1.parser lines rest (ap (λ (y : BlockParser). y.parser) s.1.next_is) more)

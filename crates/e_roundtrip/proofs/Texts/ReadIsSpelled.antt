@@ -45,7 +45,7 @@ use Rattle.e_read.specs.inner.Strict.{is_apart}
 use Rattle.e_read.specs.inner.Needs.{due_of}
 use Rattle.e_read.specs.Filled.{script_with_certs}
 use Rattle.e_read.specs.Text.{Derived, Last, is_lf_end, garbled_at}
-use Rattle.e_read.specs.inner.Machine.{parser_after_bytes, owes_nothing, at_start, owed_by, gone_on, worded, parser_after_line, derived, is_finished, finished, or_on, is_end, piece_from}
+use Rattle.e_read.specs.inner.Machine.{parser_after_bytes, owes_nothing, at_start, owed_by, parser_and_owed, parser_after_words, parser_after_line, theorem_with_certs, is_finished, finished_theorem, or_on, is_end, piece_from}
 use Rattle.e_clause.specs.declared.cert.Version.{Version}
 use Rattle.e_read.specs.Text as text
 use Rattle.e_read.proofs.TextTied.{text_read}
@@ -163,7 +163,7 @@ owed_is known d f o e =
     let n = bind_ok (due_of known d f) (λ new. read_ok (owed d.in_scope new)) o e in
     (n.0, n.1, ok_is (owed d.in_scope n.0) o n.2)
 
-gone_said : (known : List TitledStatement) (parser : Option TheoremParser) (e : TheoremParser) (f : RawLine) (o : Pending) (ks : List StepCerts) (done : List (List ℕ)) → StateSaid known parser ks done → Read f → is_strict_line f ≡ true → gone_on known parser f ≡ Ok (e, o)
+gone_said : (known : List TitledStatement) (parser : Option TheoremParser) (e : TheoremParser) (f : RawLine) (o : Pending) (ks : List StepCerts) (done : List (List ℕ)) → StateSaid known parser ks done → Read f → is_strict_line f ≡ true → parser_and_owed known parser f ≡ Ok (e, o)
     → StepSaid known e o ks (done ++ line_of f ∷ [])
 gone_said known None e f o ks done s r st g =
     let b = bind_ok (begin known f) (λ x. read_ok (with_owed x owes_nothing)) (e, o) g in
@@ -197,11 +197,11 @@ at_done known Done d ks ls l h = h
 at_done known p d ks ls l h = absurd cc
 
 -- after the last line the lines are those of the theorem
-all_said : (known : List TitledStatement) (d : TheoremParser) (o : Pending) (ks : List StepCerts) (done : List (List ℕ)) → StepSaid known d o ks done → is_done d ≡ true → done ≡ spelled_lines known (derived d ks) (derived d ks).script
+all_said : (known : List TitledStatement) (d : TheoremParser) (o : Pending) (ks : List StepCerts) (done : List (List ℕ)) → StepSaid known d o ks done → is_done d ≡ true → done ≡ spelled_lines known (theorem_with_certs d ks) (theorem_with_certs d ks).script
 all_said known d o ks done s l =
     let so = subst (λ (x : Pending). SaidSoFar known (Some d) x ks done) (s.last l) s.so_far in
     let i = at_done known d.section d (ks ++ []) (so.before ++ []) l (so.said None tt) in
-    let t = derived d ks in
+    let t = theorem_with_certs d ks in
     let head = map line_of (head_raw_lines t) in
     let end = line_of end_raw_line ∷ [] in
     let script : script_lines known (names_of_proof t) (script_with_certs (entry_of_parser d).script ks).0 ≡ i.body.0 =
@@ -212,11 +212,11 @@ all_said known d o ks done s l =
 abbrev EntryFormed : List TitledStatement → TheoremView → Type 0
 EntryFormed known t = FormedHere known (names_of_proof t) (goal_of_statement (stated t.statement)) t.script
 
-all_formed : (known : List TitledStatement) (d : TheoremParser) (o : Pending) (ks : List StepCerts) (done : List (List ℕ)) → StepSaid known d o ks done → is_done d ≡ true → EntryFormed known (derived d ks)
+all_formed : (known : List TitledStatement) (d : TheoremParser) (o : Pending) (ks : List StepCerts) (done : List (List ℕ)) → StepSaid known d o ks done → is_done d ≡ true → EntryFormed known (theorem_with_certs d ks)
 all_formed known d o ks done s l =
     let so = subst (λ (x : Pending). SaidSoFar known (Some d) x ks done) (s.last l) s.so_far in
     let i = at_done known d.section d (ks ++ []) (so.before ++ []) l (so.said None tt) in
-    let t = derived d ks in
+    let t = theorem_with_certs d ks in
     subst (λ (x : List StepCerts). FormedHere known (names_of_proof t) (goal_of_statement (stated t.statement)) (script_with_certs (entry_of_parser d).script x).0) (append-nil (ks ++ []) ∙ append-nil ks) (i.body.1.formed [])
 
 -- ---- all lines
@@ -231,7 +231,7 @@ record Rest (known : List TitledStatement) (done : List (List ℕ)) (t : Theorem
 -- a line that is taken ends with a line feed
 ends_with_lf : (known : List TitledStatement) (r next : BlockParser) (l : LineView) → parser_after_line known r l ≡ Ok next → l.end ≡ ends.Lf
 unfolding parser_after_line parser_after_bytes
-ends_with_lf known r next l e = is_lf l.end (passed (is_lf_end l.end) (worded known r l.bytes (tokens_of l.bytes)) next e).0
+ends_with_lf known r next l e = is_lf l.end (passed (is_lf_end l.end) (parser_after_words known r l.bytes (tokens_of l.bytes)) next e).0
   where
     is_lf : (x : LineEnd) → is_lf_end x ≡ true → x ≡ ends.Lf
     is_lf ends.Lf h = refl
@@ -245,7 +245,7 @@ one_more known done t l lines rest end r =
 -- how reading goes on after a line
 abbrev After : List TitledStatement → ℕ → BlockParser → List (Result LineView LineFault) → List (Result LineView LineFault) → TheoremView → Type 0
 After known last next lines rest t =
-    ((x : TheoremView) × (finished next.parser next.kept ≡ Some x) × (derives x lines ≡ derives t rest)) ⊎ ((finished next.parser next.kept ≡ None) × (piece_from known last next lines ≡ derives t rest))
+    ((x : TheoremView) × (finished_theorem next.parser next.kept ≡ Some x) × (derives x lines ≡ derives t rest)) ⊎ ((finished_theorem next.parser next.kept ≡ None) × (piece_from known last next lines ≡ derives t rest))
 
 -- after a line of a certificate
 certificate_rest : (known : List TitledStatement) (last : ℕ) (r next : BlockParser) (lines rest : List (Result LineView LineFault)) (t : TheoremView) (done : List (List ℕ)) → is_finished r.parser ≡ false → next.parser ≡ r.parser → After known last next lines rest t
@@ -263,9 +263,9 @@ step_rest : (known : List TitledStatement) (last : ℕ) (next : BlockParser) (d 
 step_rest known last next d o lines rest t done parser_is s goes more =
     elim goes [
       | inl q ↦
-          let c = closed_is d next.kept q.0 (sym (ap (λ (x : Option TheoremParser). finished x next.kept) parser_is) ∙ q.1) in
+          let c = closed_is d next.kept q.0 (sym (ap (λ (x : Option TheoremParser). finished_theorem x next.kept) parser_is) ∙ q.1) in
           let p = derived_is q.0 t lines rest q.2 in
-          let is : derived d next.kept ≡ t = c.1 ∙ p.0 in
+          let is : theorem_with_certs d next.kept ≡ t = c.1 ∙ p.0 in
           record { texts = []; shows = p.1; all = append-nil done ∙ all_said known d o next.kept done s c.0 ∙ ap (λ (x : TheoremView). spelled_lines known x x.script) is; formed = subst (EntryFormed known) is (all_formed known d o next.kept done s c.0) }
       | inr q ↦ more (still next.parser next.kept q.0) q.1
     ]
@@ -277,13 +277,13 @@ whole known last r [] rest t done s unended e = absurd cc
 whole known last r (Err f ∷ lines) rest t done s unended e = absurd cc
 whole known last r (Ok l ∷ lines) rest t done s unended e =
     let next : Result BlockParser ℕ = garbled_at l.number (parser_after_line known r l) in
-    let then : BlockParser → Result Answer ℕ = λ x. or_on (finished x.parser x.kept) lines (piece_from known last x lines) in
+    let then : BlockParser → Result Answer ℕ = λ x. or_on (finished_theorem x.parser x.kept) lines (piece_from known last x lines) in
     elim (either (is_end known r.parser l) (Ok (Last, lines)) (next >>= then) (derives t rest) e) [
       | inl p ↦ absurd (no_last lines rest t p.1)
       | inr p ↦
           let x = bind_ok next then (Derived t, rest) p.1 in
           let took = garbled_ok l.number (parser_after_line known r l) x.0 x.1 in
-          let goes = goes_on (finished x.0.parser x.0.kept) lines rest (piece_from known last x.0 lines) t x.2 in
+          let goes = goes_on (finished_theorem x.0.parser x.0.kept) lines rest (piece_from known last x.0 lines) t x.2 in
           let now = done ++ l.bytes ∷ [] in
           one_more known done t l lines rest (ends_with_lf known r x.0 l took)
           (elim (line_taken known r x.0 l took) [

@@ -20,7 +20,7 @@ use Rattle.e_book.specs.declared.parser.Section.TheVariants.{Closed, Done}
 use Rattle.e_book.specs.declared.parser.TheoremParser.{TheoremParser}
 use Rattle.e_names.specs.TitledStatements.{TitledStatement, stated_by}
 use Rattle.e_names.specs.Scope.{scope_of_names}
-use Rattle.e_book.specs.Steps.{begin, begun, closed, stepped, step}
+use Rattle.e_book.specs.Steps.{begin, with_title, parser_after_close, after_line, step}
 use Rattle.e_book.specs.TheoremViews.{TheoremView}
 use Rattle.e_line.specs.Limits.{count_monomials}
 use Rattle.e_book.specs.Fits.{few_facts, few_terms}
@@ -47,7 +47,7 @@ use Rattle.e_cert.specs.Owed.{finish_certs}
 use Rattle.e_read.specs.inner.Needs.{due_of}
 use Rattle.e_read.specs.Text.{Derived}
 use Rattle.e_read.proofs.TextTied.{text_read}
-use Rattle.e_read.specs.inner.Machine.{parser_after_exact_line as line_stepped, parser_after_bytes, with_raw_line, owes_nothing, at_start, worded, parser_after_line, derived, finished, is_end, piece_from}
+use Rattle.e_read.specs.inner.Machine.{parser_after_exact_line as line_stepped, parser_after_bytes, with_raw_line, owes_nothing, at_start, parser_after_words, parser_after_line, theorem_with_certs, finished_theorem, is_end, piece_from}
 use Rattle.e_spell.specs.Spelling.{script_lines}
 use Rattle.e_roundtrip.specs.Formed.{is_formed}
 use Rattle.e_roundtrip.specs.Spelled.{ShowsEnded, CanBeSpelled}
@@ -105,8 +105,8 @@ stood v known t d c o =
 abbrev shut_parser : TheoremView → Script → Inside → TheoremParser
 shut_parser t d last = record (proving (started t) last) { steps = steps_of (erased d); blocks = []; close = close_of (erased d); section = Closed }
 
-closed_last : (t : TheoremView) (d : Script) (last : Inside) → closed (proving (started t) last) [] (steps_of (erased d)) (close_of (erased d)) ≡ Ok (shut_parser t d last)
-unfolding closed
+closed_last : (t : TheoremView) (d : Script) (last : Inside) → parser_after_close (proving (started t) last) [] (steps_of (erased d)) (close_of (erased d)) ≡ Ok (shut_parser t d last)
+unfolding parser_after_close
 closed_last t d last = refl
 
 -- all lines between the first and the last
@@ -115,17 +115,17 @@ middle known t d = map line_of (stating_forms t) ++ script_lines known (names_of
 
 record Middle (known : List TitledStatement) (t : TheoremView) (d : Script) : Type 0 where
   last : Inside
-  along : Along known (begun t.title) (middle known t d) (shut_parser t d last) (kepts d)
+  along : Along known (with_title t.title) (middle known t d) (shut_parser t d last) (kepts d)
 
 middle_along : (v : Version) (known : List TitledStatement) (t : TheoremView) (d : Script) → CanBeSpelled v known t d → InOrder t.names → Middle known t d
 middle_along v known t d c o =
     let proof = script_spelled known (started t) (begins t) d (facts_of_statement (stated t.statement)) (goal_of_statement (stated t.statement)) (stood v known t d c o) in
     let p = proving (started t) (begins t) in
     let e = shut_parser t d proof.last in
-    let statement = head_along known (begun t.title) p (stating_forms t) (run_statement known (plain_entry t d) c.plain o) (statement_heads t.names t.statement) in
+    let statement = head_along known (with_title t.title) p (stating_forms t) (run_statement known (plain_entry t d) c.plain o) (statement_heads t.names t.statement) in
     record {
       last = proof.last;
-      along = along_append known (begun t.title) p e (map line_of (stating_forms t)) (script_lines known (names_of_proof t) d) [] (kepts d) statement (proof.along e (closed_last t d proof.last) refl);
+      along = along_append known (with_title t.title) p e (map line_of (stating_forms t)) (script_lines known (names_of_proof t) d) [] (kepts d) statement (proof.along e (closed_last t d proof.last) refl);
     }
 
 -- ---- what is kept is of the version
@@ -162,17 +162,17 @@ record Left (known : List TitledStatement) (number : ℕ) (r next : BlockParser)
   shown : ShowsEnded ahead more rest
   same : piece_from known number r all ≡ piece_from known number next ahead
 
-taken_is : (known : List TitledStatement) (r next : BlockParser) (l : LineView) (text : List ℕ) → l.bytes ≡ text → l.end ≡ Lf → worded known r text (tokens_of text) ≡ Ok next → parser_after_line known r l ≡ Ok next
+taken_is : (known : List TitledStatement) (r next : BlockParser) (l : LineView) (text : List ℕ) → l.bytes ≡ text → l.end ≡ Lf → parser_after_words known r text (tokens_of text) ≡ Ok next → parser_after_line known r l ≡ Ok next
 unfolding parser_after_line parser_after_bytes
 taken_is known r next l text b e leads =
-    let w : worded known r l.bytes (tokens_of l.bytes) ≡ Ok next = ap (λ (x : List ℕ). worded known r x (tokens_of x)) b ∙ leads in
+    let w : parser_after_words known r l.bytes (tokens_of l.bytes) ≡ Ok next = ap (λ (x : List ℕ). parser_after_words known r x (tokens_of x)) b ∙ leads in
     rw (e, w) refl
 
-unfinished : (parser : Option TheoremParser) (d : TheoremParser) (kept : List StepCerts) → parser ≡ Some d → is_done d ≡ false → finished parser kept ≡ None
-unfinished parser d kept e going = ap (λ (x : Option TheoremParser). finished x kept) e ∙ rw going refl
+unfinished : (parser : Option TheoremParser) (d : TheoremParser) (kept : List StepCerts) → parser ≡ Some d → is_done d ≡ false → finished_theorem parser kept ≡ None
+unfinished parser d kept e going = ap (λ (x : Option TheoremParser). finished_theorem x kept) e ∙ rw going refl
 
-one_read : (known : List TitledStatement) (number : ℕ) (r next : BlockParser) (l : LineView) (after : List (Result LineView LineFault)) (text : List ℕ) → is_end known r.parser l ≡ false → l.bytes ≡ text → l.end ≡ Lf → worded known r text (tokens_of text) ≡ Ok next
-    → finished next.parser next.kept ≡ None → piece_from known number r (Ok l ∷ after) ≡ piece_from known number next after
+one_read : (known : List TitledStatement) (number : ℕ) (r next : BlockParser) (l : LineView) (after : List (Result LineView LineFault)) (text : List ℕ) → is_end known r.parser l ≡ false → l.bytes ≡ text → l.end ≡ Lf → parser_after_words known r text (tokens_of text) ≡ Ok next
+    → finished_theorem next.parser next.kept ≡ None → piece_from known number r (Ok l ∷ after) ≡ piece_from known number next after
 unfolding piece_from
 one_read known number r next l after text here b e leads more = rw (here, taken_is known r next l text b e leads, more) refl
 
@@ -193,19 +193,19 @@ all_read known number r next (text ∷ texts) more (Ok l ∷ all) rest a sh =
 -- ---- the first line
 
 abbrev titled : Version → TheoremView → BlockParser
-titled v t = record { version = v; parser = Some (begun t.title); owed = owes_nothing; kept = [] }
+titled v t = record { version = v; parser = Some (with_title t.title); owed = owes_nothing; kept = [] }
 
-title_stands : (v : Version) (t : TheoremView) → Stands (titled v t) (begun t.title) []
+title_stands : (v : Version) (t : TheoremView) → Stands (titled v t) (with_title t.title) []
 unfolding finish_certs
 title_stands v t = record { parser = refl; read = None; settles = refl; kept = refl }
 
-title_leads : (v : Version) (known : List TitledStatement) (t : TheoremView) (d : Script) → HasSpelling known (plain_entry t d) → worded known (at_start v) (line_of (rawlines.Theorem t.title)) (tokens_of (line_of (rawlines.Theorem t.title))) ≡ Ok (titled v t)
+title_leads : (v : Version) (known : List TitledStatement) (t : TheoremView) (d : Script) → HasSpelling known (plain_entry t d) → parser_after_words known (at_start v) (line_of (rawlines.Theorem t.title)) (tokens_of (line_of (rawlines.Theorem t.title))) ≡ Ok (titled v t)
 unfolding finish_certs with_raw_line line_stepped
 title_leads v known t d h =
     let f = rawlines.Theorem t.title in
     let r = run_title known t.title h.title h.fits.new h.few_theorems in
-    let begins : begin known f ≡ Ok (begun t.title) = r.2 ∙ ap (λ (x : TheoremParser). Ok x) (parser_is r.0 (begun t.title) r.4) in
-    ap (worded known (at_start v) (line_of f)) (words_again f h.title) ∙ no_bar known (at_start v) (line_of f) f ∙ rw (strict_form_again f h.title refl, begins) refl
+    let begins : begin known f ≡ Ok (with_title t.title) = r.2 ∙ ap (λ (x : TheoremParser). Ok x) (parser_is r.0 (with_title t.title) r.4) in
+    ap (parser_after_words known (at_start v) (line_of f)) (words_again f h.title) ∙ no_bar known (at_start v) (line_of f) f ∙ rw (strict_form_again f h.title refl, begins) refl
 
 -- a first line of a theorem is no last line of a text
 not_last : (known : List TitledStatement) (l : LineView) (title : List ℕ) → l.bytes ≡ line_of (rawlines.Theorem title) → is_end known None l ≡ false
@@ -218,18 +218,18 @@ not_last known l title b = by_end l.end
 -- ---- the last line
 
 step_end : (known : List TitledStatement) (t : TheoremView) (d : Script) (last : Inside) → step known (shut_parser t d last) rawlines.End ≡ Ok (record (shut_parser t d last) { section = Done })
-unfolding step stepped
+unfolding step after_line
 step_end known t d last = refl
 
 -- the certificates at their lines
-script_whole : (t : TheoremView) (d : Script) (known : List TitledStatement) → HasSpelling known (plain_entry t d) → (last : Inside) → derived (record (shut_parser t d last) { section = Done }) (kepts d) ≡ record t { script = d }
+script_whole : (t : TheoremView) (d : Script) (known : List TitledStatement) → HasSpelling known (plain_entry t d) → (last : Inside) → theorem_with_certs (record (shut_parser t d last) { section = Done }) (kepts d) ≡ record t { script = d }
 script_whole t d known h last =
     let same = same_script (erased d) h.script in
     let back : script_with_certs (erased d) (kepts d) ≡ (d, []) = ap (script_with_certs (erased d)) (sym (append-nil (kepts d))) ∙ filled_back d [] in
     ap (λ (x : Script). record t { script = (script_with_certs x (kepts d)).0 }) same ∙ ap (λ (x : Script × List StepCerts). record t { script = x.0 }) back
 
 end_leads : (known : List TitledStatement) (t : TheoremView) (d : Script) (last : Inside) (r : BlockParser) → Stands r (shut_parser t d last) (kepts d)
-    → (next : BlockParser) × (worded known r (line_of rawlines.End) (tokens_of (line_of rawlines.End)) ≡ Ok next) × (next.parser ≡ Some (record (shut_parser t d last) { section = Done })) × (next.kept ≡ kepts d)
+    → (next : BlockParser) × (parser_after_words known r (line_of rawlines.End) (tokens_of (line_of rawlines.End)) ≡ Ok next) × (next.parser ≡ Some (record (shut_parser t d last) { section = Done })) × (next.kept ≡ kepts d)
 unfolding due_of
 end_leads known t d last r s =
     let e = shut_parser t d last in
@@ -244,8 +244,8 @@ end_read known number t d last r (Err f ∷ all) rest h s sh = absurd sh
 end_read known number t d last r (Ok l ∷ all) rest h s sh =
     let e = end_leads known t d last r s in
     let here : is_end known r.parser l ≡ false = ap (λ (x : Option TheoremParser). is_end known x l) s.parser in
-    let done : finished e.0.parser e.0.kept ≡ Some (record t { script = d }) =
-    ap (λ (x : Option TheoremParser). finished x e.0.kept) e.2 ∙ ap (λ (ks : List StepCerts). finished (Some (record (shut_parser t d last) { section = Done })) ks) e.3 ∙ ap (λ (x : TheoremView). Some x) (script_whole t d known h last) in
+    let done : finished_theorem e.0.parser e.0.kept ≡ Some (record t { script = d }) =
+    ap (λ (x : Option TheoremParser). finished_theorem x e.0.kept) e.2 ∙ ap (λ (ks : List StepCerts). finished_theorem (Some (record (shut_parser t d last) { section = Done })) ks) e.3 ∙ ap (λ (x : TheoremView). Some x) (script_whole t d known h last) in
     rw (here, taken_is known r e.0 l (line_of rawlines.End) sh.0 sh.1 e.1, done) (ap (λ (ls : List (Result LineView LineFault)). Ok (Derived (record t { script = d }), ls)) sh.2)
 
 -- ---- the law

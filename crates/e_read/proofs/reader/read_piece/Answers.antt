@@ -18,5 +18,5 @@ loop-line-init c = record {
 
 pub returns-in-Ok-Complete-clause-read : goal.returns-in-Ok-Complete-clause-read
 returns-in-Ok-Complete-clause-read c =
-    read_ended c.args.known.now (last_line c.args.lines.now) c.loop-line.reading c.feed.new.reading (view_of_line c.in-Ok.line) c.loop-line.lines.lines c.next_line.new.lines.lines _ (entry_of c.in_ok-theorem-in-Ok-Complete.theorem) _ refl (rw c.in-Ok-Complete.field-0-is at c.in-Ok-Complete.ensures.turn)
+    read_ended c.args.known.now (last_line c.args.lines.now) c.loop-line.reading c.progress_with_line.new.reading (view_of_line c.in-Ok.line) c.loop-line.lines.lines c.next_line.new.lines.lines _ (entry_of c.in_ok-theorem-in-Ok-Complete.theorem) _ refl (rw c.in-Ok-Complete.field-0-is at c.in-Ok-Complete.ensures.turn)
     c.in_ok-theorem-in-Ok-Complete.ensures c.in-Ok.ensures.line c.loop-line.invariant.read

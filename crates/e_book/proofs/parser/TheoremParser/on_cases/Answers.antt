@@ -9,13 +9,13 @@ use Rattle.e_names.specs.Scope.{lit_in}
 use Rattle.e_names.proofs.read_lines.ItemsWritten.{fails_on}
 use Rattle.e_book.specs.declared.blocks.BlockKind.TheVariants as kind
 use Rattle.e_book.specs.declared.parser.TheoremParser.{TheoremParser}
-use Rattle.e_book.specs.Steps.{interrupted, terms_inside, split}
+use Rattle.e_book.specs.Steps.{inside_block, terms_inside, after_cases}
 use Rattle.e_book.proofs.grammar.BlockBegins.{begun_with_lit}
 use Rattle.e_book.proofs.parser.TheoremParser.on_cases.Goals as goal
 
-split_fails : (d : TheoremParser) (r : RawLit) (l : Lit) (given : List Lit) (raws : List RawLit) (e : LineError) → lit_in d.in_scope r ≡ Ok l → given ≡ l ∷ [] → raws ≡ r ∷ [] → Fails e (terms_inside d given raws) → Fails e (split d r)
+split_fails : (d : TheoremParser) (r : RawLit) (l : Lit) (given : List Lit) (raws : List RawLit) (e : LineError) → lit_in d.in_scope r ≡ Ok l → given ≡ l ∷ [] → raws ≡ r ∷ [] → Fails e (terms_inside d given raws) → Fails e (after_cases d r)
 split_fails d r l given raws e is g w f =
-    let begun : Lit → ℕ → Result TheoremParser FaultKind = λ x n. read_ok (record (interrupted d (kind.First x) 1) { terms = n }) in
+    let begun : Lit → ℕ → Result TheoremParser FaultKind = λ x n. read_ok (record (inside_block d (kind.First x) 1) { terms = n }) in
     let there : Result Lit FaultKind → Result TheoremParser FaultKind = λ x. x >>= λ y. terms_inside d (y ∷ []) (r ∷ []) >>= begun y in
     let one = subst (λ (x : List Lit). Fails e (terms_inside d x (r ∷ []))) g (subst (λ (x : List RawLit). Fails e (terms_inside d given x)) w f) in
     subst (Fails e) (sym (begun_with_lit d r ∙ ap there is)) (fails_on e (terms_inside d (l ∷ []) (r ∷ [])) (begun l) one)

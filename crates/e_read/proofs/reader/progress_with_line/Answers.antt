@@ -2,7 +2,7 @@ use Rattle.std.proofs.Common.{◌∙◌, sym}
 use Rattle.std.proofs.lemmas.Result.{err_from_is_err_and}
 use Rattle.e_text.specs.Lines.{view_of_line}
 use Rattle.e_read.proofs.Pieces.{last_turn, err_turn, ended_turn, more_turn}
-use Rattle.e_read.proofs.reader.feed.Goals as goal
+use Rattle.e_read.proofs.reader.progress_with_line.Goals as goal
 
 pub returns-then-branch-clause-turn : goal.returns-then-branch-clause-turn
 returns-then-branch-clause-turn c = last_turn c.args.known.now c.args.reading.now c.args.reading.now (view_of_line c.args.line) (sym c.in_ok-is_end.ensures ∙ c.if-branch.true)
