@@ -22,7 +22,7 @@ GROUPS = {
     "The language of E": "e_literal e_clause e_figure e_plane e_construct e_facts e_theorem e_deriv",
     "Deciding and proving": "e_fraction e_simplex e_metric e_transfer e_licence e_suggest e_prove",
     "Reading and writing": "e_line e_names e_book e_spell e_drawing e_cert e_read",
-    "Checking": "e_verify e_trim e_judgement e_roundtrip",
+    "Checking": "e_verify e_trim e_judgement e_places e_roundtrip",
     "The program": "e_generate e_commands e_run elements",
 }
 # Crates that are rows, tests and measures: programs without contracts.

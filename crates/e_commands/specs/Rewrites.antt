@@ -9,7 +9,7 @@ use Rattle.e_names.specs.TitledStatements.{TitledStatement, stated_by, title_at}
 use Rattle.e_book.specs.TheoremViews.{TheoremView}
 use Rattle.e_book.specs.Grammar.{Rest}
 use Rattle.e_spell.specs.Spelling.{spelled}
-use Rattle.e_verify.specs.Numbered.{derivation_with_places}
+use Rattle.e_places.specs.Numbered.{derivation_with_places}
 use Rattle.e_trim.specs.Trimmed.{trimmed}
 use Rattle.e_trim.specs.Applied.{applied_by}
 use Rattle.e_judgement.specs.declared.judgement.Judgement.{Judgement}

@@ -1,4 +1,3 @@
 pub mod arithmetic
 pub mod comparing
 pub mod checking
-pub mod placing

@@ -1,4 +1,4 @@
 pub mod Checking
+pub mod StepStates
 pub mod Verdicts
-pub mod Numbered
 pub mod inner

@@ -5,5 +5,3 @@ pub mod Views
 pub mod RowScopes
 pub mod Fingerprint
 pub mod Alike
-pub mod StepStates
-pub mod Numbering

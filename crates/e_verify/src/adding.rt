@@ -1,12 +1,11 @@
 //! How rows are added up.
 
-ghost use Rattle.std.specs.Prelude.{◌≡◌, ◌≤◌, ◌^◌, ◌++◌, IsTrue, OnOk, pos, neg_ℤ};
+ghost use Rattle.std.specs.Prelude.{◌≡◌, ◌≤◌, ◌^◌, ◌++◌, OnOk, pos, neg_ℤ};
 ghost use Rattle.std.specs.Prelude.{◌+ℤ◌, ◌*ℤ◌, unsigned_abs, if◌then◌else◌};
 ghost use Rattle.e_literal.specs.Rows;
 ghost use Rattle.e_literal.specs.declared.object.Term.{Term as ATerm};
 ghost use Rattle.e_literal.specs.Rows.{coefficient, normal_summands};
 ghost use Rattle.e_verify.specs.inner.Totals.{total_at};
-ghost use Rattle.e_verify.specs.inner.Small.{are_small_monomials, is_small_row};
 ghost use Rattle.e_verify.specs.inner.Views.{row_view};
 
 use crate::rows::Row;
@@ -16,9 +15,7 @@ use std::alloc::AllocError;
 
 /// Adds the row `multiplier` times.
 pub fn add_row(totals: &mut Totals, row: Row, multiplier: i128) -> Result<(), AllocError>
-    requires row { IsTrue (is_small_row row) }
-    requires multiplier { unsigned_abs multiplier ≤ 2 ^ 80 }
-    requires room { (t : ATerm) → unsigned_abs (total_at totals.old t) ≤ 2 ^ 120 }
+    requires { unsigned_abs multiplier ≤ 2 ^ 80 }
     ensures { OnOk result ((t : ATerm) → total_at totals.new t ≡ total_at totals.old t +ℤ multiplier
         *ℤ coefficient (row_view row.entry).form t) }
 {
@@ -54,10 +51,7 @@ fn add_difference(
     minus: &[Mono],
     multiplier: i128,
 ) -> Result<(), AllocError>
-    requires plus { IsTrue (are_small_monomials plus.now) }
-    requires minus { IsTrue (are_small_monomials minus.now) }
-    requires multiplier { unsigned_abs multiplier ≤ 2 ^ 80 }
-    requires room { (t : ATerm) → unsigned_abs (total_at totals.old t) ≤ 2 ^ 120 }
+    requires { unsigned_abs multiplier ≤ 2 ^ 80 }
     ensures { OnOk result ((t : ATerm) → total_at totals.new t ≡ total_at totals.old t +ℤ multiplier
         *ℤ coefficient (normal_summands (Rows.plus plus.now ++ Rows.minus minus.now)) t) }
 {
@@ -67,9 +61,7 @@ fn add_difference(
 
 /// Adds the sum `multiplier` times.
 fn add_sum(totals: &mut Totals, sum: &[Mono], multiplier: i128) -> Result<(), AllocError>
-    requires sum { IsTrue (are_small_monomials sum.now) }
-    requires multiplier { unsigned_abs multiplier ≤ 2 ^ 80 }
-    requires room { (t : ATerm) → unsigned_abs (total_at totals.old t) ≤ 2 ^ 121 }
+    requires { unsigned_abs multiplier ≤ 2 ^ 80 }
     ensures { OnOk result ((t : ATerm) → total_at totals.new t ≡ total_at totals.old t +ℤ multiplier
         *ℤ coefficient (normal_summands (Rows.plus sum.now)) t) }
 {
@@ -81,8 +73,7 @@ fn add_sum(totals: &mut Totals, sum: &[Mono], multiplier: i128) -> Result<(), Al
 
 fn product(multiplier: i128, coefficient: u32) -> i128
     requires { unsigned_abs multiplier ≤ 2 ^ 80 }
-    ensures value { result ≡ multiplier *ℤ pos coefficient }
-    ensures size { unsigned_abs result ≤ 2 ^ 112 }
+    ensures { result ≡ multiplier *ℤ pos coefficient }
 {
     multiplier * i128::from(coefficient)
 }

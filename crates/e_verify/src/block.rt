@@ -12,7 +12,7 @@ ghost use Rattle.e_verify.specs.Checking.{AreVerified, KeepsFirstFacts, StepsRej
 ghost use Rattle.e_verify.specs.Checking.{RejectIs, StepRejects, verdict_at};
 ghost use Rattle.e_deriv.specs.Goal.{goal_view};
 
-use crate::closes::{contradiction, qed};
+use crate::closes::{is_contradiction_certified, is_qed_certified};
 use crate::reject::Reject;
 use crate::scope::are_over;
 use crate::step_state::StepState;
@@ -202,10 +202,13 @@ fn verify_close(
     match close {
         Close::Qed { objects, certs } => {
             let objects = objects.items();
-            verdict_of(qed(alloc, objects, certs.items(), goal, state)?, number)
+            verdict_of(
+                is_qed_certified(alloc, objects, certs.items(), goal, state)?,
+                number,
+            )
         }
         Close::Contradiction { against } => verdict_of(
-            contradiction(alloc, against, state)?,
+            is_contradiction_certified(alloc, against, state)?,
             number,
         ),
         Close::Cases { lit, first, second } => {

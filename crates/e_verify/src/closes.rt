@@ -20,7 +20,7 @@ use e_theorem::all_renamed;
 use std::alloc::{AllocError, Global};
 
 /// Whether a qed is certified: each literal of the goal, with these objects for its made ones.
-pub fn qed(
+pub fn is_qed_certified(
     alloc: Global,
     objects: &[Obj],
     certs: &[Cert],
@@ -41,7 +41,7 @@ pub fn qed(
 }
 
 /// Whether a contradiction is certified.
-pub fn contradiction(
+pub fn is_contradiction_certified(
     alloc: Global,
     against: &Option<Against>,
     state: &StepState,
@@ -58,7 +58,7 @@ pub fn contradiction(
 }
 
 /// The literals of the goal with these objects for its made ones.
-pub(crate) fn goal_with(alloc: Global, goal: &Goal, objects: &[Obj]) -> Result<Vec<Lit>, AllocError>
+pub fn goal_with(alloc: Global, goal: &Goal, objects: &[Obj]) -> Result<Vec<Lit>, AllocError>
     requires one_sort { map (λ o. o.sort) goal.now.made.now ≡ map (λ o. o.sort) objects.now }
     ensures { IfOk result (λ lits. lits.items ≡ goal_at (goal_view goal.now) objects.now) }
 {

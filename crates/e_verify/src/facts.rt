@@ -71,7 +71,7 @@ impl Model for Facts {
 
 impl Facts {
     /// No facts.
-    pub fn new(alloc: Global) -> Facts
+    pub(crate) fn new(alloc: Global) -> Facts
         ensures { result ≡ [] }
     {
         Facts {
@@ -80,7 +80,7 @@ impl Facts {
     }
 
     /// Whether one the same is there.
-    pub fn has(&self, lit: &Lit) -> bool
+    pub(crate) fn has(&self, lit: &Lit) -> bool
         ensures { result ≡ is_fact self.now lit.now }
     {
         has_same(&self.lits, lit, fingerprint_of(lit))
@@ -107,14 +107,14 @@ impl Facts {
     }
 
     /// Whether each of the literals is there.
-    pub fn have_all(&self, lits: &[Lit]) -> bool
+    pub(crate) fn have_all(&self, lits: &[Lit]) -> bool
         ensures { result ≡ has_all self.now lits.now }
     {
         lits.iter().all(|lit| self.has(lit))
     }
 
     /// Whether the facts say that two points differ, in one order or the other.
-    pub fn are_apart(&self, a: u16, b: u16) -> bool
+    pub(crate) fn are_apart(&self, a: u16, b: u16) -> bool
         ensures { result ≡ say_apart self.now a b }
     {
         self.say_differ(a, b) || self.say_differ(b, a)
@@ -132,7 +132,7 @@ impl Facts {
 
     /// Whether the term occurs in a fact, as it is written.
     #[tactic(auto, using(crate::proofs::arithmetic::StepTerms::occurring))]
-    pub fn has_term(&self, term: Term) -> bool
+    pub(crate) fn has_term(&self, term: Term) -> bool
         ensures { result ≡ list_any (term_eq term) (terms_of_lits self.now) }
     {
         stands_in_any(&self.lits, term)
@@ -140,7 +140,7 @@ impl Facts {
 
     /// Puts the literal last, unless one the same is there.
     #[tactic(auto, unfolding(e_literal::specs::Facts::joined))]
-    pub fn add(&mut self, lit: Lit) -> Result<(), AllocError>
+    pub(crate) fn add(&mut self, lit: Lit) -> Result<(), AllocError>
         ensures { OnOk result (self.new ≡ joined self.old lit) }
     {
         let fingerprint = fingerprint_of(&lit);
@@ -153,7 +153,7 @@ impl Facts {
     }
 
     /// Puts the literals in, one after the other.
-    pub fn join(&mut self, lits: Vec<Lit>) -> Result<(), AllocError>
+    pub(crate) fn join(&mut self, lits: Vec<Lit>) -> Result<(), AllocError>
         ensures { OnOk result (self.new ≡ joined_all self.old lits.items) }
     {
         for lit in lits {
@@ -170,7 +170,7 @@ impl Facts {
     }
 
     /// Takes away all facts but the first `count`.
-    pub fn back_to(&mut self, count: usize)
+    pub(crate) fn back_to(&mut self, count: usize)
         ensures { self.new ≡ take count self.old }
     {
         self.lits.truncate(count);

@@ -6,13 +6,13 @@ ghost use Rattle.e_literal.specs.Solution.{carried};
 ghost use Rattle.e_verify.specs.inner.Fingerprint.{square_residue, term_number};
 ghost use Rattle.e_verify.specs.inner.Fingerprint.{sum_weight, packed, atom_fingerprint};
 
-use crate::key::placed;
+use crate::key::pack;
 use e_literal::{Atom, Lit, Mono, Term, canonical, is_degenerate};
 
 /// The square modulo a prime below 2^30, so that a sum of such numbers with small coefficients
 /// stays far within 128 bits.
 #[tactic(auto, unfolding(crate::specs::inner::Fingerprint::square_residue))]
-fn mixed(n: u64) -> u64
+fn residue_of_square(n: u64) -> u64
     requires { n < 2 ^ 32 }
     ensures value { result ≡ square_residue n }
     ensures bound { result < 2 ^ 30 }
@@ -26,9 +26,9 @@ fn number_of(term: Term) -> u64
     ensures bound { result < 2 ^ 30 }
 {
     match term {
-        Term::Seg(a, b) => mixed(u64::from(a) + 251 * u64::from(b)),
+        Term::Seg(a, b) => residue_of_square(u64::from(a) + 251 * u64::from(b)),
         Term::Ang(a, b, c) | Term::Area(a, b, c) => {
-            mixed(u64::from(a) + 251 * u64::from(b) + 63_001 * u64::from(c))
+            residue_of_square(u64::from(a) + 251 * u64::from(b) + 63_001 * u64::from(c))
         }
         Term::Right => 1,
     }
@@ -69,7 +69,7 @@ fn weight_of(sum: &[Mono]) -> u128
 fn number_for(kind: u16, a: u16, b: u16, c: u16) -> u128
     ensures { result ≡ packed kind a b c }
 {
-    u128::from(placed(kind, a, b, c))
+    u128::from(pack(kind, a, b, c))
 }
 
 /// The fingerprint of a literal: literals that are the same have one.

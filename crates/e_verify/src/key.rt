@@ -12,15 +12,15 @@ pub fn key_of(term: Term) -> u64
     ensures narrow { IsTrue (is_narrow term) }
 {
     match term {
-        Term::Seg(a, b) => placed(0, a, b, 0),
-        Term::Ang(a, b, c) => placed(1, a, b, c),
-        Term::Area(a, b, c) => placed(2, a, b, c),
-        Term::Right => placed(3, 0, 0, 0),
+        Term::Seg(a, b) => pack(0, a, b, 0),
+        Term::Ang(a, b, c) => pack(1, a, b, c),
+        Term::Area(a, b, c) => pack(2, a, b, c),
+        Term::Right => pack(3, 0, 0, 0),
     }
 }
 
 /// Four numbers as one.
-pub fn placed(kind: u16, a: u16, b: u16, c: u16) -> u64
+pub fn pack(kind: u16, a: u16, b: u16, c: u16) -> u64
     ensures { result ≡ packed kind a b c }
 {
     let front = (u64::from(kind) * 0x1_0000 + u64::from(a)) * 0x1_0000 + u64::from(b);

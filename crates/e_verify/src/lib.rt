@@ -1,5 +1,4 @@
-//! Checks a derivation, certificate by certificate, and puts the places of facts into certificates.
-//! Nothing is searched for.
+//! Checks a derivation, certificate by certificate. Nothing is searched for.
 #![tactic(auto)]
 
 mod adding;
@@ -7,14 +6,11 @@ mod alike;
 mod block;
 mod certificate;
 mod closes;
-mod ending;
 mod facts;
 mod fingerprint;
 mod instances;
 mod key;
 mod metric;
-mod numbering;
-mod places;
 mod reject;
 mod rows;
 mod scope;
@@ -25,6 +21,13 @@ mod totals;
 mod transfer;
 mod verifier;
 
-pub use numbering::numbered;
 pub use reject::Reject;
 pub use verifier::verify;
+
+// What holds before a step, and its parts: `e_places` goes through a derivation likewise.
+pub use closes::goal_with;
+pub use facts::Facts;
+pub use instances::{instance_of, negated_others};
+pub use step_state::{Checkpoint, StepState};
+pub use steps::written_args;
+pub use verifier::state_at_start;

@@ -46,7 +46,7 @@ pub fn sums_refute<'a>(
             differs,
             above,
             below,
-        } => match differing(facts, wanted, differs) {
+        } => match row_not_zero(facts, wanted, differs) {
             Some(row) => both_refute(alloc, facts, wanted, row, above.rows(), below.rows()),
             None => Ok(false),
         },
@@ -89,7 +89,7 @@ fn both_refute<'a>(
 }
 
 /// The row that says that its form is not 0, or none where the name may not be used here.
-fn differing<'a>(
+fn row_not_zero<'a>(
     facts: &'a Facts,
     wanted: Option<&'a Lit>,
     name: &'a RowName,

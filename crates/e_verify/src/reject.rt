@@ -11,7 +11,7 @@ use thiserror::Error;
 pub enum Reject {
     /// The step with this number, counted from 1, where closes are steps too, is the first that
     /// is not certified.
-    #[error("line {step} is not certified")]
+    #[error("step {step} is not certified")]
     Bad { step: u32 },
     /// Out of memory.
     #[error("out of memory")]

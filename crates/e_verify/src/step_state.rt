@@ -5,9 +5,9 @@ ghost use Rattle.e_literal.specs.Literal.{negation};
 ghost use Rattle.e_literal.specs.Facts.{joined, joined_all};
 ghost use Rattle.e_theorem.specs.Statements.{stated};
 ghost use Rattle.e_deriv.specs.Fitting.{is_small, is_small_statement};
-ghost use Rattle.e_verify.specs.inner.StepStates.{checkpoint_of_state, state_restored};
-ghost use Rattle.e_verify.specs.inner.StepStates.{state_with_facts, state_after_make};
-ghost use Rattle.e_verify.specs.inner.StepStates.{state_after_superposed, state_after_use};
+ghost use Rattle.e_verify.specs.StepStates.{checkpoint_of_state, state_restored};
+ghost use Rattle.e_verify.specs.StepStates.{state_with_facts, state_after_make};
+ghost use Rattle.e_verify.specs.StepStates.{state_after_superposed, state_after_use};
 
 use crate::facts::Facts;
 use e_construct::{Construction, Superpose};

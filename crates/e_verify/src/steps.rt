@@ -17,7 +17,7 @@ ghost use Rattle.e_deriv.specs.Script.{Script, Cite, Hence, Make, Apply, Superpo
 ghost use Rattle.e_deriv.specs.Steps;
 ghost use Rattle.e_deriv.specs.Steps.{is_citation};
 ghost use Rattle.e_verify.specs.Checking.{IsChecked, step_in_state};
-ghost use Rattle.e_verify.specs.inner.StepStates.{state_after_superposed, state_after_use};
+ghost use Rattle.e_verify.specs.StepStates.{state_after_superposed, state_after_use};
 ghost use Rattle.e_clause.specs.Written.{is_writable_cert};
 
 use crate::certificate::{certifies, certify_all};
@@ -135,7 +135,7 @@ pub fn apply(
     let Some(statement) = before.get(theorem as usize) else {
         return Ok(false);
     };
-    let Some(objects) = all_written(alloc, args)? else {
+    let Some(objects) = written_args(alloc, args)? else {
         return Ok(false);
     };
     let scope = state.scope;
@@ -209,10 +209,7 @@ pub fn superpose(
 }
 
 /// The arguments, or none where one of them is a blank.
-pub(crate) fn all_written(
-    alloc: Global,
-    args: &[Option<Obj>],
-) -> Result<Option<Vec<Obj>>, AllocError>
+pub fn written_args(alloc: Global, args: &[Option<Obj>]) -> Result<Option<Vec<Obj>>, AllocError>
     ensures { IfOk result (λ o. option_map (λ v. v.items) o
         ≡ (if has_no_blank args.now then Some (written args.now) else None)) }
 {

@@ -41,8 +41,8 @@ pub fn refutes(
         strict = strict || is_strict;
         add_row(&mut totals, row, *multiplier)?;
     }
-    let are_zero = totals.are_zero();
-    Ok(strict && are_zero)
+    let cancel = totals.cancel();
+    Ok(strict && cancel)
 }
 
 fn has_limited_size(sum: &[(i128, RowName)]) -> bool

@@ -8,7 +8,7 @@ ghost use Rattle.e_deriv.specs.Proves.{IsProof};
 ghost use Rattle.e_deriv.specs.Script.{script_of};
 ghost use Rattle.e_verify.specs.Checking.{RejectIs};
 ghost use Rattle.e_verify.specs.Verdicts.{IsVerifiable};
-ghost use Rattle.e_verify.specs.inner.StepStates.{state_at_start};
+ghost use Rattle.e_verify.specs.StepStates;
 
 use crate::block::verify_block;
 use crate::facts::Facts;
@@ -39,7 +39,7 @@ pub fn verify(
 {
     let scope = grown(NOTHING, statement.declared.items());
     let made = next_objects(alloc, scope, statement.made.items())?;
-    let mut state = begin(alloc, scope, statement)?;
+    let mut state = state_at_start(alloc, scope, statement)?;
     let goal = Goal {
         made: &made,
         shown: statement.shown.items(),
@@ -52,13 +52,13 @@ pub fn verify(
 
 /// What holds before the first step: the declared objects are in scope, and the given literals are
 /// facts.
-pub(crate) fn begin(
+pub fn state_at_start(
     alloc: Global,
     scope: Scope,
     statement: &Statement,
 ) -> Result<StepState, AllocError>
     requires { scope ≡ scope_of (stated statement.now) }
-    ensures { IfOk result (λ x. x ≡ state_at_start (stated statement.now)) }
+    ensures { IfOk result (λ x. x ≡ StepStates.state_at_start (stated statement.now)) }
 {
     let mut state = StepState {
         scope,

@@ -15,8 +15,8 @@ use Rattle.e_book.specs.TheoremViews.{TheoremView}
 use Rattle.e_book.specs.HasSpelling.{HasSpelling}
 use Rattle.e_book.proofs.fit_theorems.WrittenScripts.{erased_literals, written_well}
 use Rattle.e_book.specs.Grammar.{Rest}
-use Rattle.e_verify.specs.Numbered.{derivation_with_places}
-use Rattle.e_verify.proofs.placing.NumberedLines.{numbered_certified, numbered_erased}
+use Rattle.e_places.specs.Numbered.{derivation_with_places}
+use Rattle.e_places.proofs.placing.NumberedLines.{numbered_certified, numbered_erased}
 use Rattle.e_judgement.specs.declared.judgement.Judgement.TheVariants.{Verified}
 use Rattle.e_judgement.specs.Judged.{ReadsNext, IsCertified, lines_of_text}
 use Rattle.e_roundtrip.specs.Written.{CanBeVerified}

@@ -9,7 +9,7 @@ use Rattle.e_deriv.specs.Versions.{has_certs_of}
 use Rattle.e_names.specs.TitledStatements.{TitledStatement, stated_by, is_known}
 use Rattle.e_book.specs.TheoremViews.{TheoremView}
 use Rattle.e_book.specs.Grammar.{Rest}
-use Rattle.e_verify.specs.Numbered.{derivation_with_places}
+use Rattle.e_places.specs.Numbered.{derivation_with_places}
 use Rattle.e_verify.specs.Verdicts.{IsVerifiable}
 use Rattle.e_judgement.specs.declared.judgement.Judgement.{Judgement}
 use Rattle.e_judgement.specs.Judged.{with_theorem, IsCertified, Passes, Closes, lines_of_text}

@@ -4,7 +4,7 @@ use Rattle.std.specs.Prelude.{ℤ, pos, ◌+ℤ◌, ◌*ℤ◌, unsigned_abs, na
 use Rattle.std.specs.Option.{option_map, option_map_or}
 use Rattle.std.specs.List.{list_all, list_any}
 use Rattle.std.specs.Ordering.{int_eq}
-use Rattle.std.proofs.lemmas.List.{take_more}
+use Rattle.std.proofs.lemmas.List.{take_more, length-take}
 use Rattle.std.proofs.lemmas.List.Folds.{list_all-append, list_any-append}
 use Rattle.std.proofs.lemmas.Bool.{cases_Bool}
 use mathlib.Core.Bool.{or-false, and_comm, and-true}
@@ -120,12 +120,12 @@ cancelled ws h = all_hold (λ t. int_eq (total ws t) (pos 0)) (terms_of ws) (λ 
 
 -- ---- rows that are added up
 
--- the rows of these names, `n` of them, are added up here
-pub record IsAdded (p : Place) (xs : List (ℤ × RowName)) (n : ℕ) (es : List (ℕ × ℤ)) (strict : Bool) : Type 0 where
+-- the rows of these names are added up here
+pub record IsAdded (p : Place) (xs : List (ℤ × RowName)) (es : List (ℕ × ℤ)) (strict : Bool) : Type 0 where
   pub rows : List Weighed
   pub named : weighed_rows p xs ≡ Some rows
   pub sum : (t : Term) → total_at es t ≡ total rows t
-  pub size : (t : Term) → unsigned_abs (total_at es t) ≤ n * 2 ^ 106
+  pub size : (t : Term) → unsigned_abs (total_at es t) ≤ length xs * 2 ^ 106
   pub signs : good_signs rows ≡ true
   pub has_strict : strict ≡ some_strict rows
 
@@ -133,16 +133,16 @@ total_more : (ws : List Weighed) (w : Weighed) (t : Term) → total (ws ++ w ∷
 total_more [] w t = omega (arith, sums)
 total_more (v ∷ ws) w t = omega (arith, sums, total_more ws w t)
 
-pub one_added : (p : Place) (xs : List (ℤ × RowName)) (i : ℕ) (x : ℤ × RowName) (es after : List (ℕ × ℤ)) (strict now new : Bool) (row : CodeRow) → i < length xs → x ≡ get_or xs i x → IsAdded p (take i xs) i es strict
+pub one_added : (p : Place) (xs : List (ℤ × RowName)) (i : ℕ) (x : ℤ × RowName) (es after : List (ℕ × ℤ)) (strict now new : Bool) (row : CodeRow) → i < length xs → x ≡ get_or xs i x → IsAdded p (take i xs) es strict
     → row_named p x.1 ≡ Some (row_view row) → ((t : Term) → total_at after t ≡ total_at es t +ℤ x.0 *ℤ coefficient (row_view row).form t) → allows_multiplier (row_view row).sense x.0 ≡ true
-    → now ≡ is_strict (row_view row).sense x.0 → new ≡ (strict || now) → is_small_row row ≡ true → unsigned_abs x.0 ≤ 2 ^ 80 → IsAdded p (take (i + 1) xs) (i + 1) after new
+    → now ≡ is_strict (row_view row).sense x.0 → new ≡ (strict || now) → is_small_row row ≡ true → unsigned_abs x.0 ≤ 2 ^ 80 → IsAdded p (take (i + 1) xs) after new
 one_added p xs i x es after strict now new row h is a e f g k n small m =
     let r = row_view row in
     record {
       rows = a.rows ++ weigh x.0 r ∷ [];
       named = ap (weighed_rows p) (take_more xs i x h ∙ ap (λ y. take i xs ++ y ∷ []) (sym is)) ∙ named_more p (take i xs) x r e ∙ ap (option_map (λ ws. ws ++ weigh x.0 r ∷ [])) a.named;
       sum = λ t. f t ∙ ap (λ z. z +ℤ x.0 *ℤ coefficient r.form t) (a.sum t) ∙ sym (total_more a.rows (weigh x.0 r) t);
-      size = λ t. omega (arith, ap unsigned_abs (f t), a.size t, abs_sum (total_at es t) (x.0 *ℤ coefficient r.form t), product_size x.0 (coefficient r.form t) (2 ^ 80) 64000000 m (row_size row t small));
+      size = λ t. omega (arith, h, length-take i xs, length-take (i + 1) xs, ap unsigned_abs (f t), a.size t, abs_sum (total_at es t) (x.0 *ℤ coefficient r.form t), product_size x.0 (coefficient r.form t) (2 ^ 80) 64000000 m (row_size row t small));
       signs = list_all-append (λ (w : Weighed). allows_multiplier w.row.sense w.multiplier) a.rows (weigh x.0 r ∷ []) ∙ ap (λ b. b && (allows_multiplier r.sense x.0 && true)) a.signs ∙ and-true (allows_multiplier r.sense x.0) ∙ g;
       has_strict = n ∙ ap (λ b. b || now) a.has_strict ∙ ap (λ b. some_strict a.rows || b) (k ∙ sym (or-false (is_strict r.sense x.0)))
           ∙ sym (list_any-append (λ (w : Weighed). is_strict w.row.sense w.multiplier) a.rows (weigh x.0 r ∷ []));
@@ -162,9 +162,9 @@ bad_sign p xs i x r h is e k =
     by None h = refl
     by (Some ws) h = and_false (cancel ws) (good_signs ws && some_strict ws) (ap (λ b. b && some_strict ws) h)
 
-pub whole : (p : Place) (xs ys : List (ℤ × RowName)) (n : ℕ) (es : List (ℕ × ℤ)) (strict none : Bool) → is_limited_sum xs ≡ true → ys ≡ xs → IsAdded p ys n es strict
+pub whole : (p : Place) (xs ys : List (ℤ × RowName)) (es : List (ℕ × ℤ)) (strict none : Bool) → is_limited_sum xs ≡ true → ys ≡ xs → IsAdded p ys es strict
     → IsTrue none ↔ ((t : Term) → total_at es t ≡ pos 0) → (strict && none) ≡ refutes p xs
-whole p xs ys n es strict none size all a z =
+whole p xs ys es strict none size all a z =
     and_comm strict none ∙ ap (λ b. b && strict) same ∙ ap (λ b. cancel a.rows && b) (a.has_strict ∙ sym (ap (λ b. b && some_strict a.rows) a.signs))
     ∙ sym (ap (λ o. option_map_or is_absurd o false) (ap (weighed_rows p) (sym all) ∙ a.named)) ∙ sym (ap (λ b. b && option_map_or is_absurd (weighed_rows p xs) false) size)
   where
@@ -183,11 +183,11 @@ good_multiplier xs i x h k is =
     leb-true (unsigned_abs m) (2 ^ 80) (and_right (not (int_eq m (pos 0))) (nat_le (unsigned_abs m) (2 ^ 80))
     (ap (λ (y : ℤ × RowName). is_nonzero_bounded y.0) is ∙ all_get (λ (x : ℤ × RowName). is_nonzero_bounded x.0) xs i x (and_right (nat_le (length xs) 4096) all (and_right (nat_le 1 (length xs)) (nat_le (length xs) 4096 && all) h)) k))
 
-pub room_for : (p : Place) (xs : List (ℤ × RowName)) (i : ℕ) (es : List (ℕ × ℤ)) (strict : Bool) (t : Term) → is_limited_sum xs ≡ true → i < length xs → IsAdded p (take i xs) i es strict → unsigned_abs (total_at es t) ≤ 2 ^ 120
-room_for p xs i es strict t h k a =
+pub small_totals : (p : Place) (xs : List (ℤ × RowName)) (i : ℕ) (es : List (ℕ × ℤ)) (strict : Bool) (t : Term) → is_limited_sum xs ≡ true → IsAdded p (take i xs) es strict → unsigned_abs (total_at es t) < 2 ^ 127
+small_totals p xs i es strict t h a =
     let all = list_all (λ (x : ℤ × RowName). is_nonzero_bounded x.0) xs in
     let few = leb-true (length xs) 4096 (and_left (nat_le (length xs) 4096) all (and_right (nat_le 1 (length xs)) (nat_le (length xs) 4096 && all) h)) in
-    omega (arith, few, k, a.size t)
+    omega (arith, few, length-take i xs, a.size t)
 
 pub all_taken : {X : Type 0} (xs : List X) (i : ℕ) → length xs ≤ i → take i xs ≡ xs
 all_taken [] zero h = refl

@@ -1,8 +1,8 @@
 -- Coefficients of sums, and how large they are.
-use Rattle.std.proofs.Common.{◌≡◌, ℕ, ◌+◌, ◌*◌, ◌<◌, ◌≤◌, ◌^◌, List, [], ◌∷◌, ◌++◌, map, take, length, get_or, refl, sym, ap, ◌∙◌, arith, Bool, true, false, cond, not, ◌&&◌, filter, zero, suc, Result, Ok, Err, leb-true}
+use Rattle.std.proofs.Common.{◌≡◌, ℕ, ◌+◌, ◌*◌, ◌<◌, ◌≤◌, List, [], ◌∷◌, ◌++◌, map, take, length, get_or, refl, sym, ap, ◌∙◌, arith, Bool, true, false, cond, not, ◌&&◌, filter, Result, Ok, Err, leb-true}
 use Rattle.std.specs.Prelude.{ℤ, pos, neg_ℤ, ◌+ℤ◌, ◌*ℤ◌, unsigned_abs, nat_le, OnOk, if◌then◌else◌}
 use Rattle.std.specs.List.{list_all}
-use Rattle.std.proofs.lemmas.List.{take_more, length-take, map-append}
+use Rattle.std.proofs.lemmas.List.{take_more, map-append}
 use borrow.Author.Differences.{abs_is}
 use denote.Bor.{Bor}
 use Rattle.e_literal.specs.declared.object.Term.{Term}
@@ -10,7 +10,7 @@ use Rattle.e_literal.specs.declared.object.Term.TheVariants.{Right}
 use Rattle.e_literal.specs.declared.object.Mono.{Mono}
 use Rattle.e_literal.specs.Same.{canonical, term_eq}
 use Rattle.e_literal.specs.Rows.{Summands, coefficient, normal_summands, times, plus, minus, is_degenerate}
-use Rattle.e_literal.proofs.Arith.{sums, mul_add, mul_neg, neg_mul, mul_one, size_negative, product_size}
+use Rattle.e_literal.proofs.Arith.{sums, mul_add, mul_neg, neg_mul, mul_one, size_negative}
 use Rattle.e_literal.proofs.Booleans.{and_left, and_right}
 use Rattle.e_literal.proofs.Valued.{coefficient_negative}
 use Rattle.e_verify.specs.inner.Small.{are_small_monomials, is_small_row}
@@ -104,22 +104,6 @@ sum_size (m ∷ ms) t h =
     let one = single_size m.coeff m.term t in
     let both = abs_sum (single (pos m.coeff) m.term t) (coefficient (normal_summands (plus ms)) t) in
     omega (arith, low, rest, one, both, ap unsigned_abs (single_and (pos m.coeff) m.term t (plus ms)))
-
-low_front : (ms : List Mono) (i : ℕ) → has_low ms ≡ true → has_low (take i ms) ≡ true
-low_front ms zero h = refl
-low_front [] (suc i) h = refl
-low_front (m ∷ ms) (suc i) h = ap (λ b. b && has_low (take i ms)) (and_left (nat_le m.coeff 1000000) (has_low ms) h) ∙ low_front ms i (and_right (nat_le m.coeff 1000000) (has_low ms) h)
-
-pub front_size : (ms : List Mono) (i : ℕ) (t : Term) → are_small_monomials ms ≡ true → unsigned_abs (coefficient (normal_summands (plus (take i ms))) t) ≤ 32000000
-front_size ms i t h =
-    let few = leb-true (length ms) 32 (and_left (nat_le (length ms) 32) (has_low ms) h) in
-    omega (arith, few, length-take i ms, sum_size (take i ms) t (low_front ms i (and_right (nat_le (length ms) 32) (has_low ms) h)))
-
-pub room_for_one : (a m c p x : ℤ) → x ≡ a +ℤ m *ℤ c → unsigned_abs a ≤ 2 ^ 121 → unsigned_abs m ≤ 2 ^ 80 → unsigned_abs c ≤ 32000000 → unsigned_abs p ≤ 2 ^ 112 → unsigned_abs x + unsigned_abs p < 2 ^ 127
-room_for_one a m c p x e h k l s = omega (arith, ap unsigned_abs e, abs_sum a (m *ℤ c), product_size m c (2 ^ 80) 32000000 k l, h, s)
-
-pub room_after : (a m c x : ℤ) → x ≡ a +ℤ m *ℤ c → unsigned_abs a ≤ 2 ^ 120 → unsigned_abs m ≤ 2 ^ 80 → unsigned_abs c ≤ 32000000 → unsigned_abs x ≤ 2 ^ 121
-room_after a m c x e h k l = omega (arith, ap unsigned_abs e, abs_sum a (m *ℤ c), product_size m c (2 ^ 80) 32000000 k l, h)
 
 -- ---- what is added
 

@@ -1,88 +1,27 @@
--- What is read from a table of coefficients, each with the key of its term.
-use Rattle.std.proofs.Common.{◌≡◌, ℕ, ◌+◌, ◌<◌, ◌^◌, ◌↔◌, List, [], ◌∷◌, refl, sym, ap, subst, ◌∙◌, arith, Bool, true, false, cond, not, map, Option, Some, None, ◌&&◌, true≢false, SFits}
-use Rattle.std.specs.Prelude.{ℤ, pos, ◌+ℤ◌, unwrap_or, unsigned_abs, IsTrue}
-use Rattle.std.specs.List.{list_all, All}
-use Rattle.std.proofs.lemmas.Map.Views.{All-found, All-keys-insert_entry}
-use Rattle.std.proofs.lemmas.List.Elements.{All-nil, All-head, All-tail}
-use Rattle.std.proofs.lemmas.Int.{fits_signed_from_abs}
-use Rattle.std.specs.Ordering.{int_eq, is_eq, nat_cmp}
-use Rattle.std.specs.Cmp.{nat_cmp_total}
-use Rattle.std.specs.Map.{lookup, keys_of, values_of}
-use Rattle.std.specs.BTreeMap.{BTreeMap, IsOrdered, get, Updates, insert_entry}
+-- What is read from a list of coefficients, each with the key of its term.
+use Rattle.std.proofs.Common.{◌≡◌, ℕ, suc, ◌+◌, ◌<◌, ◌≤◌, ◌^◌, ◌↔◌, ◌⊎◌, inl, inr, List, [], ◌∷◌, ◌++◌, refl, sym, ap, subst, ◌∙◌, arith, Bool, true, false, cond, not, map, ◌&&◌, true≢false, nat_eq, length, get_or, sum_by, IsPermutation, ltb-true, ltb-false, eqb-true, eq-eqb}
+use Rattle.std.specs.Prelude.{ℤ, pos, ◌+ℤ◌, unsigned_abs, IsTrue, nat_lt}
+use Rattle.std.specs.List.{All}
+use Rattle.std.specs.List.Sorted.{IsNonDecreasingBy}
+use Rattle.std.specs.Int.{int_wrap}
+use Rattle.std.specs.Ordering.{int_eq}
+use Rattle.std.proofs.lemmas.Bool.{ne_eqb, eqb-false}
+use Rattle.std.proofs.lemmas.List.Elements.{All-nil, All-head, All-tail, All-push}
+use Rattle.std.proofs.lemmas.List.Sorted.{sum_by-IsPermutation}
+use Rattle.std.proofs.lemmas.List.Sums.{sum_by-cons}
+use Rattle.std.proofs.lemmas.Int.{fits_signed_from_abs, int_wrap_fits, int_wrap-add_left}
 use mir.Syntax.{w128}
-use borrow.Author.Differences.{abs_is}
+use borrow.Author.Differences.{up, down}
 use Rattle.e_literal.specs.declared.object.Term.{Term}
 use Rattle.e_literal.specs.Same.{canonical, term_eq}
 use Rattle.e_literal.specs.Rows.{coefficient, normal_summands, times, is_degenerate}
 use Rattle.e_literal.proofs.Terms.{term_eq_is}
 use Rattle.e_literal.proofs.Arith.{sums, zero_is, is_zero}
 use Rattle.e_literal.proofs.Booleans.{and_left, and_right}
-use Rattle.e_verify.specs.inner.Totals.{term_key, is_narrow, IsKey, at_key, total_at}
+use Rattle.e_verify.specs.inner.Totals.{term_key, is_narrow, IsKey, IsKeyed, is_its_key, total_at, cancel_in_runs}
 use Rattle.e_verify.proofs.arithmetic.TermKeys.{same_keys}
 
--- ---- what is read
-
--- a term with a key has the coefficient that is kept with it
-pub at_narrow : (es : List (ℕ × ℤ)) (t : Term) → is_narrow t ≡ true → total_at es t ≡ at_key es (term_key t)
-at_narrow es t h = ap (λ b. cond b (at_key es (term_key t)) (pos 0)) h
-
--- ---- what is zero
-
-abbrev are_zero : List ℤ → Bool
-are_zero vs = list_all (λ n. int_eq n (pos 0)) vs
-
-zero_at_key : (es : List (ℕ × ℤ)) (key : ℕ) → are_zero (values_of es) ≡ true → at_key es key ≡ pos 0
-zero_at_key [] key h = refl
-zero_at_key (e ∷ es) key h = by (is_eq (nat_cmp key e.0)) (zero_at_key es key (and_right (int_eq e.1 (pos 0)) (are_zero (values_of es)) h))
-  where
-    by : (b : Bool) → at_key es key ≡ pos 0 → unwrap_or (cond b (Some e.1) (lookup (λ k. is_eq (nat_cmp key k)) es)) (pos 0) ≡ pos 0
-    by true later = zero_is e.1 (and_left (int_eq e.1 (pos 0)) (are_zero (values_of es)) h)
-    by false later = later
-
-zero_at : (es : List (ℕ × ℤ)) (t : Term) → are_zero (values_of es) ≡ true → total_at es t ≡ pos 0
-zero_at es t h = by (is_narrow t)
-  where
-    by : (b : Bool) → cond b (at_key es (term_key t)) (pos 0) ≡ pos 0
-    by true = zero_at_key es (term_key t) h
-    by false = refl
-
-abbrev IsFound : BTreeMap ℕ ℤ → ℕ × ℤ → Type 0
-IsFound m e = get nat_cmp m e.0 ≡ Some e.1
-
-zero_for : (es : List (ℕ × ℤ)) (key : ℕ) → IsKey key → ((t : Term) → total_at es t ≡ pos 0) → at_key es key ≡ pos 0
-zero_for es key k h = ap (at_key es) (sym k.2) ∙ sym (at_narrow es k.0 k.1) ∙ h k.0
-
-all_zero : (m : BTreeMap ℕ ℤ) (es : List (ℕ × ℤ)) → All (IsFound m) es → All IsKey (keys_of es) → ((t : Term) → total_at m.entries t ≡ pos 0) → are_zero (values_of es) ≡ true
-all_zero m [] a k h = refl
-all_zero m (e ∷ es) a k h =
-    ap (λ b. b && are_zero (values_of es)) (is_zero e.1 (sym (ap (λ o. unwrap_or o (pos 0)) (All-head (IsFound m) e es a)) ∙ zero_for m.entries e.0 (All-head IsKey e.0 (keys_of es) k) h))
-    ∙ all_zero m es (All-tail (IsFound m) e es a) (All-tail IsKey e.0 (keys_of es) k) h
-
-pub zero_everywhere : (m : BTreeMap ℕ ℤ) (r : Bool) → All IsKey (keys_of m.entries) → IsOrdered nat_cmp m → r ≡ list_all (λ n. int_eq n (pos 0)) (values_of m.entries) → IsTrue r ↔ ((t : Term) → total_at m.entries t ≡ pos 0)
-zero_everywhere m r keys sorted e = (
-  λ h t. zero_at m.entries t (sym e ∙ h),
-  λ h. e ∙ all_zero m m.entries (All-found nat_cmp_total m sorted) keys h,
-)
-
 -- ---- what is added
-
-put_at : (old new : List (ℕ × ℤ)) (added t : Term) (n w : ℤ) → is_narrow added ≡ true → w ≡ at_key old (term_key added) +ℤ n
-    → lookup (λ k. is_eq (nat_cmp (term_key t) k)) new ≡ cond (is_eq (nat_cmp (term_key added) (term_key t))) (Some w) (lookup (λ k. is_eq (nat_cmp (term_key t) k)) old) → total_at new t ≡ total_at old t +ℤ coefficient (times n added ∷ []) t
-put_at old new added t n w low e h = by (is_narrow t) refl
-  where
-    found : (b : Bool) → term_eq added t ≡ b → unwrap_or (cond b (Some w) (lookup (λ k. is_eq (nat_cmp (term_key t) k)) old)) (pos 0) ≡ at_key old (term_key t) +ℤ (cond b n (pos 0) +ℤ pos 0)
-    found true same = e ∙ ap (λ s. at_key old (term_key s) +ℤ n) (term_eq_is added t same) ∙ omega (arith, sums)
-    found false same = omega (arith, sums)
-
-    wide : (b : Bool) → term_eq added t ≡ b → is_narrow t ≡ false → pos 0 ≡ pos 0 +ℤ (cond b n (pos 0) +ℤ pos 0)
-    wide true same k = absurd (true≢false (sym low ∙ ap is_narrow (term_eq_is added t same) ∙ k))
-    wide false same k = refl
-
-    by : (b : Bool) → is_narrow t ≡ b → cond b (at_key new (term_key t)) (pos 0) ≡ cond b (at_key old (term_key t)) (pos 0) +ℤ coefficient (times n added ∷ []) t
-    by true k =
-        ap (λ o. unwrap_or o (pos 0)) h ∙ ap (λ b. unwrap_or (cond b (Some w) (lookup (λ k. is_eq (nat_cmp (term_key t) k)) old)) (pos 0)) (same_keys added t low k)
-        ∙ found (term_eq added t) refl
-    by false k = wide (term_eq added t) refl k
 
 pub dropped : (es : List (ℕ × ℤ)) (term t : Term) (n : ℤ) → is_degenerate term ≡ true → total_at es t ≡ total_at es t +ℤ coefficient (normal_summands (times n term ∷ [])) t
 dropped es term t n d =
@@ -94,73 +33,236 @@ pub record IsKeyFor (term ordered : Term) (key : ℕ) : Type 0 where
   pub value : key ≡ term_key ordered
   pub narrow : is_narrow ordered ≡ true
 
-at_ordered : (es : List (ℕ × ℤ)) (term ordered : Term) (key : ℕ) → IsKeyFor term ordered key → at_key es key ≡ total_at es (canonical term)
-at_ordered es term ordered key k = ap (at_key es) k.value ∙ sym (at_narrow es ordered k.narrow) ∙ ap (total_at es) k.order
+key_tells : (added t : Term) → is_narrow added ≡ true → is_its_key t (term_key added) ≡ term_eq added t
+key_tells added t low = by (is_narrow t) refl
+  where
+    wide : (b : Bool) → term_eq added t ≡ b → is_narrow t ≡ false → false ≡ b
+    wide true same k = absurd (true≢false (sym low ∙ ap is_narrow (term_eq_is added t same) ∙ k))
+    wide false same k = refl
 
-fits_wide : (a b : ℤ) → unsigned_abs a + unsigned_abs b < 2 ^ 127 → SFits w128 (a +ℤ b)
-fits_wide a b h = fits_signed_from_abs w128 (a +ℤ b) (omega (arith, sums, abs_is a, abs_is b, abs_is (a +ℤ b), h))
+    by : (b : Bool) → is_narrow t ≡ b → (b && nat_eq (term_key added) (term_key t)) ≡ term_eq added t
+    by true k = same_keys added t low k
+    by false k = wide (term_eq added t) refl k
 
--- the entry with the key, where there is one
-stands : (m : BTreeMap ℕ ℤ) (es : List (ℕ × ℤ)) (key : ℕ) (o : Option ℤ) → m.entries ≡ es → o ≡ get nat_cmp m key → unwrap_or o (pos 0) ≡ at_key es key
-stands m es key o is e = ap (λ x. unwrap_or x (pos 0)) e ∙ ap (λ xs. at_key xs key) is
+total_push : (es : List (ℕ × ℤ)) (key : ℕ) (n : ℤ) (t : Term) → total_at (es ++ (key, n) ∷ []) t ≡ total_at es t +ℤ (cond (is_its_key t key) n (pos 0) +ℤ pos 0)
+total_push [] key n t = omega (arith, sums)
+total_push (e ∷ es) key n t = omega (arith, sums, total_push es key n t)
 
-pub fits_for : (m : BTreeMap ℕ ℤ) (es : List (ℕ × ℤ)) (term ordered : Term) (key : ℕ) (o : Option ℤ) (before n : ℤ) → m.entries ≡ es → IsKeyFor term ordered key → o ≡ get nat_cmp m key → o ≡ Some before
-    → unsigned_abs (total_at es (canonical term)) + unsigned_abs n < 2 ^ 127 → SFits w128 (before +ℤ n)
-fits_for m es term ordered key o before n is k e f h =
-    fits_wide before n
-    (subst (λ z. unsigned_abs z + unsigned_abs n < 2 ^ 127) (sym (ap (λ x. unwrap_or x (pos 0)) (sym f) ∙ stands m es key o is e ∙ at_ordered es term ordered key k)) h)
-
--- the coefficients with this one at the key
-abbrev IsPut : List (ℕ × ℤ) → List (ℕ × ℤ) → ℕ → ℤ → Type 0
-IsPut es new key w = (q : ℕ) → lookup (λ x. is_eq (nat_cmp q x)) new ≡ cond (is_eq (nat_cmp key q)) (Some w) (lookup (λ x. is_eq (nat_cmp q x)) es)
-
-put_for : (es new : List (ℕ × ℤ)) (term ordered : Term) (key : ℕ) (n w : ℤ) → IsKeyFor term ordered key → w ≡ at_key es key +ℤ n → is_degenerate term ≡ false → IsPut es new key w
+pub added_for : (es new : List (ℕ × ℤ)) (term ordered : Term) (key : ℕ) (n : ℤ) → IsKeyFor term ordered key → new ≡ es ++ (key, n) ∷ [] → is_degenerate term ≡ false
     → (t : Term) → total_at new t ≡ total_at es t +ℤ coefficient (normal_summands (times n term ∷ [])) t
-put_for es new term ordered key n w k e d put t =
-    put_at es new ordered t n w k.narrow (e ∙ ap (λ x. at_key es x +ℤ n) k.value) (put (term_key t) ∙ ap (λ x. cond (is_eq (nat_cmp x (term_key t))) (Some w) (lookup (λ x. is_eq (nat_cmp (term_key t) x)) es)) k.value)
+added_for es new term ordered key n k is d t =
+    ap (λ xs. total_at xs t) is ∙ total_push es key n t
+    ∙ ap (λ x. total_at es t +ℤ (cond (is_its_key t x) n (pos 0) +ℤ pos 0)) k.value
+    ∙ ap (λ b. total_at es t +ℤ (cond b n (pos 0) +ℤ pos 0)) (key_tells ordered t k.narrow)
     ∙ ap (λ u. total_at es t +ℤ coefficient (times n u ∷ []) t) k.order
     ∙ ap (λ form. total_at es t +ℤ coefficient form t) (sym (kept d))
   where
     kept : is_degenerate term ≡ false → normal_summands (times n term ∷ []) ≡ times n (canonical term) ∷ []
     kept d = ap (λ b. map (λ (p : ℤ × Term). times p.0 (canonical p.1)) (cond (not b) (times n term ∷ []) [])) d
 
-is_put : (m m' : BTreeMap ℕ ℤ) (es : List (ℕ × ℤ)) (key : ℕ) (w : ℤ) → m.entries ≡ es → Updates nat_cmp m m' key (Some w) → IsPut es m'.entries key w
-is_put m m' es key w is u q = u.0 q ∙ ap (λ xs. cond (is_eq (nat_cmp key q)) (Some w) (lookup (λ x. is_eq (nat_cmp q x)) xs)) is
-
-put_twice : (es middle new : List (ℕ × ℤ)) (key : ℕ) (v w : ℤ) → IsPut es middle key v → IsPut middle new key w → IsPut es new key w
-put_twice es middle new key v w h k q = k q ∙ by (is_eq (nat_cmp key q)) (h q)
-  where
-    by : (b : Bool) → lookup (λ x. is_eq (nat_cmp q x)) middle ≡ cond b (Some v) (lookup (λ x. is_eq (nat_cmp q x)) es)
-        → cond b (Some w) (lookup (λ x. is_eq (nat_cmp q x)) middle) ≡ cond b (Some w) (lookup (λ x. is_eq (nat_cmp q x)) es)
-    by true e = refl
-    by false e = e
-
--- the term was not there
-pub first_for : (m m' : BTreeMap ℕ ℤ) (es : List (ℕ × ℤ)) (term ordered : Term) (key : ℕ) (o : Option ℤ) (n : ℤ) → m.entries ≡ es → IsKeyFor term ordered key → o ≡ get nat_cmp m key → o ≡ None → is_degenerate term ≡ false
-    → Updates nat_cmp m m' key (Some n) → (t : Term) → total_at m'.entries t ≡ total_at es t +ℤ coefficient (normal_summands (times n term ∷ [])) t
-first_for m m' es term ordered key o n is k e f d u =
-    let zero_there : pos 0 ≡ at_key es key = ap (λ x. unwrap_or x (pos 0)) (sym f) ∙ stands m es key o is e in
-    put_for es m'.entries term ordered key n n k (plus_none n ∙ ap (λ z. z +ℤ n) zero_there) d (is_put m m' es key n is u)
-  where
-    plus_none : (z : ℤ) → z ≡ pos 0 +ℤ z
-    plus_none z = omega (arith, sums)
-
--- the term was there
-pub added_for : (m m' m'' : BTreeMap ℕ ℤ) (es : List (ℕ × ℤ)) (term ordered : Term) (key : ℕ) (o : Option ℤ) (before n : ℤ) → m.entries ≡ es → IsKeyFor term ordered key → o ≡ get nat_cmp m key → o ≡ Some before
-    → is_degenerate term ≡ false → Updates nat_cmp m m' key (Some n) → Updates nat_cmp m' m'' key (Some (before +ℤ n)) → (t : Term) → total_at m''.entries t ≡ total_at es t +ℤ coefficient (normal_summands (times n term ∷ [])) t
-added_for m m' m'' es term ordered key o before n is k e f d u v =
-    let there : before ≡ at_key es key = ap (λ x. unwrap_or x (pos 0)) (sym f) ∙ stands m es key o is e in
-    put_for es m''.entries term ordered key n (before +ℤ n) k (ap (λ z. z +ℤ n) there) d
-    (put_twice es m'.entries m''.entries key n (before +ℤ n) (is_put m m' es key n is u) (is_put m' m'' m'.entries key (before +ℤ n) refl v))
-
 -- ---- which keys are there
 
-pub keys_and : (es new : List (ℕ × ℤ)) (term ordered : Term) (key : ℕ) (n : ℤ) → IsKeyFor term ordered key → new ≡ insert_entry nat_cmp es key n → All IsKey (keys_of es) → All IsKey (keys_of new)
+pub keys_and : (es new : List (ℕ × ℤ)) (term ordered : Term) (key : ℕ) (n : ℤ) → IsKeyFor term ordered key → new ≡ es ++ (key, n) ∷ [] → All IsKeyed es → All IsKeyed new
 keys_and es new term ordered key n k is h =
-    subst (λ xs. All IsKey (keys_of xs)) (sym is) (All-keys-insert_entry nat_cmp key n IsKey es h (ordered, k.narrow, sym k.value))
+    subst (All IsKeyed) (sym is) (All-push IsKeyed es (key, n) h (ordered, k.narrow, sym k.value))
 
-pub same_entries : (es new : List (ℕ × ℤ)) → new ≡ es → All IsKey (keys_of es) → All IsKey (keys_of new)
-same_entries es new is h = subst (λ xs. All IsKey (keys_of xs)) (sym is) h
+pub same_entries : (es new : List (ℕ × ℤ)) → new ≡ es → All IsKeyed es → All IsKeyed new
+same_entries es new is h = subst (All IsKeyed) (sym is) h
 
-pub no_entries : (es : List (ℕ × ℤ)) → es ≡ [] → All IsKey (keys_of es)
-no_entries es is = subst (λ xs. All IsKey (keys_of xs)) (sym is) (All-nil IsKey)
+pub no_entries : (es : List (ℕ × ℤ)) → es ≡ [] → All IsKeyed es
+no_entries es is = subst (All IsKeyed) (sym is) (All-nil IsKeyed)
+
+-- ---- the sum of a key
+
+abbrev sum_at : List (ℕ × ℤ) → ℕ → ℤ
+sum_at [] key = pos 0
+sum_at (e ∷ es) key = cond (nat_eq e.0 key) e.1 (pos 0) +ℤ sum_at es key
+
+at_narrow : (es : List (ℕ × ℤ)) (t : Term) → is_narrow t ≡ true → total_at es t ≡ sum_at es (term_key t)
+at_narrow [] t h = refl
+at_narrow (e ∷ es) t h = ap (λ b. cond (b && nat_eq e.0 (term_key t)) e.1 (pos 0) +ℤ total_at es t) h ∙ ap (λ z. cond (nat_eq e.0 (term_key t)) e.1 (pos 0) +ℤ z) (at_narrow es t h)
+
+at_wide : (es : List (ℕ × ℤ)) (t : Term) → is_narrow t ≡ false → total_at es t ≡ pos 0
+at_wide [] t h = refl
+at_wide (e ∷ es) t h = ap (λ b. cond (b && nat_eq e.0 (term_key t)) e.1 (pos 0) +ℤ total_at es t) h ∙ ap (λ z. pos 0 +ℤ z) (at_wide es t h)
+
+-- a key that is no key of a term has no coefficient
+found : (es : List (ℕ × ℤ)) (key : ℕ) → All IsKeyed es → (sum_at es key ≡ pos 0) ⊎ IsKey key
+found [] key a = inl refl
+found (e ∷ es) key a = by (nat_eq e.0 key) refl (found es key (All-tail IsKeyed e es a))
+  where
+    by : (b : Bool) → nat_eq e.0 key ≡ b → (sum_at es key ≡ pos 0) ⊎ IsKey key → (sum_at (e ∷ es) key ≡ pos 0) ⊎ IsKey key
+    by true s later = inr (subst IsKey (eqb-true e.0 key s) (All-head IsKeyed e es a))
+    by false s (inl z) = inl (ap (λ b. cond b e.1 (pos 0) +ℤ sum_at es key) s ∙ ap (λ y. pos 0 +ℤ y) z)
+    by false s (inr k) = inr k
+
+-- ---- the order makes no difference
+
+abbrev ups : ℕ → ℕ × ℤ → ℕ
+ups key e = cond (nat_eq e.0 key) (up e.1) 0
+
+abbrev downs : ℕ → ℕ × ℤ → ℕ
+downs key e = cond (nat_eq e.0 key) (down e.1) 0
+
+split : (es : List (ℕ × ℤ)) (key : ℕ) → sum_at es key +ℤ pos (sum_by (downs key) es) ≡ pos (sum_by (ups key) es)
+split [] key = refl
+split (e ∷ es) key =
+    ap (λ n. (cond (nat_eq e.0 key) e.1 (pos 0) +ℤ sum_at es key) +ℤ pos n) (sum_by-cons (downs key) e es) ∙ by (nat_eq e.0 key) (split es key) ∙ ap pos (sym (sum_by-cons (ups key) e es))
+  where
+    by : (b : Bool) → sum_at es key +ℤ pos (sum_by (downs key) es) ≡ pos (sum_by (ups key) es)
+        → (cond b e.1 (pos 0) +ℤ sum_at es key) +ℤ pos (cond b (down e.1) 0 + sum_by (downs key) es) ≡ pos (cond b (up e.1) 0 + sum_by (ups key) es)
+    by true rest = omega (arith, sums, rest)
+    by false rest = omega (arith, sums, rest)
+
+moved : (xs ys : List (ℕ × ℤ)) (key : ℕ) → IsPermutation xs ys → sum_at ys key ≡ sum_at xs key
+moved xs ys key p = omega (arith, sums, split xs key, split ys key, sum_by-IsPermutation (ups key) xs ys p, sum_by-IsPermutation (downs key) xs ys p)
+
+-- ---- keys in order
+
+-- no key is below the one before it, and the first not below this one
+abbrev Rises : ℕ → List (ℕ × ℤ) → Type 0
+Rises key [] = key ≤ key
+Rises key (e ∷ es) = (key ≤ e.0) × Rises e.0 es
+
+rises : (key : ℕ) (es : List (ℕ × ℤ)) → ((d : ℕ × ℤ) → 0 < length es → key ≤ (get_or es 0 d).0) → IsNonDecreasingBy (λ (e : ℕ × ℤ). e.0) es → Rises key es
+rises key [] h sorted = omega arith
+rises key (e ∷ es) h sorted = (
+  h (0, pos 0) (omega arith),
+  rises e.0 es (λ d lt. sorted 0 (suc 0) d (omega arith) (omega (arith, lt))) (λ i j d le lt. sorted (suc i) (suc j) d (omega (arith, le)) (omega (arith, lt))),
+)
+
+absent : (es : List (ℕ × ℤ)) (low key : ℕ) → Rises low es → key < low → sum_at es key ≡ pos 0
+absent [] low key r h = refl
+absent (e ∷ es) low key r h =
+    ap (λ b. cond b e.1 (pos 0) +ℤ sum_at es key) (ne_eqb e.0 key (λ s. omega (arith, s, r.0, h))) ∙ ap (λ z. pos 0 +ℤ z) (absent es e.0 key r.1 (omega (arith, r.0, h)))
+
+-- ---- runs that cancel
+
+abbrev wrap : ℤ → ℤ
+wrap z = int_wrap w128 z
+
+wrap_small : (z : ℤ) → unsigned_abs z < 2 ^ 127 → wrap z ≡ z
+wrap_small z h = int_wrap_fits w128 z (fits_signed_from_abs w128 z (omega (arith, h)))
+
+wrap_zero : wrap (pos 0) ≡ pos 0
+wrap_zero = wrap_small (pos 0) (omega arith)
+
+plus_none : (z : ℤ) → z +ℤ pos 0 ≡ z
+plus_none z = omega (arith, sums)
+
+none_plus : (z : ℤ) → pos 0 +ℤ z ≡ z
+none_plus z = omega (arith, sums)
+
+-- this much of the key, and what is there of another
+abbrev with_so_far : ℕ → ℤ → List (ℕ × ℤ) → ℕ → ℤ
+with_so_far key so_far es q = cond (nat_eq key q) so_far (pos 0) +ℤ sum_at es q
+
+one_run : (key : ℕ) (so_far : ℤ) (e : ℕ × ℤ) (es : List (ℕ × ℤ)) (q : ℕ) → nat_eq e.0 key ≡ true → with_so_far key (so_far +ℤ e.1) es q ≡ with_so_far key so_far (e ∷ es) q
+one_run key so_far e es q s =
+    by (nat_eq key q) ∙ ap (λ k. cond (nat_eq key q) so_far (pos 0) +ℤ (cond (nat_eq k q) e.1 (pos 0) +ℤ sum_at es q)) (sym (eqb-true e.0 key s))
+  where
+    by : (b : Bool) → cond b (so_far +ℤ e.1) (pos 0) +ℤ sum_at es q ≡ cond b so_far (pos 0) +ℤ (cond b e.1 (pos 0) +ℤ sum_at es q)
+    by true = omega (arith, sums)
+    by false = omega (arith, sums)
+
+new_run : (key : ℕ) (e : ℕ × ℤ) → nat_eq e.0 key ≡ false → key ≤ e.0 → key < e.0
+new_run key e s le = by (nat_lt key e.0) refl
+  where
+    by : (b : Bool) → nat_lt key e.0 ≡ b → key < e.0
+    by true h = ltb-true key e.0 h
+    by false h = absurd (eqb-false e.0 key s (omega (arith, le, ltb-false key e.0 h)))
+
+past_run : (key : ℕ) (so_far : ℤ) (es : List (ℕ × ℤ)) (q : ℕ) → key < q → with_so_far key so_far es q ≡ sum_at es q
+past_run key so_far es q h = ap (λ b. cond b so_far (pos 0) +ℤ sum_at es q) (ne_eqb key q (λ s. omega (arith, s, h))) ∙ none_plus (sum_at es q)
+
+this_run : (key : ℕ) (so_far : ℤ) (es : List (ℕ × ℤ)) (low : ℕ) → Rises low es → key < low → with_so_far key so_far es key ≡ so_far
+this_run key so_far es low r h = ap (λ b. cond b so_far (pos 0) +ℤ sum_at es key) (eq-eqb key key refl) ∙ ap (λ z. so_far +ℤ z) (absent es low key r h) ∙ plus_none so_far
+
+abbrev AreZero : ℕ → ℤ → List (ℕ × ℤ) → Type 0
+AreZero key so_far es = (q : ℕ) → key ≤ q → wrap (with_so_far key so_far es q) ≡ pos 0
+
+-- what is found where the first has another key, or the same
+abbrev next_run : ℤ → ℕ × ℤ → List (ℕ × ℤ) → Bool
+next_run so_far e es = int_eq (wrap so_far) (pos 0) && cancel_in_runs e.0 (wrap e.1) es
+
+abbrev same_run : ℕ → ℤ → ℕ × ℤ → List (ℕ × ℤ) → Bool
+same_run key so_far e es = cancel_in_runs key (wrap (wrap so_far +ℤ e.1)) es
+
+same_run_is : (key : ℕ) (so_far : ℤ) (e : ℕ × ℤ) (es : List (ℕ × ℤ)) → same_run key so_far e es ≡ cancel_in_runs key (wrap (so_far +ℤ e.1)) es
+same_run_is key so_far e es = ap (λ z. cancel_in_runs key z es) (int_wrap-add_left w128 so_far e.1)
+
+on_true : (key : ℕ) (so_far : ℤ) (es : List (ℕ × ℤ)) → Rises key es → AreZero key so_far es → cancel_in_runs key (wrap so_far) es ≡ true
+on_true key so_far [] r h = is_zero (wrap so_far) (ap wrap (sym (ap (λ b. cond b so_far (pos 0) +ℤ pos 0) (eq-eqb key key refl) ∙ plus_none so_far)) ∙ h key (omega arith))
+on_true key so_far (e ∷ es) r h = by (nat_eq e.0 key) refl (on_true key (so_far +ℤ e.1) es) (on_true e.0 e.1 es)
+  where
+    by : (b : Bool) → nat_eq e.0 key ≡ b → (Rises key es → AreZero key (so_far +ℤ e.1) es → cancel_in_runs key (wrap (so_far +ℤ e.1)) es ≡ true)
+        → (Rises e.0 es → AreZero e.0 e.1 es → cancel_in_runs e.0 (wrap e.1) es ≡ true) → cond b (same_run key so_far e es) (next_run so_far e es) ≡ true
+    by true s on past = same_run_is key so_far e es ∙ on (subst (λ k. Rises k es) (eqb-true e.0 key s) r.1) (λ q le. ap wrap (one_run key so_far e es q s) ∙ h q le)
+    by false s on past =
+        let above = new_run key e s r.0 in
+        let here = is_zero (wrap so_far) (ap wrap (sym (this_run key so_far (e ∷ es) e.0 (omega arith, r.1) above)) ∙ h key (omega arith)) in
+        ap (λ b. b && cancel_in_runs e.0 (wrap e.1) es) here
+        ∙ past r.1 (λ q le. ap wrap (sym (past_run key so_far (e ∷ es) q (omega (arith, above, le)))) ∙ h q (omega (arith, above, le)))
+
+-- where the next run has another key
+at_next : (key : ℕ) (so_far : ℤ) (e : ℕ × ℤ) (es : List (ℕ × ℤ)) (q : ℕ) → Rises e.0 es → key < e.0 → wrap so_far ≡ pos 0 → (e.0 ≤ q → wrap (sum_at (e ∷ es) q) ≡ pos 0) → wrap (with_so_far key so_far (e ∷ es) q) ≡ pos 0
+at_next key so_far e es q r above here past = by (nat_eq key q) refl (nat_lt q e.0) refl
+  where
+    by : (b : Bool) → nat_eq key q ≡ b → (c : Bool) → nat_lt q e.0 ≡ c → wrap (with_so_far key so_far (e ∷ es) q) ≡ pos 0
+    by true same c low =
+        ap (λ k. wrap (with_so_far key so_far (e ∷ es) k)) (sym (eqb-true key q same)) ∙ ap wrap (this_run key so_far (e ∷ es) e.0 (omega arith, r) above) ∙ here
+    by false other true low =
+        ap (λ b. wrap (cond b so_far (pos 0) +ℤ sum_at (e ∷ es) q)) other ∙ ap (λ z. wrap (pos 0 +ℤ z)) (absent (e ∷ es) e.0 q (omega arith, r) (ltb-true q e.0 low)) ∙ wrap_zero
+    by false other false low =
+        let le = ltb-false q e.0 low in
+        ap wrap (past_run key so_far (e ∷ es) q (omega (arith, above, le))) ∙ past le
+
+all_zero : (key : ℕ) (so_far : ℤ) (es : List (ℕ × ℤ)) → Rises key es → cancel_in_runs key (wrap so_far) es ≡ true → AreZero key so_far es
+all_zero key so_far [] r h q le = by (nat_eq key q)
+  where
+    by : (b : Bool) → wrap (cond b so_far (pos 0) +ℤ pos 0) ≡ pos 0
+    by true = ap wrap (plus_none so_far) ∙ zero_is (wrap so_far) h
+    by false = wrap_zero
+all_zero key so_far (e ∷ es) r h q le = by (nat_eq e.0 key) refl h (all_zero key (so_far +ℤ e.1) es) (all_zero e.0 e.1 es)
+  where
+    by : (b : Bool) → nat_eq e.0 key ≡ b → cond b (same_run key so_far e es) (next_run so_far e es) ≡ true
+        → (Rises key es → cancel_in_runs key (wrap (so_far +ℤ e.1)) es ≡ true → AreZero key (so_far +ℤ e.1) es)
+        → (Rises e.0 es → cancel_in_runs e.0 (wrap e.1) es ≡ true → AreZero e.0 e.1 es) → wrap (with_so_far key so_far (e ∷ es) q) ≡ pos 0
+    by true s k on past = ap wrap (sym (one_run key so_far e es q s)) ∙ on (subst (λ k. Rises k es) (eqb-true e.0 key s) r.1) (sym (same_run_is key so_far e es) ∙ k) q le
+    by false s k on past =
+        at_next key so_far e es q r.1 (new_run key e s r.0) (zero_is (wrap so_far) (and_left (int_eq (wrap so_far) (pos 0)) (cancel_in_runs e.0 (wrap e.1) es) k))
+        (past r.1 (and_right (int_eq (wrap so_far) (pos 0)) (cancel_in_runs e.0 (wrap e.1) es) k) q)
+
+-- ---- what the sums come to
+
+none_yet : (es : List (ℕ × ℤ)) (q : ℕ) → with_so_far 0 (pos 0) es q ≡ sum_at es q
+none_yet es q = by (nat_eq 0 q)
+  where
+    by : (b : Bool) → cond b (pos 0) (pos 0) +ℤ sum_at es q ≡ sum_at es q
+    by true = none_plus (sum_at es q)
+    by false = none_plus (sum_at es q)
+
+pub cancel_for : (xs ys : List (ℕ × ℤ)) (r : Bool) → All IsKeyed xs → IsPermutation xs ys → IsNonDecreasingBy (λ (e : ℕ × ℤ). e.0) ys → ((t : Term) → unsigned_abs (total_at xs t) < 2 ^ 127)
+    → r ≡ cancel_in_runs 0 (pos 0) ys → IsTrue r ↔ ((t : Term) → total_at xs t ≡ pos 0)
+cancel_for xs ys r keys p sorted small is = (
+  λ h t. at_term t (is_narrow t) refl (sym started ∙ sym is ∙ h),
+  λ h. is ∙ started ∙ on_true 0 (pos 0) ys up_on (λ q le. ap wrap (none_yet ys q ∙ moved xs ys q p ∙ at_key h q (found xs q keys)) ∙ wrap_zero),
+)
+  where
+    up_on : Rises 0 ys
+    up_on = rises 0 ys (λ d lt. omega arith) sorted
+
+    started : cancel_in_runs 0 (pos 0) ys ≡ cancel_in_runs 0 (wrap (pos 0)) ys
+    started = ap (λ z. cancel_in_runs 0 z ys) (sym wrap_zero)
+
+    at_key : ((t : Term) → total_at xs t ≡ pos 0) → (q : ℕ) → (sum_at xs q ≡ pos 0) ⊎ IsKey q → sum_at xs q ≡ pos 0
+    at_key h q (inl z) = z
+    at_key h q (inr k) = ap (sum_at xs) (sym k.2) ∙ sym (at_narrow xs k.0 k.1) ∙ h k.0
+
+    at_term : (t : Term) (b : Bool) → is_narrow t ≡ b → cancel_in_runs 0 (wrap (pos 0)) ys ≡ true → total_at xs t ≡ pos 0
+    at_term t true n h =
+        let key = term_key t in
+        sym (wrap_small (total_at xs t) (small t))
+        ∙ ap wrap (at_narrow xs t n ∙ sym (moved xs ys key p) ∙ sym (none_yet ys key))
+        ∙ all_zero 0 (pos 0) ys up_on h key (omega arith)
+    at_term t false n h = at_wide xs t n

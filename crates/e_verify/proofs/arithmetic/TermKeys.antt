@@ -1,9 +1,6 @@
 -- Terms whose points have numbers below 2^16 differ where their keys differ.
-use Rattle.std.proofs.Common.{◌≡◌, ℕ, zero, suc, ◌+◌, ◌*◌, ◌<◌, refl, sym, ap, ◌∙◌, arith, Bool, true, ◌&&◌, ltb-true, lt-ltb}
-use Rattle.std.specs.Prelude.{nat_lt}
-use Rattle.std.specs.Ordering.{is_eq, nat_cmp}
-use Rattle.std.specs.Cmp.{Equal-is, tied_itself, nat_cmp_total}
-use Rattle.std.specs.FinMap.{nat_cmp-IsAntisymmetric}
+use Rattle.std.proofs.Common.{◌≡◌, ℕ, zero, suc, ◌+◌, ◌*◌, ◌<◌, refl, sym, ap, ◌∙◌, arith, Bool, true, ◌&&◌, ltb-true, lt-ltb, eqb-true, eq-eqb}
+use Rattle.std.specs.Prelude.{nat_lt, nat_eq}
 use Rattle.std.proofs.lemmas.Bool.{and_from}
 use Rattle.e_literal.specs.declared.object.Term.{Term}
 use Rattle.e_literal.specs.declared.object.Term.TheVariants.{Seg, Ang, Area, Right}
@@ -134,8 +131,8 @@ key_exact s t m n e =
     ∙ ap (term_at (kind_of t) (first_of t) (second_of t)) q.third
     ∙ back t
 
-pub same_keys : (s t : Term) → is_narrow s ≡ true → is_narrow t ≡ true → is_eq (nat_cmp (term_key s) (term_key t)) ≡ term_eq s t
+pub same_keys : (s t : Term) → is_narrow s ≡ true → is_narrow t ≡ true → nat_eq (term_key s) (term_key t) ≡ term_eq s t
 same_keys s t m n =
-    same_bool (is_eq (nat_cmp (term_key s) (term_key t))) (term_eq s t)
-    (λ h. equal_terms s t (key_exact s t m n (nat_cmp-IsAntisymmetric (term_key s) (term_key t) ((Equal-is (nat_cmp (term_key s) (term_key t))).0 h))))
-    (λ h. ap (λ u. is_eq (nat_cmp (term_key s) (term_key u))) (sym (term_eq_is s t h)) ∙ ap is_eq (tied_itself nat_cmp_total (term_key s)))
+    same_bool (nat_eq (term_key s) (term_key t)) (term_eq s t)
+    (λ h. equal_terms s t (key_exact s t m n (eqb-true (term_key s) (term_key t) h)))
+    (λ h. eq-eqb (term_key s) (term_key t) (ap term_key (term_eq_is s t h)))

@@ -38,7 +38,7 @@ use mathlib.Core.Bool.{and-false}
 use Rattle.e_theorem.specs.declared.statement.Statement.{Statement}
 use Rattle.e_theorem.specs.Statements.{stated, all_stated}
 use Rattle.e_verify.specs.declared.step_state.StepState.{StepState}
-use Rattle.e_verify.specs.inner.StepStates.{state_with_facts, state_after_make}
+use Rattle.e_verify.specs.StepStates.{state_with_facts, state_after_make}
 use Rattle.e_verify.specs.Checking.{IsChecked}
 use Rattle.e_literal.specs.Use.{are_arguments, needs_of_use, gives_of_use, is_statement}
 use Rattle.e_literal.proofs.Sorts.{same_obj_self}

@@ -15,7 +15,7 @@ use Rattle.e_deriv.specs.Certified.{Certified, derivation_steps, is_certified, v
 use Rattle.e_deriv.specs.Fitting.{is_small, is_small_statement, all_objects}
 use Rattle.e_deriv.proofs.Smallness.{few_objects}
 use Rattle.e_verify.specs.declared.step_state.StepState.{StepState}
-use Rattle.e_verify.specs.inner.StepStates.{state_at_start}
+use Rattle.e_verify.specs.StepStates.{state_at_start}
 use Rattle.e_verify.specs.Checking.{verdict_at, IsCheckable}
 use Rattle.e_verify.specs.Verdicts.{IsVerifiable}
 use Rattle.e_verify.proofs.checking.FormedFacts.{all_joined_formed}

@@ -18,7 +18,7 @@ use Rattle.e_deriv.specs.PlacedSteps.{PlacedStep, placed_steps, theorem_at}
 use Rattle.e_deriv.specs.Parts.{written}
 use Rattle.e_deriv.specs.Certified.{is_certified}
 use Rattle.e_verify.specs.declared.step_state.StepState.{StepState}
-use Rattle.e_verify.specs.inner.StepStates.{state_with_facts, state_after_make, state_after_superposed}
+use Rattle.e_verify.specs.StepStates.{state_with_facts, state_after_make, state_after_superposed}
 use Rattle.e_verify.specs.Checking.{step_in_state, steps_in_state, IsChecked, KeepsFirstFacts}
 use Rattle.e_verify.proofs.checking.FormedFacts.{all_formed}
 

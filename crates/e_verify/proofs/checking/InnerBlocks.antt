@@ -31,7 +31,7 @@ use Rattle.e_verify.specs.declared.reject.Reject.{Reject}
 use Rattle.e_verify.specs.declared.reject.Reject.TheVariants.{Bad}
 use Rattle.e_verify.specs.declared.step_state.StepState.{StepState}
 use Rattle.e_verify.specs.declared.step_state.Checkpoint.{Checkpoint}
-use Rattle.e_verify.specs.inner.StepStates.{state_with_facts, state_after_superposed, checkpoint_of_state, state_restored}
+use Rattle.e_verify.specs.StepStates.{state_with_facts, state_after_superposed, checkpoint_of_state, state_restored}
 use Rattle.e_clause.specs.Written.{is_writable_cert, is_writable_against}
 use Rattle.e_verify.specs.Checking.{step_in_state, verdict_at, RejectIs, IsCheckable, IsCheckableStep, AreCheckable, KeepsFirstFacts, AreVerified, StepsReject, StepRejects}
 use Rattle.e_verify.proofs.checking.FirstLines.{some_lines, qed_lines, contradiction_lines}

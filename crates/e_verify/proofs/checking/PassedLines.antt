@@ -28,7 +28,7 @@ use Rattle.e_deriv.proofs.Stops.{lines_length}
 use Rattle.e_verify.specs.declared.reject.Reject.{Reject}
 use Rattle.e_verify.specs.declared.reject.Reject.TheVariants.{Bad, NoMemory}
 use Rattle.e_verify.specs.declared.step_state.StepState.{StepState}
-use Rattle.e_verify.specs.inner.StepStates.{state_with_facts, state_after_superposed}
+use Rattle.e_verify.specs.StepStates.{state_with_facts, state_after_superposed}
 use Rattle.e_clause.specs.Written.{is_writable_cert, is_writable_against}
 use Rattle.e_deriv.specs.Written.{is_written_well}
 use Rattle.e_verify.specs.Checking.{step_in_state, steps_in_state, verdict_at, RejectIs, IsCheckable, IsChecked, AreVerified, StepRejects}

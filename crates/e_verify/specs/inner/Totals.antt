@@ -1,8 +1,10 @@
--- What a list of coefficients, each with the key of its term, says of a term.
-use Rattle.std.specs.Prelude.{◌≡◌, ℕ, Bool, List, ℤ, pos, unwrap_or, nat_lt, IsTrue, if◌then◌else◌}
+-- What a list of coefficients, each with the key of its term, says of a term. A term may come
+-- several times.
+use Rattle.std.specs.Prelude.{◌≡◌, ℕ, Bool, List, [], ◌∷◌, ℤ, pos, ◌+ℤ◌, ◌&&◌, nat_eq, nat_lt}
+use Rattle.std.specs.Prelude.{IsTrue, if◌then◌else◌}
 use Rattle.std.specs.List.{list_all}
-use Rattle.std.specs.Ordering.{is_eq, nat_cmp}
-use Rattle.std.specs.Map.{lookup}
+use Rattle.std.specs.Ordering.{int_eq}
+use Rattle.std.specs.Int.{int_wrap, w128}
 use Rattle.e_literal.specs.declared.object.Term.{Term}
 use Rattle.e_literal.specs.declared.object.Term.TheVariants.{Seg, Ang, Area, Right}
 use Rattle.e_literal.specs.NormalForm.{numbers_of}
@@ -23,10 +25,24 @@ is_narrow t = list_all (λ n. nat_lt n 65536) (numbers_of t)
 abbrev pub IsKey : ℕ → Type 0
 IsKey key = (t : Term) × IsTrue (is_narrow t) × (term_key t ≡ key)
 
--- the coefficient with the key, 0 where it is not there
-abbrev pub at_key : List (ℕ × ℤ) → ℕ → ℤ
-at_key entries key = unwrap_or (lookup (λ k. is_eq (nat_cmp key k)) entries) (pos 0)
+-- a coefficient with such a key
+abbrev pub IsKeyed : ℕ × ℤ → Type 0
+IsKeyed e = IsKey e.0
 
--- the coefficient of the term, 0 where it is not there
+-- the key is that of the term
+abbrev pub is_its_key : Term → ℕ → Bool
+is_its_key t key = is_narrow t && nat_eq key (term_key t)
+
+-- the sum of the coefficients of the term
 abbrev pub total_at : List (ℕ × ℤ) → Term → ℤ
-total_at entries t = if is_narrow t then at_key entries (term_key t) else pos 0
+total_at [] t = pos 0
+total_at (e ∷ es) t = (if is_its_key t e.0 then e.1 else pos 0) +ℤ total_at es t
+
+-- where those with one key stand side by side, each of the sums is 0 to 128 bits: that of the first
+-- has this key, and comes after this much of it
+abbrev pub cancel_in_runs : ℕ → ℤ → List (ℕ × ℤ) → Bool
+cancel_in_runs key so_far [] = int_eq so_far (pos 0)
+cancel_in_runs key so_far (e ∷ es) =
+    if nat_eq e.0 key
+    then cancel_in_runs key (int_wrap w128 (so_far +ℤ e.1)) es
+    else (int_eq so_far (pos 0) && cancel_in_runs e.0 (int_wrap w128 e.1) es)

@@ -2,14 +2,8 @@ use Rattle.std.proofs.Common.{◌+ℤ◌, ◌*ℤ◌, ◌∙◌, ap, SFits, to_z
 use mir.Syntax.{w128}
 use Rattle.e_literal.specs.Rows.{coefficient, normal_summands, plus}
 use Rattle.e_verify.specs.inner.Totals.{total_at}
-use Rattle.e_verify.proofs.arithmetic.Coefficients.{sum_bound, room_after, added_both, on_ok}
+use Rattle.e_verify.proofs.arithmetic.Coefficients.{added_both, on_ok}
 use Rattle.e_verify.proofs.adding.add_difference.Goals as goal
-
-pub add_sum-requires-2-clause-room : goal.add_sum-requires-2-clause-room
-add_sum-requires-2-clause-room c t =
-    let m : SFits w128 c.args.multiplier = c.ranges.multiplier in
-    let more = simp to_z-of_z at c.in_ok-add_sum.ensures in
-    room_after (total_at c.args.totals.now t) c.args.multiplier (coefficient (normal_summands (plus c.args.plus.now)) t) (total_at c.add_sum.new.totals t) (more t) (c.requires.room t) c.requires.multiplier (sum_bound c.args.plus.now t c.requires.plus)
 
 pub returns : goal.returns
 returns c =

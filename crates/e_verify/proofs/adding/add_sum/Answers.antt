@@ -1,24 +1,13 @@
-use Rattle.std.proofs.Common.{◌+ℤ◌, SFits, to_z-of_z, rules, get_or, take, ap, ◌∙◌}
+use Rattle.std.proofs.Common.{◌+ℤ◌, SFits, to_z-of_z, rules, get_or, ap, ◌∙◌}
 use mir.Syntax.{w128}
 use Rattle.e_literal.specs.declared.object.Term.TheVariants.{Seg}
 use Rattle.e_literal.specs.declared.object.Mono.{Mono}
-use Rattle.e_literal.specs.Same.{canonical}
-use Rattle.e_literal.specs.Rows.{coefficient, normal_summands, plus}
 use Rattle.e_verify.specs.inner.Totals.{total_at}
-use Rattle.e_verify.proofs.arithmetic.Coefficients.{single, front_size, room_for_one, added_one}
+use Rattle.e_verify.proofs.arithmetic.Coefficients.{single, added_one}
 use Rattle.e_verify.proofs.adding.add_sum.Goals as goal
 
 abbrev none : Mono
 none = record { coeff = 0; term = Seg 0 0 }
-
-pub add-requires : goal.add-requires
-add-requires c =
-    let m : SFits w128 c.args.multiplier = c.ranges.multiplier in
-    let p : SFits w128 c.product.result = search rules in
-    let so_far = simp to_z-of_z at c.loop-m.invariant in
-    let k = canonical (get_or c.args.sum.now c.loop-m.m-index none).term in
-    simp to_z-of_z (room_for_one (total_at c.args.totals.now k) c.args.multiplier (coefficient (normal_summands (plus (take c.loop-m.m-index c.args.sum.now))) k) c.product.result (total_at c.loop-m.totals k)
-    (so_far k) (c.requires.room k) c.requires.multiplier (front_size c.args.sum.now c.loop-m.m-index k c.requires.sum) c.product.ensures.size)
 
 pub loop-m-preserved : goal.loop-m-preserved
 loop-m-preserved c t =
@@ -26,6 +15,6 @@ loop-m-preserved c t =
     let p : SFits w128 c.product.result = search rules in
     let so_far = simp to_z-of_z at c.loop-m.invariant in
     let more = simp to_z-of_z at c.in_ok-add.ensures in
-    let is = simp to_z-of_z at c.product.ensures.value in
+    let is = simp to_z-of_z at c.product.ensures in
     simp to_z-of_z (added_one (total_at c.args.totals.now t) c.args.multiplier (total_at c.loop-m.totals t) (total_at c.add.new.self t) c.args.sum.now c.loop-m.m-index none t c.loop-m-test.true
     (so_far t) (more t ∙ ap (λ n. total_at c.loop-m.totals t +ℤ single n (get_or c.args.sum.now c.loop-m.m-index none).term t) is))

@@ -245,49 +245,49 @@ verify_close-verdict_of-requires t c = few_one (all_stated c.args.before.now) (c
 pub verify_close-verdict_of-requires-in-Contradiction : goal.verify_close-verdict_of-requires-in-Contradiction
 verify_close-verdict_of-requires-in-Contradiction t c = few_one (all_stated c.args.before.now) (close_script c.args.close.now) c.args.state.now (goal_view c.args.goal.now) c.args.number c.requires.ready
 
-pub verify_close-qed-requires-clause-facts : goal.verify_close-qed-requires-clause-facts
-verify_close-qed-requires-clause-facts t c = c.requires.ready.facts
+pub verify_close-is_qed_certified-requires-clause-facts : goal.verify_close-is_qed_certified-requires-clause-facts
+verify_close-is_qed_certified-requires-clause-facts t c = c.requires.ready.facts
 
-pub verify_close-qed-requires-clause-shown : goal.verify_close-qed-requires-clause-shown
-verify_close-qed-requires-clause-shown t c = c.requires.ready.shown
+pub verify_close-is_qed_certified-requires-clause-shown : goal.verify_close-is_qed_certified-requires-clause-shown
+verify_close-is_qed_certified-requires-clause-shown t c = c.requires.ready.shown
 
-pub verify_close-qed-requires-clause-certs : goal.verify_close-qed-requires-clause-certs
-verify_close-qed-requires-clause-certs t c =
+pub verify_close-is_qed_certified-requires-clause-certs : goal.verify_close-is_qed_certified-requires-clause-certs
+verify_close-is_qed_certified-requires-clause-certs t c =
     let y = c.in-Qed in
     qed_parts (all_stated c.args.before.now) c.args.close.now y.objects y.certs c.items.result.now c.args.state.now (goal_view c.args.goal.now) c.args.number y.is c.items.ensures c.requires.ready
 
-pub verify_close-returns-in_ok-qed-in-Qed-clause-ok : goal.verify_close-returns-in_ok-qed-in-Qed-clause-ok
-verify_close-returns-in_ok-qed-in-Qed-clause-ok t c =
+pub verify_close-returns-in_ok-is_qed_certified-in-Qed-clause-ok : goal.verify_close-returns-in_ok-is_qed_certified-in-Qed-clause-ok
+verify_close-returns-in_ok-is_qed_certified-in-Qed-clause-ok t c =
     let before = all_stated c.args.before.now in
     let y = c.in-Qed in
-    qed_ok before c.args.close.now y.objects c.items-objects.result.now y.certs c.items.result.now c.args.state.now (goal_view c.args.goal.now) c.args.number c.in_ok-qed-in-Qed.field-0 c.verdict_of.result y.is c.items-objects.ensures c.items.ensures
-    (c.in_ok-qed-in-Qed.ensures before) c.verdict_of.ensures.ok
+    qed_ok before c.args.close.now y.objects c.items-objects.result.now y.certs c.items.result.now c.args.state.now (goal_view c.args.goal.now) c.args.number c.in_ok-is_qed_certified-in-Qed.field-0 c.verdict_of.result y.is c.items-objects.ensures c.items.ensures
+    (c.in_ok-is_qed_certified-in-Qed.ensures before) c.verdict_of.ensures.ok
 
-pub verify_close-returns-in_ok-qed-in-Qed-clause-err : goal.verify_close-returns-in_ok-qed-in-Qed-clause-err
-verify_close-returns-in_ok-qed-in-Qed-clause-err t c =
+pub verify_close-returns-in_ok-is_qed_certified-in-Qed-clause-err : goal.verify_close-returns-in_ok-is_qed_certified-in-Qed-clause-err
+verify_close-returns-in_ok-is_qed_certified-in-Qed-clause-err t c =
     let before = all_stated c.args.before.now in
     let y = c.in-Qed in
-    qed_bad before c.args.close.now y.objects c.items-objects.result.now y.certs c.items.result.now c.args.state.now (goal_view c.args.goal.now) c.args.number c.in_ok-qed-in-Qed.field-0 c.verdict_of.result y.is c.items-objects.ensures c.items.ensures
-    (c.in_ok-qed-in-Qed.ensures before) c.verdict_of.ensures.err
+    qed_bad before c.args.close.now y.objects c.items-objects.result.now y.certs c.items.result.now c.args.state.now (goal_view c.args.goal.now) c.args.number c.in_ok-is_qed_certified-in-Qed.field-0 c.verdict_of.result y.is c.items-objects.ensures c.items.ensures
+    (c.in_ok-is_qed_certified-in-Qed.ensures before) c.verdict_of.ensures.err
 
-pub verify_close-contradiction-requires-clause-facts : goal.verify_close-contradiction-requires-clause-facts
-verify_close-contradiction-requires-clause-facts t c = c.requires.ready.facts
+pub verify_close-is_contradiction_certified-requires-clause-facts : goal.verify_close-is_contradiction_certified-requires-clause-facts
+verify_close-is_contradiction_certified-requires-clause-facts t c = c.requires.ready.facts
 
-pub verify_close-contradiction-requires-clause-against : goal.verify_close-contradiction-requires-clause-against
-verify_close-contradiction-requires-clause-against t c =
+pub verify_close-is_contradiction_certified-requires-clause-against : goal.verify_close-is_contradiction_certified-requires-clause-against
+verify_close-is_contradiction_certified-requires-clause-against t c =
     contradiction_parts (all_stated c.args.before.now) c.args.close.now c.in-Contradiction.against c.args.state.now (goal_view c.args.goal.now) c.args.number c.in-Contradiction.is c.requires.ready
 
-pub verify_close-returns-in_ok-contradiction-in-Contradiction-clause-ok : goal.verify_close-returns-in_ok-contradiction-in-Contradiction-clause-ok
-verify_close-returns-in_ok-contradiction-in-Contradiction-clause-ok t c =
+pub verify_close-returns-in_ok-is_contradiction_certified-in-Contradiction-clause-ok : goal.verify_close-returns-in_ok-is_contradiction_certified-in-Contradiction-clause-ok
+verify_close-returns-in_ok-is_contradiction_certified-in-Contradiction-clause-ok t c =
     let before = all_stated c.args.before.now in
-    contradiction_ok before c.args.close.now c.in-Contradiction.against c.args.state.now (goal_view c.args.goal.now) c.args.number c.in_ok-contradiction-in-Contradiction.field-0 c.verdict_of-in-Contradiction.result c.in-Contradiction.is
-    (c.in_ok-contradiction-in-Contradiction.ensures before (goal_view c.args.goal.now)) c.verdict_of-in-Contradiction.ensures.ok
+    contradiction_ok before c.args.close.now c.in-Contradiction.against c.args.state.now (goal_view c.args.goal.now) c.args.number c.in_ok-is_contradiction_certified-in-Contradiction.field-0 c.verdict_of-in-Contradiction.result c.in-Contradiction.is
+    (c.in_ok-is_contradiction_certified-in-Contradiction.ensures before (goal_view c.args.goal.now)) c.verdict_of-in-Contradiction.ensures.ok
 
-pub verify_close-returns-in_ok-contradiction-in-Contradiction-clause-err : goal.verify_close-returns-in_ok-contradiction-in-Contradiction-clause-err
-verify_close-returns-in_ok-contradiction-in-Contradiction-clause-err t c =
+pub verify_close-returns-in_ok-is_contradiction_certified-in-Contradiction-clause-err : goal.verify_close-returns-in_ok-is_contradiction_certified-in-Contradiction-clause-err
+verify_close-returns-in_ok-is_contradiction_certified-in-Contradiction-clause-err t c =
     let before = all_stated c.args.before.now in
-    contradiction_bad before c.args.close.now c.in-Contradiction.against c.args.state.now (goal_view c.args.goal.now) c.args.number c.in_ok-contradiction-in-Contradiction.field-0 c.verdict_of-in-Contradiction.result c.in-Contradiction.is
-    (c.in_ok-contradiction-in-Contradiction.ensures before (goal_view c.args.goal.now)) c.verdict_of-in-Contradiction.ensures.err
+    contradiction_bad before c.args.close.now c.in-Contradiction.against c.args.state.now (goal_view c.args.goal.now) c.args.number c.in_ok-is_contradiction_certified-in-Contradiction.field-0 c.verdict_of-in-Contradiction.result c.in-Contradiction.is
+    (c.in_ok-is_contradiction_certified-in-Contradiction.ensures before (goal_view c.args.goal.now)) c.verdict_of-in-Contradiction.ensures.err
 
 -- ---- a superposition
 

@@ -8,7 +8,7 @@ use Rattle.e_clause.specs.Certify.{certify_all}
 use Rattle.e_theorem.specs.Faults.{UseFaultIs}
 use Rattle.e_theorem.specs.Statements.{stated, all_stated}
 use Rattle.e_deriv.specs.Parts.{has_no_blank, written}
-use Rattle.e_verify.specs.inner.StepStates.{state_after_use}
+use Rattle.e_verify.specs.StepStates.{state_after_use}
 use Rattle.e_verify.proofs.checking.CertifiedLines.{use_checked, no_arguments, fits_of, all_are_written, few_new_of, use_formed, theorem_there}
 use Rattle.e_verify.proofs.steps.apply.Goals as goal
 

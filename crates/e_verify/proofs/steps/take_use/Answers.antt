@@ -3,7 +3,7 @@ use Rattle.std.specs.List.{list_all}
 use Rattle.e_literal.specs.WellFormed.{is_well_formed}
 use Rattle.e_clause.specs.Certify.{certify_all}
 use Rattle.e_theorem.specs.Statements.{stated}
-use Rattle.e_verify.specs.inner.StepStates.{state_after_use}
+use Rattle.e_verify.specs.StepStates.{state_after_use}
 use Rattle.e_verify.proofs.steps.take_use.Goals as goal
 
 pub certify_all-requires-clause-lits : goal.certify_all-requires-clause-lits

@@ -3,9 +3,9 @@ use Rattle.std.specs.Option.{option_map}
 use mir.Syntax.{w128}
 use Rattle.e_literal.specs.Absurd.{allows_multiplier, is_strict}
 use Rattle.e_verify.specs.inner.Views.{row_scope_view, row_view}
-use Rattle.e_verify.proofs.arithmetic.AddedRows.{not_named, bad_sign, one_added, good_multiplier, whole, all_taken}
+use Rattle.e_verify.proofs.arithmetic.AddedRows.{not_named, bad_sign, one_added, good_multiplier, small_totals, whole, all_taken}
 use Rattle.e_verify.proofs.sums.refutes.Goals as goal
-use Rattle.e_verify.proofs.sums.refutes.Goals.{then-strict, else-strict, then-strict-2, else-strict-2}
+use Rattle.e_verify.proofs.sums.refutes.Goals.{then-strict, else-strict}
 
 pub returns-in_default : goal.returns-in_default
 returns-in_default c =
@@ -37,10 +37,20 @@ loop-multiplier-preserved c =
     (ap (λ s. allows_multiplier s x.0) (sym c.sense.ensures) ∙ sym sign ∙ c.if-not-allows_sign.false) (strict ∙ ap (λ s. is_strict s x.0) c.sense-in-loop-multiplier.ensures) new c.in-Some.ensures.small
     (good_multiplier c.args.sum.now c.loop-multiplier.multiplier-index x (sym c.has_limited_size.ensures ∙ c.if-not-has_limited_size.false) c.loop-multiplier-test.true c.loop-multiplier-item.is)
 
-pub returns : goal.returns
-returns c =
+pub cancel-cancel-requires : goal.cancel-cancel-requires
+cancel-cancel-requires c t =
     let p = row_scope_view c.args.row_scope.now in
-    let e : c.if-strict-2.result ≡ (c.loop-multiplier.strict && c.are_zero-are_zero.result)
-    = elim c.if-strict-2.branch [ then-strict-2 w ↦ w.result-is ∙ ap (λ b. b && c.are_zero-are_zero.result) (sym w.if-strict-2.true) | else-strict-2 w ↦ w.result-is ∙ w.if-strict-2.false ∙ ap (λ b. b && c.are_zero-are_zero.result) (sym w.if-strict-2.false) ] in
-    e ∙ whole p c.args.sum.now _ c.loop-multiplier.multiplier-index c.loop-multiplier.totals c.loop-multiplier.strict c.are_zero-are_zero.result (sym c.has_limited_size.ensures ∙ c.if-not-has_limited_size.false) (all_taken c.args.sum.now c.loop-multiplier.multiplier-index c.loop-multiplier-test.false)
-    c.loop-multiplier.invariant c.are_zero-are_zero.ensures
+    small_totals p c.args.sum.now c.loop-multiplier.multiplier-index c.loop-multiplier.totals c.loop-multiplier.strict t (sym c.has_limited_size.ensures ∙ c.if-not-has_limited_size.false) c.loop-multiplier.invariant
+
+pub returns-then-strict-2 : goal.returns-then-strict-2
+returns-then-strict-2 c =
+    ap (λ b. b && c.cancel-cancel.result) (sym c.if-strict-2.true)
+    ∙ whole (row_scope_view c.args.row_scope.now) c.args.sum.now _ c.loop-multiplier.totals c.loop-multiplier.strict c.cancel-cancel.result (sym c.has_limited_size.ensures ∙ c.if-not-has_limited_size.false)
+    (all_taken c.args.sum.now c.loop-multiplier.multiplier-index c.loop-multiplier-test.false) c.loop-multiplier.invariant c.cancel-cancel.ensures
+
+pub returns-else-strict-2 : goal.returns-else-strict-2
+returns-else-strict-2 c =
+    c.if-strict-2.false
+    ∙ ap (λ b. b && c.cancel-cancel.result) (sym c.if-strict-2.false)
+    ∙ whole (row_scope_view c.args.row_scope.now) c.args.sum.now _ c.loop-multiplier.totals c.loop-multiplier.strict c.cancel-cancel.result (sym c.has_limited_size.ensures ∙ c.if-not-has_limited_size.false)
+    (all_taken c.args.sum.now c.loop-multiplier.multiplier-index c.loop-multiplier-test.false) c.loop-multiplier.invariant c.cancel-cancel.ensures

@@ -41,8 +41,8 @@ next_objects-requires-clause-circles c =
     subst (λ (s : Scope). s.circles + length c.items-2.result.now < 2 ^ 16) (sym (c.grown-scope.ensures ∙ ap (grown nothing) c.items.ensures))
     (subst (λ n. (scope_of (stated c.args.statement.now)).circles + n < 2 ^ 16) (sym (ap length c.items-2.ensures)) (few_more (stated c.args.statement.now) c.requires.statement).2)
 
-pub begin-requires : goal.begin-requires
-begin-requires c = c.grown-scope.ensures ∙ ap (grown nothing) c.items.ensures
+pub state_at_start-requires : goal.state_at_start-requires
+state_at_start-requires c = c.grown-scope.ensures ∙ ap (grown nothing) c.items.ensures
 
 -- the objects that are made, in the code and in the definition
 made_is : (t : StatementView) (s : Scope) (declared made : List Sort) (seen said : List Obj) → s ≡ grown nothing declared → declared ≡ t.declared → made ≡ t.made → said ≡ next_objects s made → seen ≡ said → seen ≡ next_objects (scope_of t) t.made

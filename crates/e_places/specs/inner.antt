@@ -1,0 +1,2 @@
+-- Words of private contracts and of proofs: nothing here is part of any claim.
+pub mod Numbering
