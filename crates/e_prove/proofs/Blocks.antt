@@ -23,7 +23,6 @@ use Rattle.e_deriv.specs.Goal.{Goal, goal_of}
 use Rattle.e_deriv.proofs.Scripts.{steps_at, steps_script-append, step_script-Claim, step_script-Superposed, close_script-Cases}
 use Rattle.e_prove.specs.declared.step_stop.StepStop.{StepStop}
 use Rattle.e_prove.specs.declared.step_state.StepState.{StepState}
-use Rattle.e_prove.specs.declared.block.ProvedClose.{ProvedClose}
 use Rattle.e_prove.specs.inner.StepStates.{after_literal, after_superposed}
 use Rattle.e_prove.specs.inner.StopsOfSteps.{StepStopsAmong, UnlessNoMemory, StopOf}
 use Rattle.e_prove.specs.inner.PassedSteps.{IsReadyFor, IsReadyStep, IsDerivedFrom, KeepsHeld, StopsWithin, IsPassed, StepStops}
@@ -181,13 +180,12 @@ pub split_size : (close : Close) (lit : Lit) (first second : Box Block Global) �
 split_size close lit first second is =
     ap size (ap close_script is ∙ close_script-Cases lit first second) ∙ size_split lit (script_of first.value) (script_of second.value)
 
-pub split_derived : (before : List StatementView) (close : Close) (lit : Lit) (first second : Box Block Global) (one other : Block) (x : StepState) (goal : Goal) (r : Result ProvedClose Stop) → close ≡ CasesClose lit first second →
+pub split_derived : (before : List StatementView) (close : Close) (lit : Lit) (first second : Box Block Global) (one other : Block) (derived : Close) (x : StepState) (goal : Goal) → close ≡ CasesClose lit first second →
     SplitReady before lit (script_of first.value) x goal → IsDerivedFrom before (script_of first.value) (after_literal lit x) goal (script_of one) →
-    IsDerivedFrom before (script_of second.value) (after_literal (negation lit) x) goal (script_of other) → IfOk r (λ p. close_script p.close ≡ Cases lit (script_of one) (script_of other)) →
-    IfOk r (λ p. IsDerivedFrom before (close_script close) x goal (close_script p.close))
-split_derived before close lit first second one other x goal (Err t) is ready d e a = tt
-split_derived before close lit first second one other x goal (Ok p) is ready d e a =
-    subst (λ w. IsDerivedFrom before w x goal (close_script p.close)) (sym (ap close_script is ∙ close_script-Cases lit first second))
+    IsDerivedFrom before (script_of second.value) (after_literal (negation lit) x) goal (script_of other) → close_script derived ≡ Cases lit (script_of one) (script_of other) →
+    IsDerivedFrom before (close_script close) x goal (close_script derived)
+split_derived before close lit first second one other derived x goal is ready d e a =
+    subst (λ w. IsDerivedFrom before w x goal (close_script derived)) (sym (ap close_script is ∙ close_script-Cases lit first second))
     (subst (IsDerivedFrom before (Cases lit (script_of first.value) (script_of second.value)) x goal) (sym a)
     (split_derives before lit (script_of first.value) (script_of second.value) (script_of one) (script_of other) x goal ready.over d e))
 

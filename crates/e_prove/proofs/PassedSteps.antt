@@ -1,6 +1,6 @@
 -- What is licensed step by step, whatever comes after it.
 use Rattle.std.proofs.Common.{◌≡◌, ℕ, ◌+◌, ◌-◌, ◌<◌, List, ◌∷◌, refl, sym, ap, ◌∙◌, subst, Bool, true, Result, Ok, Err, arith}
-use Rattle.std.specs.Prelude.{IfOk, IfErr}
+use Rattle.std.specs.Prelude.{IfOk, IfErr, OnOk}
 use Rattle.std.specs.List.{list_all}
 use Rattle.std.proofs.lemmas.Bool.{and_from}
 use Rattle.e_literal.specs.declared.object.Scope.{Scope}
@@ -23,8 +23,6 @@ use Rattle.e_deriv.specs.Fitting.{LitsFit, is_small}
 use Rattle.e_prove.specs.declared.step_stop.StepStop.{StepStop}
 use Rattle.e_prove.specs.declared.step_stop.StepStop.TheVariants as step_stop
 use Rattle.e_prove.specs.declared.step_state.StepState.{StepState}
-use Rattle.e_prove.specs.declared.block.ProvedStep.{ProvedStep}
-use Rattle.e_prove.specs.declared.block.ProvedClose.{ProvedClose}
 use Rattle.e_prove.specs.inner.StopsOfSteps.{StepStopsAt, UnlessNoMemory, StopOf, IsWithNumber}
 use Rattle.e_prove.specs.inner.LicensedSteps.{IsLicensedStep, IsStopOfStep, IsLicensedClose, IsStopOfClose, step_from_basis, steps_from_basis, fits_here}
 use Rattle.e_prove.specs.inner.PassedSteps.{IsReadyFor, IsDerivedFrom, KeepsHeld, Arrival, Stands, IsReachedIn, StopIn, ReachesWithin, ReachesStep, StopsWithin, IsPassed, StepStops}
@@ -236,15 +234,15 @@ names_kept step_stop.NoMemory n x after (stop.TooWide a b c d) k e = absurd (not
 names_kept step_stop.NoMemory n x after stop.NoMemory k e = tt
 
 -- the answer on a step that has no block inside
-pub numbered_passed : (before : List StatementView) (step : Step) (x after : StepState) (n : ℕ) (answered : Result Step StepStop) (r : Result ProvedStep Stop) → ((rest : Script) → size (step_script step rest) ≡ 1 + size rest) →
-    IfOk answered (λ d. IsLicensedStep before step x d after) → IfOk r (λ p. answered ≡ Ok p.step) → IfOk r (λ p. p.next ≡ n + 1) →
-    IfOk r (λ p. IsPassed before (step_script step) x n (step_script p.step) after p.next)
-numbered_passed before step x after n answered (Err s) one j e f = tt
-numbered_passed before step x after n answered (Ok p) one j e f =
-    subst (λ k. IsPassed before (step_script step) x n (step_script p.step) after k) (sym f)
-    (passed_of_licensed before step p.step x after n one (subst (λ q. IfOk q (λ d. IsLicensedStep before step x d after)) e j))
+pub numbered_passed : (before : List StatementView) (step : Step) (x after : StepState) (n m : ℕ) (answered : Result Step StepStop) (r : Result Step Stop) → ((rest : Script) → size (step_script step rest) ≡ 1 + size rest) →
+    IfOk answered (λ d. IsLicensedStep before step x d after) → IfOk r (λ d. answered ≡ Ok d) → OnOk r (m ≡ n + 1) →
+    IfOk r (λ d. IsPassed before (step_script step) x n (step_script d) after m)
+numbered_passed before step x after n m answered (Err s) one j e f = tt
+numbered_passed before step x after n m answered (Ok d) one j e f =
+    subst (λ k. IsPassed before (step_script step) x n (step_script d) after k) (sym f)
+    (passed_of_licensed before step d x after n one (subst (λ q. IfOk q (λ d. IsLicensedStep before step x d after)) e j))
 
-pub numbered_stops : (before : List StatementView) (step : Step) (x after : StepState) (n : ℕ) (answered : Result Step StepStop) (r : Result ProvedStep Stop) → IfErr answered (IsStopOfStep before step x) →
+pub numbered_stops : (before : List StatementView) (step : Step) (x after : StepState) (n : ℕ) (answered : Result Step StepStop) (r : Result Step Stop) → IfErr answered (IsStopOfStep before step x) →
     IfErr answered (UnlessNoMemory (after ≡ x)) → IfErr r (IsWithNumber answered n after.names) → IfErr r (StepStops before step x n)
 numbered_stops before step x after n answered (Ok p) k m e = tt
 numbered_stops before step x after n (Ok d) (Err (stop.Unlicensed a b c f)) k m e = absurd e
@@ -262,14 +260,14 @@ step_stops_as_memory before step x n (Ok a) e = tt
 step_stops_as_memory before step x n (Err s) e = subst (StepStops before step x n) (sym e) (λ rest goal r. (stops_for_memory before (step_script step rest) x goal n, tt))
 
 -- and of a close that has no block inside
-pub numbered_closed : (before : List StatementView) (close : Close) (x : StepState) (goal : Goal) (answered : Result Close StepStop) (r : Result ProvedClose Stop) → IfOk answered (λ d. IsLicensedClose before close x.context goal d) →
-    IfOk r (λ p. answered ≡ Ok p.close) → IfOk r (λ p. IsDerivedFrom before (close_script close) x goal (close_script p.close))
+pub numbered_closed : (before : List StatementView) (close : Close) (x : StepState) (goal : Goal) (answered : Result Close StepStop) (r : Result Close Stop) → IfOk answered (λ d. IsLicensedClose before close x.context goal d) →
+    IfOk r (λ d. answered ≡ Ok d) → IfOk r (λ d. IsDerivedFrom before (close_script close) x goal (close_script d))
 numbered_closed before close x goal answered (Err s) j e = tt
 numbered_closed before close x goal answered (Ok p) j e =
     let c = subst (λ q. IfOk q (λ d. IsLicensedClose before close x.context goal d)) e j in
     record { licensed = c.licensed; certified = c.certified; erased = c.erased; written = c.written }
 
-pub numbered_close_stops : (before : List StatementView) (close : Close) (x : StepState) (goal : Goal) (n : ℕ) (answered : Result Close StepStop) (r : Result ProvedClose Stop) → IfErr answered (IsStopOfClose before close x.context goal) →
+pub numbered_close_stops : (before : List StatementView) (close : Close) (x : StepState) (goal : Goal) (n : ℕ) (answered : Result Close StepStop) (r : Result Close Stop) → IfErr answered (IsStopOfClose before close x.context goal) →
     IfErr r (IsWithNumber answered n x.names) → IfErr r (StopsWithin before (close_script close) x goal n)
 numbered_close_stops before close x goal n answered (Ok p) k e = tt
 numbered_close_stops before close x goal n (Ok d) (Err (stop.Unlicensed a b c f)) k e = absurd e

@@ -28,18 +28,6 @@ use Rattle.e_licence.specs.Contexts.{Basis, IsWithin}
 use Rattle.e_prove.specs.declared.step_state.StepState.{StepState}
 use Rattle.e_prove.specs.inner.StepStates.{after_make, after_apply, after_superposed}
 
-none_named : (ns : Names) (sorts : List Sort) (new : List (List ℕ)) → min (length sorts) (length new) ≡ 0 → named ns sorts new ≡ ns
-none_named ns [] new h = refl
-none_named ns (sort ∷ sorts) [] h = refl
-none_named ns (sort ∷ sorts) (name ∷ new) h = absurd (omega (arith, h))
-
--- where the shorter list is through all are named
-pub all_named : (now before : Names) (sorts : List Sort) (new : List (List ℕ)) (i : ℕ) → i ≡ min (length sorts) (length new) →
-    named now (drop i sorts) (drop i new) ≡ named before sorts new → now ≡ named before sorts new
-all_named now before sorts new i done h =
-    let none : min (length (drop i sorts)) (length (drop i new)) ≡ 0 = grind (arith, common_steps) in
-    sym (none_named now (drop i sorts) (drop i new) none) ∙ h
-
 -- new objects come into scope, and then what is given joins the facts
 pub made_after : (construction : Construction) (names : List (List ℕ)) (x mid after : StepState) (sorts : List Sort) (given : List Lit) → sorts ≡ sorts_made construction →
     given ≡ gives_of_construction construction x.context.scope → mid.context ≡ record x.context { scope = grown x.context.scope sorts } → mid.names ≡ named x.names sorts names →

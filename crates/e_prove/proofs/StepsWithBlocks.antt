@@ -18,8 +18,6 @@ use Rattle.e_deriv.specs.Goal.{goal_of}
 use Rattle.e_deriv.proofs.Scripts.{step_script-Claim, step_script-Superposed}
 use Rattle.e_prove.specs.declared.step_stop.StepStop.{StepStop}
 use Rattle.e_prove.specs.declared.step_state.StepState.{StepState}
-use Rattle.e_prove.specs.declared.block.ProvedBlock.{ProvedBlock}
-use Rattle.e_prove.specs.declared.block.ProvedStep.{ProvedStep}
 use Rattle.e_prove.specs.inner.StepStates.{after_block, after_superposed, held_at, IsLeftWith}
 use Rattle.e_prove.specs.inner.StopsOfSteps.{StepStopsAmong, UnlessNoMemory, StopOf}
 use Rattle.e_prove.specs.inner.PassedSteps.{IsReadyFor, AreReadySteps, IsDerivedFrom, KeepsHeld, StopsWithin, IsPassed, StepsStop}
@@ -43,23 +41,23 @@ ready_as before f g x n e r = record {
 same_script : (s : Step) (rest : Script) → step_script s rest ≡ step_script s rest
 same_script s rest = refl
 
-pub all_passed_as : (before : List StatementView) (f g : Script → Script) (x y : StepState) (n : ℕ) (r : Result ProvedStep Stop) → ((d : Script) → g d ≡ f d) → IfOk r (λ p. IsPassed before f x n (step_script p.step) y p.next)
-    → IfOk r (λ p. IsPassed before g x n (step_script p.step) y p.next)
-all_passed_as before f g x y n (Ok p) e a = passed_as before f (step_script p.step) g (step_script p.step) x y n p.next (λ d. sym (e d)) (same_script p.step) a
-all_passed_as before f g x y n (Err t) e a = tt
+pub all_passed_as : (before : List StatementView) (f g : Script → Script) (x y : StepState) (n m : ℕ) (r : Result Step Stop) → ((d : Script) → g d ≡ f d) → IfOk r (λ s. IsPassed before f x n (step_script s) y m)
+    → IfOk r (λ s. IsPassed before g x n (step_script s) y m)
+all_passed_as before f g x y n m (Ok s) e a = passed_as before f (step_script s) g (step_script s) x y n m (λ d. sym (e d)) (same_script s) a
+all_passed_as before f g x y n m (Err t) e a = tt
 
-pub all_stopped_as : (before : List StatementView) (f g : Script → Script) (x : StepState) (n : ℕ) (r : Result ProvedStep Stop) → ((d : Script) → g d ≡ f d) → IfErr r (StepsStop before f x n) → IfErr r (StepsStop before g x n)
+pub all_stopped_as : (before : List StatementView) (f g : Script → Script) (x : StepState) (n : ℕ) (r : Result Step Stop) → ((d : Script) → g d ≡ f d) → IfErr r (StepsStop before f x n) → IfErr r (StepsStop before g x n)
 all_stopped_as before f g x n (Ok p) e h = tt
 all_stopped_as before f g x n (Err t) e h = λ rest goal r.
     let k = h rest goal (subst (λ d. IsReadyFor before d x goal) (e rest) r) in
     (subst (λ w. StopsWithin before w x goal n t) (sym (e rest)) k.0, subst (λ w. IsStopBefore (n + size w - size rest) t) (sym (e rest)) k.1)
 
 -- what holds whatever the written certificates are holds with these
-pub ok_with : (r : Result ProvedStep Stop) (P : ProvedStep → List Cert → Type 0) (certs : List Cert) → IfOk r (λ p. (cs : List Cert) → P p cs) → IfOk r (λ p. P p certs)
+pub ok_with : (r : Result Step Stop) (P : Step → List Cert → Type 0) (certs : List Cert) → IfOk r (λ p. (cs : List Cert) → P p cs) → IfOk r (λ p. P p certs)
 ok_with (Ok p) P certs h = h certs
 ok_with (Err t) P certs h = tt
 
-pub err_with : (r : Result ProvedStep Stop) (P : Stop → List Cert → Type 0) (certs : List Cert) → IfErr r (λ t. (cs : List Cert) → P t cs) → IfErr r (λ t. P t certs)
+pub err_with : (r : Result Step Stop) (P : Stop → List Cert → Type 0) (certs : List Cert) → IfErr r (λ t. (cs : List Cert) → P t cs) → IfErr r (λ t. P t certs)
 err_with (Ok p) P certs h = tt
 err_with (Err t) P certs h = h certs
 
@@ -79,16 +77,15 @@ pub claim_ends : (before : List StatementView) (shown : List Lit) (inner derived
     → are_limited_facts x.context.scope (joined_all x.context.facts shown) ≡ true
 claim_ends before shown inner derived x n d r = block_facts before r.rest (after_block shown x) r.goal (claim_rest before shown inner derived r.rest x r.goal d r.ready)
 
-pub claim_is_passed : (before : List StatementView) (shown : List Lit) (inner : Script) (x z after : StepState) (n : ℕ) (o : Names) (proved : ProvedBlock) (r : Result ProvedStep Stop) → ClaimReady before shown inner x
-    → IsDerivedFrom before inner x (goal_of shown) (script_of proved.block) → proved.next ≡ n + 1 + size inner → o ≡ x.names → KeepsHeld (held_at x) z → IfOk r (λ p. (rest : Script) → step_script p.step rest ≡ Claim shown (script_of proved.block) rest)
-    → IfOk r (λ p. p.next ≡ proved.next) → OnOk r (IsLeftWith o shown z after) → IfOk r (λ p. IsPassed before (Claim shown inner) x n (step_script p.step) after p.next)
-claim_is_passed before shown inner x z after n o proved (Err t) ready d count e k a b c = tt
-claim_is_passed before shown inner x z after n o proved (Ok p) ready d count e k a b c =
-    let D = script_of proved.block in
-    let base = passed_claim before shown inner D x n proved.next ready.over d count in
-    let here = subst (λ w. IsPassed before (Claim shown inner) x n (Claim shown D) w proved.next) (sym (after_is o x z after shown shown e k refl c)) base in
-    passed_as before (Claim shown inner) (Claim shown D) (Claim shown inner) (step_script p.step) x after n p.next (λ w. refl) (λ w. sym (a w))
-    (subst (λ m. IsPassed before (Claim shown inner) x n (Claim shown D) after m) (sym b) here)
+pub claim_is_passed : (before : List StatementView) (shown : List Lit) (inner : Script) (x z after : StepState) (n m : ℕ) (o : Names) (proved : Block) (r : Result Step Stop) → ClaimReady before shown inner x
+    → IsDerivedFrom before inner x (goal_of shown) (script_of proved) → m ≡ n + 1 + size inner → o ≡ x.names → KeepsHeld (held_at x) z → IfOk r (λ d. (rest : Script) → step_script d rest ≡ Claim shown (script_of proved) rest)
+    → OnOk r (IsLeftWith o shown z after) → IfOk r (λ d. IsPassed before (Claim shown inner) x n (step_script d) after m)
+claim_is_passed before shown inner x z after n m o proved (Err t) ready d count e k a c = tt
+claim_is_passed before shown inner x z after n m o proved (Ok p) ready d count e k a c =
+    let D = script_of proved in
+    let base = passed_claim before shown inner D x n m ready.over d count in
+    let here = subst (λ w. IsPassed before (Claim shown inner) x n (Claim shown D) w m) (sym (after_is o x z after shown shown e k refl c)) base in
+    passed_as before (Claim shown inner) (Claim shown D) (Claim shown inner) (step_script p) x after n m (λ w. refl) (λ w. sym (a w)) here
 
 pub claim_is_stopped : (before : List StatementView) (shown : List Lit) (inner : Script) (x : StepState) (n : ℕ) (t : Stop) → ClaimReady before shown inner x → StopsWithin before inner x (goal_of shown) (n + 1) t → StepsStop before (Claim shown inner) x n t
 claim_is_stopped before shown inner x n t ready k rest goal r =
@@ -118,17 +115,16 @@ pub superposed_ends : (before : List StatementView) (superposition : Superpose) 
 superposed_ends before superposition names shown certs inner derived x n d r =
     block_facts before r.rest (after_block shown x) r.goal (superposed_rest before superposition names shown certs inner derived r.rest x r.goal d r.ready)
 
-pub superposed_is_passed : (before : List StatementView) (superposition : Superpose) (names : List (List ℕ)) (shown : List Lit) (certs : List Cert) (inner : Script) (x z after : StepState) (n : ℕ) (o : Names) (proved : ProvedBlock) (r : Result ProvedStep Stop)
-    → SuperposedReady before superposition names shown inner x → Certifies superposition x certs → IsDerivedFrom before inner (after_superposed superposition names x) (goal_of shown) (script_of proved.block) → proved.next ≡ n + 1 + size inner → o ≡ x.names → KeepsHeld (held_at x) z
-    → IfOk r (λ p. (rest : Script) → step_script p.step rest ≡ Superposed superposition names shown certs (script_of proved.block) rest) → IfOk r (λ p. p.next ≡ proved.next) → OnOk r (IsLeftWith o shown z after)
-    → IfOk r (λ p. (written : List Cert) → IsPassed before (Superposed superposition names shown written inner) x n (step_script p.step) after p.next)
-superposed_is_passed before superposition names shown certs inner x z after n o proved (Err t) ready cs d count e k a b c = tt
-superposed_is_passed before superposition names shown certs inner x z after n o proved (Ok p) ready cs d count e k a b c = λ written.
-    let D = script_of proved.block in
-    let base = passed_superposed before superposition names shown written certs inner D x n proved.next ready.fits ready.over cs d count in
-    let here = subst (λ w. IsPassed before (Superposed superposition names shown written inner) x n (Superposed superposition names shown certs D) w proved.next) (sym (after_is o x z after shown shown e k refl c)) base in
-    passed_as before (Superposed superposition names shown written inner) (Superposed superposition names shown certs D) (Superposed superposition names shown written inner) (step_script p.step) x after n p.next (λ w. refl) (λ w. sym (a w))
-    (subst (λ m. IsPassed before (Superposed superposition names shown written inner) x n (Superposed superposition names shown certs D) after m) (sym b) here)
+pub superposed_is_passed : (before : List StatementView) (superposition : Superpose) (names : List (List ℕ)) (shown : List Lit) (certs : List Cert) (inner : Script) (x z after : StepState) (n m : ℕ) (o : Names) (proved : Block) (r : Result Step Stop)
+    → SuperposedReady before superposition names shown inner x → Certifies superposition x certs → IsDerivedFrom before inner (after_superposed superposition names x) (goal_of shown) (script_of proved) → m ≡ n + 1 + size inner → o ≡ x.names → KeepsHeld (held_at x) z
+    → IfOk r (λ d. (rest : Script) → step_script d rest ≡ Superposed superposition names shown certs (script_of proved) rest) → OnOk r (IsLeftWith o shown z after)
+    → IfOk r (λ d. (written : List Cert) → IsPassed before (Superposed superposition names shown written inner) x n (step_script d) after m)
+superposed_is_passed before superposition names shown certs inner x z after n m o proved (Err t) ready cs d count e k a c = tt
+superposed_is_passed before superposition names shown certs inner x z after n m o proved (Ok p) ready cs d count e k a c = λ written.
+    let D = script_of proved in
+    let base = passed_superposed before superposition names shown written certs inner D x n m ready.fits ready.over cs d count in
+    let here = subst (λ w. IsPassed before (Superposed superposition names shown written inner) x n (Superposed superposition names shown certs D) w m) (sym (after_is o x z after shown shown e k refl c)) base in
+    passed_as before (Superposed superposition names shown written inner) (Superposed superposition names shown certs D) (Superposed superposition names shown written inner) (step_script p) x after n m (λ w. refl) (λ w. sym (a w)) here
 
 pub superposed_is_stopped : (before : List StatementView) (superposition : Superpose) (names : List (List ℕ)) (shown : List Lit) (certs : List Cert) (inner : Script) (x : StepState) (n : ℕ) (t : Stop) → SuperposedReady before superposition names shown inner x → Certifies superposition x certs
     → StopsWithin before inner (after_superposed superposition names x) (goal_of shown) (n + 1) t → (written : List Cert) → StepsStop before (Superposed superposition names shown written inner) x n t

@@ -1,14 +1,12 @@
 -- A derivation has the literals of its script.
 use Rattle.std.proofs.Common.{◌≡◌, List, [], ◌∷◌, ◌++◌, refl, sym, ap, ◌∙◌, true}
-use Rattle.std.specs.Prelude.{IfOk, Result, Ok, Err}
 use Rattle.std.specs.List.{list_all}
 use Rattle.std.proofs.lemmas.Bool.{and_from}
 use Rattle.e_literal.proofs.Booleans.{and_left, and_right}
 use Rattle.e_clause.specs.declared.cert.Cert.{Cert}
 use Rattle.e_book.specs.Fits.{has_well_formed_literals}
 use Rattle.e_book.proofs.fit_theorems.WrittenScripts.{erased_literals, filled_literals, written_well}
-use Rattle.e_deriv.specs.declared.block.Block.{Block}
-use Rattle.e_deriv.specs.Script.{Script, script_of, erased}
+use Rattle.e_deriv.specs.Script.{Script, erased}
 use Rattle.e_deriv.specs.Parts.{filled_by}
 use Rattle.e_clause.specs.declared.cert.Version.TheVariants as version
 use Rattle.e_clause.specs.Versions.{is_cert_of}
@@ -25,10 +23,8 @@ same_literals script derived e =
 -- ---- good literals and good certificates
 
 -- what is derived from a script with good literals, with good certificates, is written well
-pub each_written_well : {E : Type 0} (script : Script) (r : Result Block E) → IfOk r (λ d. erased (script_of d) ≡ filled_by (erased script) (script_of d)) → IfOk r (λ d. has_certs_of version.One (script_of d) ≡ true) →
-    IfOk r (λ d. has_well_formed_literals script ≡ true → is_written_well (script_of d) ≡ true)
-each_written_well script (Ok d) e k = λ h. written_well (script_of d) (same_literals script (script_of d) e ∙ h) (good_of_version version.One (script_of d) k)
-each_written_well script (Err s) e k = tt
+pub each_written_well : (script d : Script) → erased d ≡ filled_by (erased script) d → has_certs_of version.One d ≡ true → has_well_formed_literals script ≡ true → is_written_well d ≡ true
+each_written_well script d e k h = written_well d (same_literals script d e ∙ h) (good_of_version version.One d k)
 
 -- ---- certificates one after the other
 

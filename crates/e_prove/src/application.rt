@@ -73,7 +73,7 @@ pub fn apply(
     ensures kept { IfErr result (UnlessNoMemory (state.new ≡ state.old)) }
 {
     let names = Vec::from_slice(alloc, application.names)?;
-    let used = used(alloc, statement, application.args, &mut state.context)?;
+    let used = use_with(alloc, statement, application.args, &mut state.context)?;
     match take_use(alloc, application, statement, &used, state) {
         Ok(args) => Ok(Step::Apply {
             theorem: application.theorem,
@@ -111,7 +111,7 @@ fn take_use(
 }
 
 /// The application of a statement, where each of its given literals is allowed.
-fn used(
+fn use_with(
     alloc: Global,
     statement: &Statement,
     pattern: &[Option<Obj>],
@@ -122,14 +122,15 @@ fn used(
     ensures err { IfErr result (StepStopsApplying (stated statement.now) context.old pattern.now) }
     ensures kept { context.new ≡ context.old }
 {
-    match written(alloc, pattern)? {
-        Some(args) => used_at(alloc, statement, args, context),
-        None => filled(alloc, statement, pattern, context),
+    match all_objects(alloc, pattern)? {
+        Some(args) => use_at(alloc, statement, args, context),
+        None => fill_blanks(alloc, statement, pattern, context),
     }
 }
 
-/// The application with its blanks filled by the least good choice.
-fn filled(
+/// The application with its blanks filled by the least good choice. The facts are solved before, so
+/// that they are not solved for each choice anew.
+fn fill_blanks(
     alloc: Global,
     statement: &Statement,
     pattern: &[Option<Obj>],
@@ -141,23 +142,8 @@ fn filled(
     ensures kept { context.new ≡ context.old }
 {
     context.solve(alloc)?;
-    filled_by_least(alloc, statement, pattern, context)
-}
-
-/// The same, where the facts are solved before, so that they are not solved for each choice anew.
-fn filled_by_least(
-    alloc: Global,
-    statement: &Statement,
-    pattern: &[Option<Obj>],
-    context: &mut Context,
-) -> Result<Use, StepStop>
-    requires { CanApply (stated statement.now) pattern.now context.old }
-    ensures ok { IfOk result (IsUse (stated statement.now) pattern.now context.old) }
-    ensures err { IfErr result (StepStopsFilling (stated statement.now) context.old pattern.now) }
-    ensures kept { context.new ≡ context.old }
-{
     match match_blanks(alloc, context, statement, pattern)? {
-        Filled::Found(args) => match used_at(alloc, statement, args, context) {
+        Filled::Found(args) => match use_at(alloc, statement, args, context) {
             Ok(used) => Ok(used),
             Err(step_stop) => Err(as_match(step_stop)),
         },
@@ -190,7 +176,7 @@ fn as_match(step_stop: StepStop) -> StepStop
 }
 
 /// The application at these arguments: each given literal is allowed.
-fn used_at(
+fn use_at(
     alloc: Global,
     statement: &Statement,
     args: Items<Obj>,
@@ -229,7 +215,7 @@ fn used_at(
 }
 
 /// The arguments, where none is a blank.
-fn written(alloc: Global, pattern: &[Option<Obj>]) -> Result<Option<Items<Obj>>, AllocError>
+fn all_objects(alloc: Global, pattern: &[Option<Obj>]) -> Result<Option<Items<Obj>>, AllocError>
     ensures { IfOk result (λ o. MatchOption o (IsFalse (has_no_blank pattern.now))
         (λ args. IsTrue (has_no_blank pattern.now) × (args ≡ Parts.written pattern.now))) }
 {

@@ -11,41 +11,18 @@ ghost use Rattle.e_prove.specs.inner.PassedSteps.{StepsStop, StepStops, StopsWit
 
 use crate::application::{Application, apply};
 use crate::close::{contradiction, qed};
-use crate::inner::{Head, claimed, split, superposed};
+use crate::inner::{SuperposedParts, end_claim, end_superposition};
 use crate::step::{cite, hence, make, superpose};
 use crate::step_state::StepState;
-use crate::step_stop::{close_with_number, step_with_number, stop_at};
-use e_construct::Superpose;
-use e_deriv::{Block, Close, Goal, Step, Stop};
+use crate::step_stop::{stop_at, with_number};
+use e_deriv::{Block, Close, Goal, Step, Stop, split};
 use e_literal::Lit;
-use e_text::Name;
 use e_theorem::Statement;
 use std::alloc::Global;
 use std::mem;
 
-/// A block with its certificates, and the number of the step after it.
-#[derive(Drop)]
-pub struct ProvedBlock {
-    pub block: Block,
-    pub next: u32,
-}
-
-/// A step with its certificates, and the number of the step after it.
-#[derive(Drop)]
-pub struct ProvedStep {
-    pub step: Step,
-    pub next: u32,
-}
-
-/// A close with its certificates, and the number of the step after it.
-#[derive(Drop)]
-pub struct ProvedClose {
-    pub close: Close,
-    pub next: u32,
-}
-
 /// Licenses a block in its place, where its first step has this number: each step in order, with
-/// the blocks inside it.
+/// the blocks inside it. The number is then that of the step after it.
 #[cycle(block)]
 pub fn prove_block(
     alloc: Global,
@@ -53,26 +30,22 @@ pub fn prove_block(
     block: &Block,
     goal: &Goal,
     state: &mut StepState,
-    first: u32,
-) -> Result<ProvedBlock, Stop>
+    number: &mut u32,
+) -> Result<Block, Stop>
     requires ready { IsReadyFor (all_stated before.now) (script_of block.now) state.old
         (goal_view goal.now) }
-    requires few { first + size (script_of block.now) < 2 ^ 32 }
-    ensures derived { IfOk result (λ p. IsDerivedFrom (all_stated before.now) (script_of block.now)
-        state.old (goal_view goal.now) (script_of p.block)) }
-    ensures next { IfOk result (λ p. p.next ≡ first + size (script_of block.now)) }
+    requires few { number.old + size (script_of block.now) < 2 ^ 32 }
+    ensures derived { IfOk result (λ d. IsDerivedFrom (all_stated before.now) (script_of block.now)
+        state.old (goal_view goal.now) (script_of d)) }
+    ensures next { OnOk result (number.new ≡ number.old + size (script_of block.now)) }
     ensures kept { OnOk result (KeepsHeld state.old state.new) }
     ensures err { IfErr result (StopsWithin (all_stated before.now) (script_of block.now) state.old
-        (goal_view goal.now) first) }
+        (goal_view goal.now) number.old) }
 {
     let mut steps = Vec::new(alloc);
-    let mut number = first;
     for step in &block.steps {
         match prove_step(alloc, before, step, state, number) {
-            Ok(proved) => {
-                steps.push(proved.step)?;
-                number = proved.next;
-            }
+            Ok(proved) => steps.push(proved)?,
             Err(stop) => {
                 mem::drop(steps);
                 return Err(stop);
@@ -80,13 +53,7 @@ pub fn prove_block(
         }
     }
     match prove_close(alloc, before, &block.close, goal, state, number) {
-        Ok(proved) => Ok(ProvedBlock {
-            block: Block {
-                steps,
-                close: proved.close,
-            },
-            next: proved.next,
-        }),
+        Ok(close) => Ok(Block { steps, close }),
         Err(stop) => {
             mem::drop(steps);
             Err(stop)
@@ -101,21 +68,21 @@ pub fn prove_step(
     before: &[Statement],
     step: &Step,
     state: &mut StepState,
-    number: u32,
-) -> Result<ProvedStep, Stop>
-    requires { IsReadyStep (all_stated before.now) step.now state.old number }
-    ensures ok { IfOk result (λ p. IsPassed (all_stated before.now) (step_script step.now) state.old
-        number (step_script p.step) state.new p.next) }
-    ensures err { IfErr result (StepStops (all_stated before.now) step.now state.old number) }
+    number: &mut u32,
+) -> Result<Step, Stop>
+    requires { IsReadyStep (all_stated before.now) step.now state.old number.old }
+    ensures ok { IfOk result (λ d. IsPassed (all_stated before.now) (step_script step.now) state.old
+        number.old (step_script d) state.new number.new) }
+    ensures err { IfErr result (StepStops (all_stated before.now) step.now state.old number.old) }
 {
     match step {
         Step::Cite(by) => {
             let answered = cite(alloc, by, state);
-            step_with_number(alloc, answered, state, number)
+            with_number(alloc, answered, state, number)
         }
         Step::Hence { lit, .. } => {
             let answered = hence(alloc, lit, state);
-            step_with_number(alloc, answered, state, number)
+            with_number(alloc, answered, state, number)
         }
         Step::Make {
             construction,
@@ -123,7 +90,7 @@ pub fn prove_step(
             ..
         } => {
             let answered = make(alloc, construction, names.items(), state);
-            step_with_number(alloc, answered, state, number)
+            with_number(alloc, answered, state, number)
         }
         Step::Apply {
             theorem,
@@ -138,7 +105,7 @@ pub fn prove_step(
                 names: names.items(),
             };
             let answered = apply(alloc, &application, statement, state);
-            step_with_number(alloc, answered, state, number)
+            with_number(alloc, answered, state, number)
         }
         Step::Claim { shown, inner } => {
             prove_claim(alloc, before, shown.items(), inner, state, number)
@@ -168,33 +135,26 @@ fn prove_claim(
     shown: &[Lit],
     inner: &Block,
     state: &mut StepState,
-    number: u32,
-) -> Result<ProvedStep, Stop>
+    number: &mut u32,
+) -> Result<Step, Stop>
     requires { AreReadySteps (all_stated before.now) (Claim shown.now (script_of inner.now))
-        state.old number }
+        state.old number.old }
     ensures ok { IfOk result
-        (λ p. IsPassed (all_stated before.now) (Claim shown.now (script_of inner.now)) state.old
-        number (step_script p.step) state.new p.next) }
+        (λ d. IsPassed (all_stated before.now) (Claim shown.now (script_of inner.now)) state.old
+        number.old (step_script d) state.new number.new) }
     ensures err { IfErr result (StepsStop (all_stated before.now)
-        (Claim shown.now (script_of inner.now)) state.old number) }
+        (Claim shown.now (script_of inner.now)) state.old number.old) }
 {
     let outer = state.hold(alloc)?;
+    *number += 1;
     let goal = Goal { made: &[], shown };
-    match prove_block(alloc, before, inner, &goal, state, number + 1) {
-        Ok(proved) => claimed(alloc, shown, proved, outer, state),
+    match prove_block(alloc, before, inner, &goal, state, number) {
+        Ok(proved) => end_claim(alloc, shown, proved, outer, state),
         Err(stop) => {
             mem::drop(outer);
             Err(stop)
         }
     }
-}
-
-/// A superposition without its certificates and its block.
-#[derive(Clone, Copy)]
-struct SuperposedParts<'a> {
-    superposition: &'a Superpose,
-    names: &'a [Name],
-    shown: &'a [Lit],
 }
 
 /// Licenses a superposition with its block; after it what it shows are facts.
@@ -205,18 +165,18 @@ fn prove_superposed(
     parts: &SuperposedParts,
     inner: &Block,
     state: &mut StepState,
-    number: u32,
-) -> Result<ProvedStep, Stop>
+    number: &mut u32,
+) -> Result<Step, Stop>
     requires { (certs : List Certificate) × AreReadySteps
         (all_stated before.now) (Superposed parts.now.superposition.now parts.now.names.now
-        parts.now.shown.now certs (script_of inner.now)) state.old number }
-    ensures ok { IfOk result (λ p. (certs : List Certificate)
+        parts.now.shown.now certs (script_of inner.now)) state.old number.old }
+    ensures ok { IfOk result (λ d. (certs : List Certificate)
         → IsPassed (all_stated before.now) (Superposed parts.now.superposition.now
         parts.now.names.now parts.now.shown.now certs (script_of inner.now))
-        state.old number (step_script p.step) state.new p.next) }
+        state.old number.old (step_script d) state.new number.new) }
     ensures err { IfErr result (λ s. (certs : List Certificate) → StepsStop
         (all_stated before.now) (Superposed parts.now.superposition.now parts.now.names.now
-        parts.now.shown.now certs (script_of inner.now)) state.old number s) }
+        parts.now.shown.now certs (script_of inner.now)) state.old number.old s) }
 {
     let SuperposedParts {
         superposition,
@@ -228,19 +188,13 @@ fn prove_superposed(
         Ok(certs) => certs,
         Err(step_stop) => {
             mem::drop(outer);
-            return Err(stop_at(alloc, step_stop, state, number));
+            return Err(stop_at(alloc, step_stop, state, *number));
         }
     };
+    *number += 1;
     let goal = Goal { made: &[], shown };
-    match prove_block(alloc, before, inner, &goal, state, number + 1) {
-        Ok(proved) => {
-            let head = Head {
-                superposition,
-                names,
-                certs,
-            };
-            superposed(alloc, head, shown, proved, outer, state)
-        }
+    match prove_block(alloc, before, inner, &goal, state, number) {
+        Ok(proved) => end_superposition(alloc, parts, certs, proved, outer, state),
         Err(stop) => {
             mem::drop(certs);
             mem::drop(outer);
@@ -257,31 +211,32 @@ fn prove_close(
     close: &Close,
     goal: &Goal,
     state: &mut StepState,
-    number: u32,
-) -> Result<ProvedClose, Stop>
+    number: &mut u32,
+) -> Result<Close, Stop>
     requires ready { IsReadyFor (all_stated before.now) (close_script close.now) state.old
         (goal_view goal.now) }
-    requires few { number + size (close_script close.now) < 2 ^ 32 }
-    ensures derived { IfOk result (λ p. IsDerivedFrom (all_stated before.now)
-        (close_script close.now) state.old (goal_view goal.now) (close_script p.close)) }
-    ensures next { IfOk result (λ p. p.next ≡ number + size (close_script close.now)) }
+    requires few { number.old + size (close_script close.now) < 2 ^ 32 }
+    ensures derived { IfOk result (λ d. IsDerivedFrom (all_stated before.now)
+        (close_script close.now) state.old (goal_view goal.now) (close_script d)) }
+    ensures next { OnOk result (number.new ≡ number.old + size (close_script close.now)) }
     ensures kept { OnOk result (KeepsHeld state.old state.new) }
     ensures err { IfErr result (StopsWithin (all_stated before.now) (close_script close.now)
-        state.old (goal_view goal.now) number) }
+        state.old (goal_view goal.now) number.old) }
 {
     match close {
         Close::Qed { objects, .. } => {
             let answered = qed(alloc, objects.items(), goal, &mut state.context);
-            close_with_number(alloc, answered, state, number)
+            with_number(alloc, answered, state, number)
         }
         Close::Contradiction { .. } => {
             let answered = contradiction(alloc, &mut state.context);
-            close_with_number(alloc, answered, state, number)
+            with_number(alloc, answered, state, number)
         }
         Close::Cases { lit, first, second } => {
             let outer = state.hold(alloc)?;
             state.assume(alloc, lit)?;
-            let one = match prove_block(alloc, before, first, goal, state, number + 1) {
+            *number += 1;
+            let one = match prove_block(alloc, before, first, goal, state, number) {
                 Ok(one) => one,
                 Err(stop) => {
                     mem::drop(outer);
@@ -296,8 +251,11 @@ fn prove_close(
                     return Err(Stop::NoMemory);
                 }
             }
-            match prove_block(alloc, before, second, goal, state, one.next) {
-                Ok(other) => split(alloc, lit, one, other),
+            match prove_block(alloc, before, second, goal, state, number) {
+                Ok(other) => {
+                    let derived = split(alloc, lit, one, other)?;
+                    Ok(derived)
+                }
                 Err(stop) => {
                     mem::drop(one);
                     Err(stop)

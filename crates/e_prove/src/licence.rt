@@ -20,7 +20,7 @@ use std::alloc::{AllocError, Global};
 use std::mem;
 
 /// A certificate of the literal, where it is allowed. The literals that it names are well formed.
-pub fn licensed(alloc: Global, context: &mut Context, lit: &Lit) -> Result<Cert, StepStop>
+pub fn licence(alloc: Global, context: &mut Context, lit: &Lit) -> Result<Cert, StepStop>
     requires { IsTrue (is_well_formed_in context.old.scope lit.now) }
     ensures ok { IfOk result
         (λ c. IsTrue (certifies context.old.scope context.old.facts lit.now c)) }
@@ -60,7 +60,7 @@ pub fn licences(alloc: Global, context: &mut Context, lits: &[Lit]) -> Result<Ve
 {
     let mut certs = Vec::new(alloc);
     for lit in lits {
-        let cert = licensed(alloc, context, lit)?;
+        let cert = licence(alloc, context, lit)?;
         certs.push(cert)?;
     }
     Ok(certs)
@@ -81,13 +81,14 @@ pub fn is_cited(alloc: Global, by: &By, facts: &Facts) -> Result<bool, AllocErro
 fn gives(alloc: Global, facts: &Facts, lit: &Lit, lits: &[Lit]) -> Result<bool, AllocError>
     ensures { IfOk result (λ b. b ≡ instance_gives facts.now lit.now lits.now) }
 {
-    if !is_one(lits, lit) {
+    if !has_same(lits, lit) {
         return Ok(false);
     }
     others_fail(alloc, facts, lit, lits)
 }
 
-fn is_one(lits: &[Lit], lit: &Lit) -> bool
+/// Whether one of the literals is the same as this one.
+fn has_same(lits: &[Lit], lit: &Lit) -> bool
     ensures { result ≡ has lits.now lit.now }
 {
     lits.iter().any(|m| same(m, lit))

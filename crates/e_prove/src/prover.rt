@@ -16,7 +16,7 @@ ghost use Rattle.e_deriv.specs.Versions.{has_certs_of};
 use crate::block::prove_block;
 use crate::step_state::StepState;
 use e_book::Theorem;
-use e_deriv::{Block, Goal, Names, Stop};
+use e_deriv::{Block, Goal, Stop};
 use e_literal::next_objects;
 use e_theorem::Statement;
 use std::alloc::Global;
@@ -52,38 +52,8 @@ pub fn prove(alloc: Global, before: &[Statement], theorem: &Theorem) -> Result<B
     ensures names { IfErr result (HasNames (all_stated before.now) (stated theorem.now.statement)
         theorem.now.names (script_of theorem.now.block)) }
 {
-    prove_parts(
-        alloc,
-        before,
-        &theorem.statement,
-        &theorem.names,
-        &theorem.block,
-    )
-}
-
-/// The derivation of a statement by a script: each step licensed in order, with a certificate for
-/// each literal that it needs.
-pub(crate) fn prove_parts(
-    alloc: Global,
-    before: &[Statement],
-    statement: &Statement,
-    names: &Names,
-    block: &Block,
-) -> Result<Block, Stop>
-    requires { IsFitting (all_stated before.now) (stated statement.now) (script_of block.now) }
-    ensures certified { IfOk result
-        (λ d. Certified (all_stated before.now) (stated statement.now) (script_of d)) }
-    ensures script { IfOk result
-        (λ d. erased (script_of d) ≡ filled_by (erased (script_of block.now)) (script_of d)) }
-    ensures least { IfOk result (λ d. AllLicensed (all_stated before.now) (proof_steps
-        (all_stated before.now) (stated statement.now) (script_of block.now) (script_of d))) }
-    ensures certs { IfOk result (λ d. IsTrue (has_certs_of version.One (script_of d))) }
-    ensures stop { IfErr result
-        (StopIs (all_stated before.now) (stated statement.now) (script_of block.now)) }
-    ensures names { IfErr result
-        (HasNames (all_stated before.now) (stated statement.now) names.now (script_of block.now)) }
-{
-    let mut state = StepState::first(alloc, statement, names)?;
+    let statement = &theorem.statement;
+    let mut state = StepState::first(alloc, statement, &theorem.names)?;
     let made = match next_objects(alloc, state.context.scope(), statement.made.items()) {
         Ok(made) => made,
         Err(_) => {
@@ -95,10 +65,18 @@ pub(crate) fn prove_parts(
         made: &made,
         shown: statement.shown.items(),
     };
-    match prove_block(alloc, before, block, &goal, &mut state, 1) {
+    let mut number = 1;
+    match prove_block(
+        alloc,
+        before,
+        &theorem.block,
+        &goal,
+        &mut state,
+        &mut number,
+    ) {
         Ok(proved) => {
             mem::drop(state);
-            Ok(proved.block)
+            Ok(proved)
         }
         Err(stop) => {
             mem::drop(state);

@@ -10,7 +10,7 @@ ghost use Rattle.e_prove.specs.Stops.{IsStopBefore};
 ghost use Rattle.e_deriv.specs.Goal.{goal_view};
 ghost use Rattle.e_prove.specs.inner.StepStates.{after_literal};
 ghost use Rattle.e_prove.specs.inner.PassedSteps.{IsReadyFor, IsDerivedFrom, IsReadyStep};
-ghost use Rattle.e_prove.specs.inner.PassedSteps.{ReachesStep, ReachesInStep};
+ghost use Rattle.e_prove.specs.inner.PassedSteps.{KeepsHeld, ReachesStep, ReachesInStep};
 ghost use Rattle.e_prove.specs.inner.PassedSteps.{IsFirstPassed, StopsWithin, StepStops};
 
 use crate::block::{prove_block, prove_step};
@@ -57,6 +57,7 @@ pub fn reach(
     requires within { target < first + script_size (script_of block.now) }
     ensures reached { OnOk result (ReachesStep (all_stated before.now) (script_of block.now)
         state.old (goal_view goal.now) first target state.new) }
+    ensures kept { OnOk result (KeepsHeld state.old state.new) }
     ensures err { IfErr result (StopsWithin (all_stated before.now) (script_of block.now) state.old
         (goal_view goal.now) first) }
     ensures earlier { IfErr result (IsStopBefore target) }
@@ -71,11 +72,8 @@ pub fn reach(
         if target < next {
             return enter_step(alloc, before, step, state, number, target);
         }
-        match prove_step(alloc, before, step, state, number) {
-            Ok(proved) => {
-                number = proved.next;
-                mem::drop(proved);
-            }
+        match prove_step(alloc, before, step, state, &mut number) {
+            Ok(proved) => mem::drop(proved),
             Err(stop) => return Err(stop),
         }
     }
@@ -101,6 +99,7 @@ fn enter_step(
         → target + script_size rest < number + script_size (step_script step.now rest) }
     ensures reached { OnOk result
         (ReachesInStep (all_stated before.now) step.now state.old number target state.new) }
+    ensures kept { OnOk result (KeepsHeld state.old state.new) }
     ensures err { IfErr result (StepStops (all_stated before.now) step.now state.old number) }
     ensures earlier { IfErr result (IsStopBefore target) }
 {
@@ -154,6 +153,7 @@ fn enter_close(
     requires within { target < number + script_size (close_script close.now) }
     ensures reached { OnOk result (ReachesStep (all_stated before.now) (close_script close.now)
         state.old (goal_view goal.now) number target state.new) }
+    ensures kept { OnOk result (KeepsHeld state.old state.new) }
     ensures err { IfErr result (StopsWithin (all_stated before.now) (close_script close.now)
         state.old (goal_view goal.now) number) }
     ensures earlier { IfErr result (IsStopBefore target) }
@@ -206,7 +206,8 @@ fn pass_first(
             return Err(Stop::NoMemory);
         }
     }
-    match prove_block(alloc, before, block, goal, state, first) {
+    let mut number = first;
+    match prove_block(alloc, before, block, goal, state, &mut number) {
         Ok(proved) => mem::drop(proved),
         Err(stop) => {
             mem::drop(outer);

@@ -17,7 +17,7 @@ ghost use Rattle.e_prove.specs.inner.StepStates.{after_make, after_superposed};
 ghost use Rattle.e_prove.specs.inner.StopsOfSteps.{StepStopsAmong, UnlessNoMemory};
 ghost use Rattle.e_prove.specs.inner.LicensedSteps.{IsLicensedStep, IsStopOfStep};
 
-use crate::licence::{is_cited, licences, licensed};
+use crate::licence::{is_cited, licence, licences};
 use crate::step_state::StepState;
 use crate::step_stop::StepStop;
 use e_clause::{By, Cert};
@@ -62,8 +62,8 @@ pub fn hence(alloc: Global, lit: &Lit, state: &mut StepState) -> Result<Step, St
         → IsStopOfStep before (Hence lit.now cert) state.old h) }
     ensures kept { IfErr result (UnlessNoMemory (state.new ≡ state.old)) }
 {
-    let cert = licensed(alloc, &mut state.context, lit)?;
-    match assumed(alloc, lit, state) {
+    let cert = licence(alloc, &mut state.context, lit)?;
+    match assume_copy(alloc, lit, state) {
         Ok(lit) => Ok(Step::Hence {
             lit,
             cert: Some(cert),
@@ -77,7 +77,7 @@ pub fn hence(alloc: Global, lit: &Lit, state: &mut StepState) -> Result<Step, St
 
 /// The literal is a fact; hands out an equal one. It fails only out of memory; no clause says what
 /// holds then.
-fn assumed(alloc: Global, lit: &Lit, state: &mut StepState) -> Result<Lit, AllocError>
+fn assume_copy(alloc: Global, lit: &Lit, state: &mut StepState) -> Result<Lit, AllocError>
     requires { IsTrue
         (are_limited_facts state.old.context.scope (joined state.old.context.facts lit.now)) }
     ensures lit { IfOk result (λ l. l ≡ lit.now) }

@@ -17,6 +17,7 @@ use e_deriv::Names;
 use e_facts::Facts;
 use e_licence::Context;
 use e_literal::{Lit, NOTHING, Sort, copy, grown, negate};
+use e_names::put_names;
 use e_text::Name;
 use e_theorem::Statement;
 use std::alloc::{AllocError, Global};
@@ -132,7 +133,7 @@ impl StepState {
     {
         let scope = grown(self.context.scope(), sorts);
         self.context.widen(scope);
-        name_all(&mut self.names, sorts, names)
+        put_names(&mut self.names, sorts, names)
     }
 
     /// The literals join the facts, one after the other. It fails only out of memory; no clause
@@ -198,16 +199,6 @@ impl StepState {
     {
         join_copies(alloc, &mut self.context, lits)
     }
-}
-
-/// Puts each name last among those of its sort.
-fn name_all(names: &mut Names, sorts: &[Sort], new: &[Name]) -> Result<(), AllocError>
-    ensures { OnOk result (names.new ≡ named names.old sorts.now new.now) }
-{
-    for (sort, name) in sorts.iter().zip(new) {
-        names.push(*sort, *name)?;
-    }
-    Ok(())
 }
 
 /// Adds each literal unless one the same is there.

@@ -1,11 +1,10 @@
 //! Why licensing stops at a step.
-ghost use Rattle.std.specs.Prelude.{◌≡◌, ◌+◌, ◌<◌, ◌^◌, IfOk, IfErr, Ok};
+ghost use Rattle.std.specs.Prelude.{◌≡◌, ◌+◌, ◌<◌, ◌^◌, IfOk, IfErr, OnOk, Ok};
 ghost use Rattle.e_prove.specs.declared.step_stop.StepStop.TheVariants.{NoMemory};
 ghost use Rattle.e_prove.specs.inner.StopsOfSteps.{stop_of, StopOf, IsWithNumber};
 
-use crate::block::{ProvedClose, ProvedStep};
 use crate::step_state::StepState;
-use e_deriv::{Close, Names, Step, Stop, Wanted};
+use e_deriv::{Names, Stop, Wanted};
 use e_literal::Values;
 use std::alloc::{AllocError, AllocFailed, Global};
 use std::mem;
@@ -75,44 +74,24 @@ pub fn stop_at(alloc: Global, step_stop: StepStop, state: &StepState, number: u3
     }
 }
 
-/// The answer on a step that has no block inside, with its number.
-pub fn step_with_number(
+/// The answer on a step or a close that has no block inside and this number, which is counted, or
+/// the stop there.
+pub fn with_number<T>(
     alloc: Global,
-    answered: Result<Step, StepStop>,
+    answered: Result<T, StepStop>,
     state: &StepState,
-    number: u32,
-) -> Result<ProvedStep, Stop>
-    requires { number + 1 < 2 ^ 32 }
-    ensures step { IfOk result (λ p. answered ≡ Ok p.step) }
-    ensures next { IfOk result (λ p. p.next ≡ number + 1) }
-    ensures err { IfErr result (IsWithNumber answered number state.now.names) }
+    number: &mut u32,
+) -> Result<T, Stop>
+    requires { number.old + 1 < 2 ^ 32 }
+    ensures ok { IfOk result (λ x. answered ≡ Ok x) }
+    ensures next { OnOk result (number.new ≡ number.old + 1) }
+    ensures err { IfErr result (IsWithNumber answered number.old state.now.names) }
 {
     match answered {
-        Ok(step) => Ok(ProvedStep {
-            step,
-            next: number + 1,
-        }),
-        Err(step_stop) => Err(stop_at(alloc, step_stop, state, number)),
-    }
-}
-
-/// The answer on a close that has no block inside, with its number.
-pub fn close_with_number(
-    alloc: Global,
-    answered: Result<Close, StepStop>,
-    state: &StepState,
-    number: u32,
-) -> Result<ProvedClose, Stop>
-    requires { number + 1 < 2 ^ 32 }
-    ensures close { IfOk result (λ p. answered ≡ Ok p.close) }
-    ensures next { IfOk result (λ p. p.next ≡ number + 1) }
-    ensures err { IfErr result (IsWithNumber answered number state.now.names) }
-{
-    match answered {
-        Ok(close) => Ok(ProvedClose {
-            close,
-            next: number + 1,
-        }),
-        Err(step_stop) => Err(stop_at(alloc, step_stop, state, number)),
+        Ok(licensed) => {
+            *number += 1;
+            Ok(licensed)
+        }
+        Err(step_stop) => Err(stop_at(alloc, step_stop, state, *number)),
     }
 }

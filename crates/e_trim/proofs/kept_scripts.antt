@@ -7,3 +7,4 @@ pub mod StepParts
 pub mod StepSizes
 pub mod TrimmedScripts
 pub mod CertifiedDerivations
+pub mod VersionStays

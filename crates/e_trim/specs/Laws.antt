@@ -2,6 +2,7 @@
 use Rattle.std.specs.Prelude.{List, ◌≤◌, IsTrue}
 use Rattle.std.specs.List.{list_all}
 use Rattle.e_literal.specs.Use.{StatementView, is_statement}
+use Rattle.e_clause.specs.declared.cert.Version.{Version}
 use Rattle.e_clause.specs.declared.cert.Version.TheVariants.{One}
 use Rattle.e_deriv.specs.Script.{Script, size, depth}
 use Rattle.e_deriv.specs.Versions.{has_certs_of}
@@ -20,3 +21,9 @@ abbrev pub TrimmedIsShorter : Type 0
 TrimmedIsShorter =
     (before : List StatementView) (t : StatementView) (d : Script)
     → (size (trimmed before t d) ≤ size d) × (depth (trimmed before t d) ≤ depth d)
+
+-- it is of the same version
+abbrev pub TrimmedKeepsVersion : Type 0
+TrimmedKeepsVersion =
+    (v : Version) (before : List StatementView) (t : StatementView) (d : Script)
+    → IsTrue (has_certs_of v d) → IsTrue (has_certs_of v (trimmed before t d))

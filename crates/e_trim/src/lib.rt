@@ -16,6 +16,6 @@ mod steps;
 mod trimming;
 mod wanted;
 
-pub use laws::{trimmed_is_certified, trimmed_is_shorter};
+pub use laws::{trimmed_is_certified, trimmed_is_shorter, trimmed_keeps_version};
 pub use noting::applied;
 pub use trimming::trim;

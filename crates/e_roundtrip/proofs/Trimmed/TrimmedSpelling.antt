@@ -46,7 +46,8 @@ use Rattle.e_roundtrip.specs.Written.{CanBeVerified}
 use Rattle.e_roundtrip.proofs.Formed.CertifiedFormed.{certified_formed}
 use Rattle.e_roundtrip.proofs.Formed.FilledForms.{forms_of_certified}
 use Rattle.e_roundtrip.proofs.Texts.ReadIsSpelled.{read_is_formed_so}
-use Rattle.e_roundtrip.proofs.Trimmed.TrimmedLimits.{either, literals_left, facts_left, terms_left, blanks_left, version_left, depth_erased}
+use Rattle.e_roundtrip.proofs.Trimmed.TrimmedLimits.{literals_left, facts_left, terms_left, blanks_left, depth_erased}
+use Rattle.e_trim.proofs.kept_scripts.VersionStays.{either, trimmed_keeps_version}
 use Rattle.e_roundtrip.proofs.Trimmed.TrimmedNames.{fewer_own, names_left}
 
 -- ---- the theorems that it uses have titles
@@ -213,7 +214,7 @@ trimmed_can_be_verified known last t lines after small read c =
     let own = read_is_formed_so One known last t lines after read in
     let plain = trimmed_has_spelling known t small own.plain own.version c in
     let still = trimmed_certified before st d (are_statements before small) (states known t own.plain) own.version c in
-    let first : has_certs_of One left ≡ true = version_left One before d (declared_of st) (scope_of st) (facts_of_statement st) (goal_of_statement st) own.version in
+    let first : has_certs_of One left ≡ true = trimmed_keeps_version One before st d own.version in
     let literals : has_well_formed_literals left ≡ true = sym (erased_literals left) ∙ plain.fits.good_script in
     record {
       spelled = record { plain = plain; formed = certified_formed before st left still (written_well left literals (good_of_version One left first)); version = first };

@@ -23,5 +23,5 @@ decreases-prove_superposed l = 2 * goal.size-prove_superposed l + 1
 abbrev pub invariant-prove_block-loop-step : goal.invariant-prove_block-loop-step
 invariant-prove_block-loop-step l =
     record {
-      passed : IsPassed (all_stated l.before) (steps_script (take l.step-index l.block.steps.items)) l.initial.state l.first (steps_script l.steps.items) l.state l.number;
+      passed : IsPassed (all_stated l.before) (steps_script (take l.step-index l.block.steps.items)) l.initial.state l.initial.number (steps_script l.steps.items) l.state l.number;
     }

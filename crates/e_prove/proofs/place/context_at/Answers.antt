@@ -45,7 +45,7 @@ returns-in-Ok-reach-clause-place c =
     goal_is t c.items.result.now c.scope.result c.deref.result.now c.in-Ok.made.items c.items-2.result.now (c.scope.ensures ∙ ap (λ x. x.context.scope) c.in_ok-state.ensures) c.items.ensures c.in-Ok.ensures c.deref.ensures.value
     c.items-2.ensures
     in
-    place_is (all_stated c.args.before.now) t c.args.theorem.now.names (script_of c.args.theorem.now.block) c.args.step c.in_ok-state.state c.reach.new.state (goal_view (record { made = c.deref.result; shown = c.items-2.result })) c.in_ok-state.ensures same c.in-Ok-reach.ensures.reached
+    place_is (all_stated c.args.before.now) t c.args.theorem.now.names (script_of c.args.theorem.now.block) c.args.step c.in_ok-state.state c.reach.new.state (goal_view (record { made = c.deref.result; shown = c.items-2.result })) c.in_ok-state.ensures same c.in-Ok-reach.ensures.reached c.in-Ok-reach.ensures.kept
 
 pub returns-clause-stop : goal.returns-clause-stop
 returns-clause-stop c =

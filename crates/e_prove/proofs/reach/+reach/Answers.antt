@@ -11,7 +11,7 @@ use Rattle.e_prove.proofs.LicensedLiterals.{err_map}
 use Rattle.e_prove.proofs.StopsInLists.{stop_before, stop_within, before_more}
 use Rattle.e_prove.proofs.PassedSteps.{stops_as_memory}
 use Rattle.e_prove.proofs.ReadySteps.{claim_parts, claim_lines, superposed_parts, superposed_lines, block_facts, room_of_small}
-use Rattle.e_prove.proofs.Blocks.{passed_start, step_ready, step_stops, step_passed, close_ready, close_few, close_stops, claim_stopped, superposed_stopped, superposed_refused, split_parts, split_second_ready, split_size, split_stops_first, line_is_one, close_is_one}
+use Rattle.e_prove.proofs.Blocks.{passed_start, step_ready, step_stops, step_passed, close_ready, close_few, close_stops, claim_stopped, superposed_stopped, superposed_refused, split_parts, split_second_ready, split_size, split_stops_first, line_is_one, close_is_one, kept_on, kept_literal}
 use Rattle.e_prove.proofs.ReachedSteps.{on_ok_map, memory_before, lines_fit, claim_count, superposed_count, same_state_names, step_reaches, step_here, close_reaches, close_here, step_ends, step_stops_before, claim_entered, superposed_entered, split_entered_first, split_entered_second, split_stopped_second}
 use Rattle.e_prove.proofs.reach.+reach.Goals as goal
 use Rattle.e_book.proofs.canonical.ScriptParts.{at_least}
@@ -26,6 +26,9 @@ pub reach-returns-then-number-target-clause-reached : goal.reach-returns-then-nu
 reach-returns-then-number-target-clause-reached t c =
     step_here (all_stated c.args.before.now) c.args.block.now.steps.items c.deref-step-items.result.now c.loop-step.invariant.done (close_script c.args.block.now.close) c.loop-step.step-index c.step-item.result c.args.state.now c.loop-step.state
     (goal_view c.args.goal.now) c.args.first c.loop-step.number c.args.target c.deref-step-items.ensures.value c.loop-step-test.true c.step-item.is (search rules) c.loop-step.invariant.passed c.requires.ready
+
+pub reach-returns-then-number-target-clause-kept : goal.reach-returns-then-number-target-clause-kept
+reach-returns-then-number-target-clause-kept t c = c.loop-step.invariant.passed.kept
 
 pub reach-lines_of-lines-requires : goal.reach-lines_of-lines-requires
 reach-lines_of-lines-requires t c =
@@ -63,6 +66,10 @@ reach-returns-then-target-next-clause-reached t c =
     c.enter_step.new.state (goal_view c.args.goal.now) c.args.first c.loop-step.number c.args.target c.deref-step-items.ensures.value c.loop-step-test.true c.step-item.is c.loop-step.invariant.passed c.requires.ready)
     c.enter_step.ensures.reached
 
+pub reach-returns-then-target-next-clause-kept : goal.reach-returns-then-target-next-clause-kept
+reach-returns-then-target-next-clause-kept t c =
+    on_ok_map _ _ c.enter_step.result (kept_on c.args.state.now c.loop-step.state c.enter_step.new.state c.loop-step.invariant.passed.kept) c.enter_step.ensures.kept
+
 pub reach-returns-then-target-next-clause-err : goal.reach-returns-then-target-next-clause-err
 reach-returns-then-target-next-clause-err t c =
     err_map _ _ c.enter_step.result
@@ -78,14 +85,14 @@ reach-prove_step-requires t c =
 pub reach-loop-step-preserved : goal.reach-loop-step-preserved
 reach-loop-step-preserved t c =
     record {
-      done = c.loop-step.invariant.done ++ c.in-Ok.proved.step ∷ [];
+      done = c.loop-step.invariant.done ++ c.in-Ok.proved ∷ [];
       passed =
-          step_passed (all_stated c.args.before.now) c.args.block.now.steps.items c.deref-step-items.result.now c.loop-step.invariant.done (c.loop-step.invariant.done ++ c.in-Ok.proved.step ∷ []) c.loop-step.step-index c.step-item.result
-          c.in-Ok.proved.step c.args.state.now c.loop-step.state c.prove_step.new.state c.args.first c.loop-step.number c.in-Ok.proved.next c.deref-step-items.ensures.value c.loop-step-test.true c.step-item.is refl
+          step_passed (all_stated c.args.before.now) c.args.block.now.steps.items c.deref-step-items.result.now c.loop-step.invariant.done (c.loop-step.invariant.done ++ c.in-Ok.proved ∷ []) c.loop-step.step-index c.step-item.result
+          c.in-Ok.proved c.args.state.now c.loop-step.state c.prove_step.new.state c.args.first c.loop-step.number c.prove_step.new.number c.deref-step-items.ensures.value c.loop-step-test.true c.step-item.is refl
           c.loop-step.invariant.passed c.in-Ok.ensures.ok;
       from = omega (
         arith,
-        step_ends (all_stated c.args.before.now) c.step-item.result c.in-Ok.proved.step c.loop-step.state c.prove_step.new.state c.loop-step.number c.in-Ok.proved.next c.lines_of-lines.result (close_script c.args.block.now.close)
+        step_ends (all_stated c.args.before.now) c.step-item.result c.in-Ok.proved c.loop-step.state c.prove_step.new.state c.loop-step.number c.prove_step.new.number c.lines_of-lines.result (close_script c.args.block.now.close)
             (c.lines_of-lines.ensures (close_script c.args.block.now.close)) c.in-Ok.ensures.ok,
         c.if-target-next.false,
       );
@@ -110,6 +117,9 @@ pub reach-returns-then-number-target-2-clause-reached : goal.reach-returns-then-
 reach-returns-then-number-target-2-clause-reached t c =
     close_here (all_stated c.args.before.now) c.args.block.now.steps.items c.deref-step-items.result.now c.loop-step.invariant.done (close_script c.args.block.now.close) c.loop-step.step-index c.args.state.now c.loop-step.state
     (goal_view c.args.goal.now) c.args.first c.loop-step.number c.args.target c.deref-step-items.ensures.value c.loop-step-test.false (search rules) c.loop-step.invariant.passed c.requires.ready
+
+pub reach-returns-then-number-target-2-clause-kept : goal.reach-returns-then-number-target-2-clause-kept
+reach-returns-then-number-target-2-clause-kept t c = c.loop-step.invariant.passed.kept
 
 pub reach-enter_close-requires : goal.reach-enter_close-requires
 reach-enter_close-requires t c =
@@ -138,6 +148,10 @@ reach-returns-clause-reached t c =
     (close_reaches (all_stated c.args.before.now) c.args.block.now.steps.items c.deref-step-items.result.now c.loop-step.invariant.done (close_script c.args.block.now.close) c.loop-step.step-index c.args.state.now c.loop-step.state
     c.enter_close.new.state (goal_view c.args.goal.now) c.args.first c.loop-step.number c.args.target c.deref-step-items.ensures.value c.loop-step-test.false c.loop-step.invariant.passed c.requires.ready)
     c.enter_close.ensures.reached
+
+pub reach-returns-clause-kept : goal.reach-returns-clause-kept
+reach-returns-clause-kept t c =
+    on_ok_map _ _ c.enter_close.result (kept_on c.args.state.now c.loop-step.state c.enter_close.new.state c.loop-step.invariant.passed.kept) c.enter_close.ensures.kept
 
 pub reach-returns-clause-err : goal.reach-returns-clause-err
 reach-returns-clause-err t c =
@@ -189,6 +203,9 @@ enter_step-returns-in-Claim-clause-reached t c =
     (subst (λ ls. ReachesStep (all_stated c.args.before.now) (script_of c.in-Claim.inner.value) x (goal_of ls) (c.args.number + 1) c.args.target c.reach.new.state) c.items.ensures
     (subst (λ b. ReachesStep (all_stated c.args.before.now) (script_of b) x (goal_of c.items.result.now) (c.args.number + 1) c.args.target c.reach.new.state) c.deref.ensures k)))
     c.reach.ensures.reached
+
+pub enter_step-returns-in-Claim-clause-kept : goal.enter_step-returns-in-Claim-clause-kept
+enter_step-returns-in-Claim-clause-kept t c = c.reach.ensures.kept
 
 pub enter_step-returns-in-Claim-clause-err : goal.enter_step-returns-in-Claim-clause-err
 enter_step-returns-in-Claim-clause-err t c =
@@ -277,6 +294,11 @@ enter_step-returns-in-Ok-clause-reached t c =
     (subst (λ b. ReachesStep (all_stated c.args.before.now) (script_of b) c.superpose.new.state (goal_of c.items-in-Superposed-2.result.now) (c.args.number + 1) c.args.target c.reach-in-Superposed.new.state) c.deref-in-Superposed.ensures k))))
     c.reach-in-Superposed.ensures.reached
 
+pub enter_step-returns-in-Ok-clause-kept : goal.enter_step-returns-in-Ok-clause-kept
+enter_step-returns-in-Ok-clause-kept t c =
+    let begun = c.in-Ok.ensures.after ∙ ap (λ ns. after_superposed c.in-Superposed.superposition ns c.args.state.now) c.items-in-Superposed.ensures in
+    on_ok_map _ _ c.reach-in-Superposed.result (λ k. k ∙ ap (λ w. w.context.held) begun) c.reach-in-Superposed.ensures.kept
+
 pub enter_step-returns-in-Ok-clause-err : goal.enter_step-returns-in-Ok-clause-err
 enter_step-returns-in-Ok-clause-err t c =
     let x = c.args.state.now in
@@ -364,6 +386,10 @@ enter_close-returns-then-target-middle-clause-reached t c =
     (subst (λ b. ReachesStep (all_stated c.args.before.now) (script_of b) c.assume.new.self goal (c.args.number + 1) c.args.target c.reach.new.state) c.deref-then-target-middle.ensures k)))
     c.reach.ensures.reached
 
+pub enter_close-returns-then-target-middle-clause-kept : goal.enter_close-returns-then-target-middle-clause-kept
+enter_close-returns-then-target-middle-clause-kept t c =
+    on_ok_map _ _ c.reach.result (kept_literal c.in-Cases.lit c.args.state.now c.assume.new.self c.reach.new.state c.in_ok-assume-in-Cases.ensures) c.reach.ensures.kept
+
 pub enter_close-returns-then-target-middle-clause-err : goal.enter_close-returns-then-target-middle-clause-err
 enter_close-returns-then-target-middle-clause-err t c =
     let x = c.args.state.now in
@@ -436,6 +462,11 @@ enter_close-returns-in-Ok-clause-reached t c =
     (omega (arith, same, c.size-count.ensures))
     (subst (λ b. ReachesStep (all_stated c.args.before.now) (script_of b) c.pass_first.new.state goal (c.args.number + 1 + c.size-count.result) c.args.target c.reach-in-Ok.new.state) c.deref-in-Ok.ensures k))
     c.reach-in-Ok.ensures.reached
+
+pub enter_close-returns-in-Ok-clause-kept : goal.enter_close-returns-in-Ok-clause-kept
+enter_close-returns-in-Ok-clause-kept t c =
+    on_ok_map _ _ c.reach-in-Ok.result
+    (kept_literal (negation c.in-Cases.lit) c.args.state.now c.pass_first.new.state c.reach-in-Ok.new.state c.in-Ok.ensures.passed.is_after) c.reach-in-Ok.ensures.kept
 
 pub enter_close-returns-in-Ok-clause-err : goal.enter_close-returns-in-Ok-clause-err
 enter_close-returns-in-Ok-clause-err t c =

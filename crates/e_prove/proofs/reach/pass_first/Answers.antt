@@ -38,8 +38,8 @@ assume_not-requires c =
     let entered = c.in-Ok.ensures ∙ ap (after_literal c.args.lit.now) c.in_ok-outer.ensures.held in
     let back = left_is c.in_ok-outer.outer x c.prove_block.new.state c.release.new.self c.in_ok-outer.ensures.names (c.in-Ok-prove_block.ensures.kept ∙ ap (λ w. w.context.held) entered) c.release.ensures in
     subst (λ y. are_limited_facts y.context.scope (joined y.context.facts (negation c.args.lit.now)) ≡ true) (sym back)
-    (c.requires.second (script_of c.in-Ok-prove_block.proved.block)
-    (derived_outside (all_stated c.args.before.now) (script_of c.args.block.now) (after_literal c.args.lit.now x) c.assume.new.self (goal_view c.args.goal.now) (script_of c.in-Ok-prove_block.proved.block) hs entered c.in-Ok-prove_block.ensures.derived))
+    (c.requires.second (script_of c.in-Ok-prove_block.proved)
+    (derived_outside (all_stated c.args.before.now) (script_of c.args.block.now) (after_literal c.args.lit.now x) c.assume.new.self (goal_view c.args.goal.now) (script_of c.in-Ok-prove_block.proved) hs entered c.in-Ok-prove_block.ensures.derived))
 
 pub returns-clause-passed : goal.returns-clause-passed
 returns-clause-passed c =
@@ -48,8 +48,8 @@ returns-clause-passed c =
     let entered = c.in-Ok.ensures ∙ ap (after_literal c.args.lit.now) c.in_ok-outer.ensures.held in
     let back = left_is c.in_ok-outer.outer x c.prove_block.new.state c.release.new.self c.in_ok-outer.ensures.names (c.in-Ok-prove_block.ensures.kept ∙ ap (λ w. w.context.held) entered) c.release.ensures in
     record {
-      derived = script_of c.in-Ok-prove_block.proved.block;
-      is_derived = derived_outside (all_stated c.args.before.now) (script_of c.args.block.now) (after_literal c.args.lit.now x) c.assume.new.self (goal_view c.args.goal.now) (script_of c.in-Ok-prove_block.proved.block) hs entered c.in-Ok-prove_block.ensures.derived;
+      derived = script_of c.in-Ok-prove_block.proved;
+      is_derived = derived_outside (all_stated c.args.before.now) (script_of c.args.block.now) (after_literal c.args.lit.now x) c.assume.new.self (goal_view c.args.goal.now) (script_of c.in-Ok-prove_block.proved) hs entered c.in-Ok-prove_block.ensures.derived;
       is_after = c.in_ok-assume_not.ensures ∙ ap (after_literal (negation c.args.lit.now)) back;
     }
 

@@ -11,8 +11,8 @@ use Rattle.e_prove.proofs.step.hence.Goals as goal
 pub returns-in_err-cert-clause-kept : goal.returns-in_err-cert-clause-kept
 returns-in_err-cert-clause-kept c = unless _ c.from_residual.result (ap (λ (b : Basis). record c.args.state.now { context = b }) c.in_err-cert.ensures.kept)
 
-pub assumed-requires : goal.assumed-requires
-assumed-requires c = subst (λ (b : Basis). are_limited_facts b.scope (joined b.facts c.args.lit.now) ≡ true) (sym c.in_ok-cert.ensures.kept) c.requires.after
+pub assume_copy-requires : goal.assume_copy-requires
+assume_copy-requires c = subst (λ (b : Basis). are_limited_facts b.scope (joined b.facts c.args.lit.now) ≡ true) (sym c.in_ok-cert.ensures.kept) c.requires.after
 
 pub returns-in-Ok-clause-ok : goal.returns-in-Ok-clause-ok
 returns-in-Ok-clause-ok c before written =

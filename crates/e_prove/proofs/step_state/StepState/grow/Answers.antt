@@ -13,4 +13,4 @@ pub returns-clause-scope : goal.returns-clause-scope
 returns-clause-scope c =
     let x = c.args.self.now.context in
     let sorts = c.args.sorts.now in
-    on_ok _ c.name_all.result (c.widen.ensures ∙ ap (λ s. record x { scope = s }) (c.grown-scope.ensures ∙ ap (λ s. grown s sorts) c.scope.ensures))
+    on_ok _ c.put_names.result (c.widen.ensures ∙ ap (λ s. record x { scope = s }) (c.grown-scope.ensures ∙ ap (λ s. grown s sorts) c.scope.ensures))

@@ -1,6 +1,6 @@
 use Rattle.std.proofs.Common.{◌≡◌, ◌++◌, drop}
 use Rattle.e_deriv.specs.Parts.{written, has_no_blank}
-use Rattle.e_prove.proofs.application.written.Given as goal
+use Rattle.e_prove.proofs.application.all_objects.Given as goal
 
 abbrev pub invariant-loop-entry : goal.invariant-loop-entry
 invariant-loop-entry l =

@@ -2,7 +2,7 @@ use Rattle.std.proofs.Common.{ap, subst}
 use Rattle.e_deriv.specs.declared.stop.Wanted.TheVariants.{Literal}
 use Rattle.e_licence.specs.Licences.{IsLicence}
 use Rattle.e_prove.proofs.LicensedLiterals.{one_lacks, one_too_wide}
-use Rattle.e_prove.proofs.licence.licensed.Goals as goal
+use Rattle.e_prove.proofs.licence.licence.Goals as goal
 
 pub returns-in-Ok-clause-err : goal.returns-in-Ok-clause-err
 returns-in-Ok-clause-err c =

@@ -1,24 +1,24 @@
 use Rattle.e_theorem.specs.Statements.{stated}
 use Rattle.e_prove.proofs.LicensedLiterals.{err_map}
 use Rattle.e_prove.proofs.Applications.{written_is, used_is_written, stops_without, written_fits, written_needs}
-use Rattle.e_prove.proofs.application.used.Goals as goal
+use Rattle.e_prove.proofs.application.use_with.Goals as goal
 
-pub used_at-requires-clause-fit : goal.used_at-requires-clause-fit
-used_at-requires-clause-fit c =
+pub use_at-requires-clause-fit : goal.use_at-requires-clause-fit
+use_at-requires-clause-fit c =
     let w = written_is c.args.pattern.now c.in_ok-args.field-0 c.in-Some.args c.in_ok-args.ensures c.in-Some.is in
     written_fits (stated c.args.statement.now) c.args.context.now c.args.pattern.now c.in-Some.args w c.requires
 
-pub used_at-requires-clause-needs : goal.used_at-requires-clause-needs
-used_at-requires-clause-needs c =
+pub use_at-requires-clause-needs : goal.use_at-requires-clause-needs
+use_at-requires-clause-needs c =
     let w = written_is c.args.pattern.now c.in_ok-args.field-0 c.in-Some.args c.in_ok-args.ensures c.in-Some.is in
     written_needs (stated c.args.statement.now) c.args.context.now c.args.pattern.now c.in-Some.args w c.requires
 
 pub returns-in-Some-clause-ok : goal.returns-in-Some-clause-ok
 returns-in-Some-clause-ok c =
     let w = written_is c.args.pattern.now c.in_ok-args.field-0 c.in-Some.args c.in_ok-args.ensures c.in-Some.is in
-    used_is_written (stated c.args.statement.now) c.args.pattern.now c.args.context.now c.in-Some.args c.used_at.result w.no_blank c.requires.fits w.is c.used_at.ensures.args c.used_at.ensures.certified c.used_at.ensures.written c.used_at.ensures.gives
+    used_is_written (stated c.args.statement.now) c.args.pattern.now c.args.context.now c.in-Some.args c.use_at.result w.no_blank c.requires.fits w.is c.use_at.ensures.args c.use_at.ensures.certified c.use_at.ensures.written c.use_at.ensures.gives
 
 pub returns-in-Some-clause-err : goal.returns-in-Some-clause-err
 returns-in-Some-clause-err c =
     let w = written_is c.args.pattern.now c.in_ok-args.field-0 c.in-Some.args c.in_ok-args.ensures c.in-Some.is in
-    err_map _ _ c.used_at.result (λ h k. stops_without (stated c.args.statement.now) c.args.context.now c.args.pattern.now c.in-Some.args h w.no_blank w.is k) c.used_at.ensures.err
+    err_map _ _ c.use_at.result (λ h k. stops_without (stated c.args.statement.now) c.args.context.now c.args.pattern.now c.in-Some.args h w.no_blank w.is k) c.use_at.ensures.err

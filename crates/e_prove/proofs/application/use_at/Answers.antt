@@ -4,7 +4,7 @@ use Rattle.e_clause.specs.LimitedFacts.{are_well_formed_in}
 use Rattle.e_theorem.specs.Statements.{stated}
 use Rattle.e_prove.specs.inner.StopsOfSteps.{StepStopsAmong}
 use Rattle.e_prove.proofs.Applications.{room_for, needs_there}
-use Rattle.e_prove.proofs.application.used_at.Goals as goal
+use Rattle.e_prove.proofs.application.use_at.Goals as goal
 
 pub use_of-requires-clause-few : goal.use_of-requires-clause-few
 use_of-requires-clause-few c = (room_for (stated c.args.statement.now) c.args.context.now.scope c.scope.result c.requires.statement c.requires.scope c.scope.ensures).few
