@@ -251,7 +251,7 @@ NOT_REFUSED = set("Yes Found Added SolvedRows Theorem Verified NoMemory".split()
 # Choices of answers, by their variants.
 ANSWERS = set(
     """Added Filled FirstChoices Found InstanceFault Judgement LawFault Licensed LineFault Metric NextItem
-    Prepared Refuted Reject Stop Suggested TextFault UseFault Verdict""".split()
+    Prepared Refuted Reject Stop TextFault UseFault Verdict""".split()
 )
 
 

@@ -13,12 +13,12 @@ ghost use Rattle.e_commands.specs.SuggesterAnswers.{apply_line};
 ghost use Rattle.e_commands.specs.inner.Suggesting.{IsListed, IsListedOne, apply_lines};
 
 use e_deriv::Names;
-use e_licence::Verdicts;
+use e_licence::{FirstChoices, Verdicts};
 use e_line::put_apply;
 use e_literal::{Items, Obj};
 use e_names::{Theorems, name_of_object};
 use e_prove::Place;
-use e_suggest::{Suggested, all};
+use e_suggest::all;
 use e_text::{Name, Title, end_line};
 use e_theorem::Statement;
 use std::alloc::{AllocError, Global};
@@ -114,12 +114,12 @@ fn list_theorem(
         });
     }
     match all(alloc, &place.context, memory, statement, left)? {
-        Suggested::Found { choices, more } => {
+        FirstChoices::Found { choices, more } => {
             put_applications(alloc, out, title, &place.names, choices.items())?;
             let lines = choices.len();
             Ok(Listed::Found { lines, more })
         }
-        Suggested::TooWide(width) => Ok(Listed::TooWide(width)),
+        FirstChoices::TooWide(width) => Ok(Listed::TooWide(width)),
     }
 }
 

@@ -67,31 +67,9 @@ from_facts s facts l t = record { lits = t.lits; of = t.of; rest = all_hold fact
 
 -- ---- it cannot be decided
 
--- no transfer that a search would have found gives it from facts alone
-not_given : (s : Scope) (facts : List Lit) (l : Lit) (f : Found) → IsFound s facts l f → (f ≡ No) ⊎ ((w : ℕ) × (f ≡ TooWide w)) → TransferFromFacts s facts l → ⊥
-not_given s facts l (Yes cert) h (inl e) t = absurd (cc)
-not_given s facts l (Yes cert) h (inr p) t = (let e = p.1 in absurd (cc))
-not_given s facts l No h e t = h (from_facts s facts l t)
-not_given s facts l (TooWide w) h e t = h.not_plain t
-
 pub no_plain : (s : Scope) (facts : List Lit) (l : Lit) → has facts l ≡ false → ¬ TransferFromFacts s facts l → ¬ IsPlain s facts l
 no_plain s facts l n h (inl f) = true≢false (sym f ∙ n)
 no_plain s facts l n h (inr t) = h t
-
-pub too_wide : (s : Scope) (facts : List Lit) (l : Lit) (w : ℕ) (f : Found) → has facts l ≡ false → is_metric l ≡ true → IsTooWideSystem facts (Some l) w
-    → IsFound s facts l f → (f ≡ No) ⊎ ((v : ℕ) × (f ≡ TooWide v)) → IsTooWideLit s facts l w
-too_wide s facts l w f n e h g k = record {
-  not_plain = no_plain s facts l n (not_given s facts l f g k);
-  rows = h.rows;
-  is_system = inl (record { is_metric = e; is_one = h.is_one });
-  has_width = h.has_width;
-}
-
--- the same by a literal that a transfer needs
-pub wide_transfer : (s : Scope) (facts : List Lit) (l : Lit) (w : ℕ) (f : Found) → has facts l ≡ false → IsFound s facts l f → f ≡ TooWide w → IsTooWideLit s facts l w
-wide_transfer s facts l w f n g e =
-    let h : IsTooWideTransfer s facts l w = subst (IsFound s facts l) e g in
-    record { not_plain = no_plain s facts l n h.not_plain; rows = h.rows; is_system = inr h.is_system; has_width = h.has_width }
 
 -- ---- what holds of the scope and the facts that a context hands out holds of the context
 

@@ -4,8 +4,6 @@ use Rattle.e_literal.specs.declared.literal.Lit.{Lit}
 use Rattle.e_literal.specs.Facts.{has}
 use Rattle.e_clause.specs.Allowed.{Allowed}
 use Rattle.e_clause.specs.Wide.{IsTooWideLit}
-use Rattle.e_clause.specs.Transfer.{TransferConsequence}
-use Rattle.e_transfer.specs.FoundTransfers.{IsTooWideTransfer}
 use Rattle.e_transfer.specs.declared.walk.Verdict.{Verdict}
 use Rattle.e_transfer.specs.declared.walk.Verdict.TheVariants as verdict
 use Rattle.e_licence.specs.Contexts.{Basis}
@@ -16,12 +14,6 @@ abbrev pub JudgedIs : Basis → Lit → Verdict (Unit {0}) → Type 0
 JudgedIs b l (verdict.Yes p) = Allowed b.scope b.facts l
 JudgedIs b l verdict.No = ¬ Allowed b.scope b.facts l
 JudgedIs b l (verdict.TooWide w) = IsTooWideLit b.scope b.facts l w
-
--- of a literal that is no fact: a transfer gives it, or none does, or a system is too wide
-abbrev pub GivenIs : Basis → Lit → Verdict (Unit {0}) → Type 0
-GivenIs b l (verdict.Yes p) = TransferConsequence b.scope b.facts l
-GivenIs b l verdict.No = ¬ TransferConsequence b.scope b.facts l
-GivenIs b l (verdict.TooWide w) = IsTooWideTransfer b.scope b.facts l w
 
 -- what is kept is so by this scope and these facts
 pub record AreRight (b : Basis) (v : Verdicts) : Type 0 where

@@ -3,3 +3,4 @@ pub mod Clashes
 pub mod BlankChoices
 pub mod Rows
 pub mod Sweeps
+pub mod Questions

@@ -12,13 +12,13 @@ ghost use Rattle.e_theorem.specs.Pattern.{is_pattern};
 ghost use Rattle.e_theorem.specs.Statements.{stated};
 ghost use Rattle.e_transfer.specs.Prepared.{IsPrepared};
 ghost use Rattle.e_licence.specs.inner.BlankChoices;
-ghost use Rattle.e_licence.specs.inner.BlankChoices.{IsKeptChoice, IsWanted};
+ghost use Rattle.e_licence.specs.inner.BlankChoices.{IsKeptChoice, IsWanted, asks_all, are_metric};
 ghost use Rattle.e_licence.specs.inner.BlankChoices.{KnownIs, OneIs, AreIs, AllIs, SomeIsWideAt};
 ghost use Rattle.e_licence.specs.Verdicts.{AreRight};
 ghost use Rattle.e_licence.specs.FilledBlanks.{FilledIs};
 
 use crate::context::Context;
-use crate::licensing::allowed_by;
+use crate::licensing::Question;
 use crate::ready::{Ready, ready_places};
 use crate::verdicts::Verdicts;
 use e_literal::{Items, Lit, Map, NOTHING, Obj, Scope, count, kind, next_objects, renamed};
@@ -38,6 +38,22 @@ pub enum Filled {
     /// Under a choice that is not above the least good one, if there is one, a given literal is
     /// wide, and this is the width of one of its systems.
     TooWide(u128),
+}
+
+/// Which given literals are asked.
+#[derive(Clone, Copy)]
+pub enum Asked {
+    /// All.
+    All,
+    /// Those that are known with this many numbers.
+    KnownWith(usize),
+}
+
+/// Of which relations the literals are that are asked.
+#[derive(Clone, Copy)]
+pub enum Relations {
+    Diagram,
+    Metric,
 }
 
 /// The choices for the blanks of an application, as a task of a search.
@@ -71,6 +87,7 @@ pub struct Blanks<'a> {
 ///
 /// It begins from what the context has solved of its facts: a [`Context::solve`] before it is worth
 /// its time.
+#[tactic(auto, using(crate::proofs::LimitsOfFacts::well_formed))]
 pub fn match_blanks(
     alloc: Global,
     context: &Context,
@@ -82,19 +99,19 @@ pub fn match_blanks(
     requires few { length statement.now.declared < 2 ^ 16 }
     ensures { IfOk result (FilledIs (stated statement.now) context.now pattern.now) }
 {
-    if let Some(metric_facts) = context.solved() {
-        return matched_with(alloc, context, metric_facts, statement, pattern);
+    if let Some(metric_facts) = context.metric_facts() {
+        return match_solved(alloc, context, metric_facts, statement, pattern);
     }
-    context.has_limited_facts();
     let facts = context.facts();
     let metric_facts = MetricFacts::of(alloc, facts)?;
-    let filled = matched_with(alloc, context, &metric_facts, statement, pattern);
+    let filled = match_solved(alloc, context, &metric_facts, statement, pattern);
     mem::drop(metric_facts);
     filled
 }
 
-/// The same, by what is solved of the facts.
-fn matched_with(
+/// Fills the blanks by what is solved of the facts.
+#[tactic(auto, using(crate::proofs::LimitsOfFacts::well_formed))]
+fn match_solved(
     alloc: Global,
     context: &Context,
     metric_facts: &MetricFacts,
@@ -107,16 +124,15 @@ fn matched_with(
     requires few { length statement.now.declared < 2 ^ 16 }
     ensures { IfOk result (FilledIs (stated statement.now) context.now pattern.now) }
 {
-    context.has_limited_facts();
     let facts = context.facts();
     let prepared = prepare(alloc, facts, metric_facts)?;
-    let filled = matched_by(alloc, context, metric_facts, &prepared, statement, pattern);
+    let filled = match_prepared(alloc, context, metric_facts, &prepared, statement, pattern);
     mem::drop(prepared);
     filled
 }
 
-/// The same, by what is made of them once for all choices.
-fn matched_by(
+/// Fills the blanks by what is made of the facts once for all choices.
+fn match_prepared(
     alloc: Global,
     context: &Context,
     metric_facts: &MetricFacts,
@@ -209,7 +225,7 @@ pub fn arguments(
     let mut args = Vec::with_capacity(alloc, declared.len())?;
     for (object, entry) in declared.iter().zip(pattern) {
         args.push(argument(scope, *object, *entry, rest))?;
-        rest = left(*entry, rest);
+        rest = numbers_after(*entry, rest);
     }
     Ok(args)
 }
@@ -231,8 +247,8 @@ fn argument(scope: Scope, declared: Obj, entry: Option<Obj>, rest: &[u16]) -> Ob
     }
 }
 
-/// The numbers that are left after it.
-fn left(entry: Option<Obj>, rest: &[u16]) -> &[u16]
+/// The numbers of the choice for the declared objects after this one.
+fn numbers_after(entry: Option<Obj>, rest: &[u16]) -> &[u16]
     ensures { result.now ≡ BlankChoices.numbers_left entry rest.now }
 {
     match (entry, rest) {
@@ -283,7 +299,7 @@ impl<'a> Blanks<'a> {
         self.ask(alloc, memory, image)
     }
 
-    /// The same of one that was not asked before.
+    /// Whether a literal that was not asked before is allowed. What is answered is kept.
     fn ask(
         &self,
         alloc: Global,
@@ -296,8 +312,13 @@ impl<'a> Blanks<'a> {
         ensures verdict { IfOk result (KnownIs self.now.context.now image) }
         ensures memory { OnOk result (AreRight self.now.context.now memory.new) }
     {
-        let metric_facts = self.step_facts.metric_facts();
-        match allowed_by(alloc, self.context, metric_facts, self.prepared, &image) {
+        let question = Question {
+            context: self.context,
+            step_facts: self.step_facts,
+            prepared: self.prepared,
+            lit: &image,
+        };
+        match question.verdict(alloc) {
             Ok(verdict) => {
                 memory.keep(image, &verdict)?;
                 Ok(verdict)
@@ -309,7 +330,7 @@ impl<'a> Blanks<'a> {
         }
     }
 
-    /// The same of a given literal by the images of its objects.
+    /// Whether a given literal is allowed, by the images of its objects.
     pub fn license_one(
         &self,
         alloc: Global,
@@ -325,35 +346,41 @@ impl<'a> Blanks<'a> {
         self.license_image(alloc, memory, image)
     }
 
-    /// Whether the given literal at a place is one of the metric ones, or of the others, and all of
-    /// these are asked, or it is known with this many numbers.
-    fn is_asked(&self, at: usize, lit: &Lit, length: usize, metric: bool, all: bool) -> bool
-        ensures { result ≡ false → all ≡ true → is_metric lit.now ≡ metric → ⊥ }
+    /// Whether the given literal at a place is of these relations, and one that is asked.
+    fn is_asked(&self, at: usize, lit: &Lit, relations: Relations, asked: Asked) -> bool
+        ensures { result ≡ false → asks_all asked ≡ true → is_metric lit.now ≡ are_metric relations
+            → ⊥ }
     {
+        let metric = match relations {
+            Relations::Diagram => false,
+            Relations::Metric => true,
+        };
         if kind(lit).is_some() != metric {
             return false;
         }
-        all || (at < self.ready.len() && self.ready[at].known == length)
+        match asked {
+            Asked::All => true,
+            Asked::KnownWith(length) => at < self.ready.len() && self.ready[at].known == length,
+        }
     }
 
-    /// Licenses the metric given literals, or the others, up to the first that is not allowed: all,
-    /// or those that are known with this many numbers.
+    /// Licenses the given literals of these relations that are asked, up to the first that is not
+    /// allowed.
     fn license_those(
         &self,
         alloc: Global,
         memory: &mut Verdicts,
         images: &Map,
-        length: usize,
-        metric: bool,
-        all: bool,
+        relations: Relations,
+        asked: Asked,
     ) -> Result<Verdict<()>, AllocError>
         requires { AreRight self.now.context.now memory.old }
-        ensures verdict { IfOk result
-            (AreIs self.now.context.now images.now metric all self.now.statement.now.given) }
+        ensures verdict { IfOk result (AreIs self.now.context.now images.now
+            (are_metric relations) (asks_all asked) self.now.statement.now.given) }
         ensures memory { OnOk result (AreRight self.now.context.now memory.new) }
     {
         for (at, lit) in self.statement.given.items().iter().enumerate() {
-            if self.is_asked(at, lit, length, metric, all) {
+            if self.is_asked(at, lit, relations, asked) {
                 match self.license_one(alloc, memory, lit, images)? {
                     Verdict::Yes(()) => {}
                     Verdict::No => return Ok(Verdict::No),
@@ -364,22 +391,24 @@ impl<'a> Blanks<'a> {
         Ok(Verdict::Yes(()))
     }
 
-    /// The same of both: what is asked of diagrams is kept, and so comes first.
+    /// Licenses the given literals that are asked, up to the first that is not allowed. What is
+    /// asked of diagrams is kept, and so comes first.
     fn license_all(
         &self,
         alloc: Global,
         memory: &mut Verdicts,
         images: &Map,
-        length: usize,
-        all: bool,
+        asked: Asked,
     ) -> Result<Verdict<()>, AllocError>
         requires { AreRight self.now.context.now memory.old }
-        ensures verdict { IfOk result
-            (AllIs self.now.context.now images.now all self.now.statement.now.given) }
+        ensures verdict { IfOk result (AllIs self.now.context.now images.now (asks_all asked)
+            self.now.statement.now.given) }
         ensures memory { OnOk result (AreRight self.now.context.now memory.new) }
     {
-        match self.license_those(alloc, memory, images, length, false, all)? {
-            Verdict::Yes(()) => self.license_those(alloc, memory, images, length, true, all),
+        match self.license_those(alloc, memory, images, Relations::Diagram, asked)? {
+            Verdict::Yes(()) => {
+                self.license_those(alloc, memory, images, Relations::Metric, asked)
+            }
             Verdict::No => Ok(Verdict::No),
             Verdict::TooWide(width) => Ok(Verdict::TooWide(width)),
         }
@@ -399,7 +428,7 @@ impl<'a> Blanks<'a> {
         ensures memory { OnOk result (AreRight self.now.context.now memory.new) }
     {
         if length == self.whole {
-            self.license_all(alloc, memory, images, length, true)
+            self.license_all(alloc, memory, images, Asked::All)
         } else {
             Ok(Verdict::Yes(()))
         }
@@ -440,7 +469,7 @@ impl<'a> Task for Blanks<'a> {
             self.pattern,
             part,
         )?;
-        match self.license_all(alloc, memory, &images, length, false)? {
+        match self.license_all(alloc, memory, &images, Asked::KnownWith(length))? {
             Verdict::Yes(()) => self.license_whole(alloc, memory, &images, length),
             Verdict::No => Ok(Verdict::No),
             Verdict::TooWide(width) => Ok(Verdict::TooWide(width)),

@@ -42,6 +42,7 @@ pub enum FirstChoices {
 ///
 /// It begins from what the context has solved of its facts: a [`Context::solve`] before it is worth
 /// its time. What it asks of diagrams is kept in `memory`, for other statements at the context.
+#[tactic(auto, using(crate::proofs::LimitsOfFacts::well_formed))]
 pub fn first_choices(
     alloc: Global,
     context: &Context,
@@ -57,8 +58,8 @@ pub fn first_choices(
     ensures choices { IfOk result (FirstAre (stated statement.now) context.now pattern.now most) }
     ensures memory { OnOk result (AreRight context.now memory.new) }
 {
-    if let Some(metric_facts) = context.solved() {
-        return choices_with(
+    if let Some(metric_facts) = context.metric_facts() {
+        return choices_of_solved(
             alloc,
             context,
             metric_facts,
@@ -68,10 +69,9 @@ pub fn first_choices(
             most,
         );
     }
-    context.has_limited_facts();
     let facts = context.facts();
     let metric_facts = MetricFacts::of(alloc, facts)?;
-    let answer = choices_with(
+    let answer = choices_of_solved(
         alloc,
         context,
         &metric_facts,
@@ -84,8 +84,9 @@ pub fn first_choices(
     answer
 }
 
-/// The same, by what is solved of the facts.
-fn choices_with(
+/// The first of the good choices, by what is solved of the facts.
+#[tactic(auto, using(crate::proofs::LimitsOfFacts::well_formed))]
+fn choices_of_solved(
     alloc: Global,
     context: &Context,
     metric_facts: &MetricFacts,
@@ -102,10 +103,9 @@ fn choices_with(
     ensures choices { IfOk result (FirstAre (stated statement.now) context.now pattern.now most) }
     ensures memory { OnOk result (AreRight context.now memory.new) }
 {
-    context.has_limited_facts();
     let facts = context.facts();
     let prepared = prepare(alloc, facts, metric_facts)?;
-    let answer = choices_by(
+    let answer = choices_of_prepared(
         alloc,
         context,
         metric_facts,
@@ -119,8 +119,8 @@ fn choices_with(
     answer
 }
 
-/// The same, by what is made of them once for all choices.
-fn choices_by(
+/// The first of the good choices, by what is made of the facts once for all of them.
+fn choices_of_prepared(
     alloc: Global,
     context: &Context,
     metric_facts: &MetricFacts,
@@ -163,7 +163,7 @@ fn choices_by(
     };
     let task = BlankSearch {
         blanks: &blanks,
-        excluded: blanks.excluded(alloc, memory, &spans)?,
+        excluded: blanks.excluded_numbers(alloc, memory, &spans)?,
     };
     let mut chosen = Vec::new(alloc);
     let mut found = Items::empty(alloc);

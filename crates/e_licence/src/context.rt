@@ -12,7 +12,7 @@ ghost use Rattle.e_licence.specs.Licences.{IsLicence, IsAnswerAgainst};
 use crate::contradiction::{Refuted, by_arithmetic, clash};
 use crate::held::Held;
 use crate::licensing::{Licensed, licence_in_turn};
-use crate::solving::{copied, metric_facts_before};
+use crate::solving::{copy_or_new, metric_facts_before};
 use e_clause::{Against, Cert, Part};
 use e_facts::{Added, Facts};
 use e_literal::{Lit, Scope};
@@ -73,33 +73,27 @@ impl Context {
         self.scope
     }
 
-    /// The facts, in the order in which they came.
+    /// The facts, in the order in which they came. They are in scope and well formed, and their
+    /// terms are few.
     pub fn facts(&self) -> &Facts
-        ensures { result.now ≡ self.now.facts }
+        ensures facts { result.now ≡ self.now.facts }
+        ensures limited { IsTrue (are_limited_facts self.now.scope result.now) }
     {
         &self.facts
     }
 
-    /// The facts are in scope and well formed, and their terms are few. It does nothing: callers
-    /// that need this of the context have it from the contract.
-    pub fn has_limited_facts(&self)
-        ensures { IsTrue (are_limited_facts self.now.scope self.now.facts) }
-    {
-        let _ = &self.facts;
-    }
-
     /// What is solved of the facts, if anything is.
-    pub(crate) fn solved(&self) -> Option<&MetricFacts>
+    pub(crate) fn metric_facts(&self) -> Option<&MetricFacts>
         ensures { IfSome (option_copied result) (AreFronts self.now.facts) }
     {
         self.solved.as_ref()
     }
 
     /// A copy of what is solved of the facts, or nothing known.
-    pub(crate) fn metric_facts(&self, alloc: Global) -> Result<MetricFacts, AllocError>
+    pub(crate) fn copy_of_metric_facts(&self, alloc: Global) -> Result<MetricFacts, AllocError>
         ensures { IfOk result (AreFronts self.now.facts) }
     {
-        copied(alloc, &self.solved)
+        copy_or_new(alloc, &self.solved)
     }
 
     /// The literal joins the facts, unless one the same is there.
@@ -195,15 +189,14 @@ impl Context {
         licensed
     }
 
-    /// Whether the facts contradict each other, as [`against`] answers. No more kinds of magnitude
+    /// Whether the facts contradict each other, as [`refute`] answers. No more kinds of magnitude
     /// are solved than needed, and what is solved is kept.
     ///
-    /// [`against`]: crate::contradiction::against
-    pub fn against(&mut self, alloc: Global) -> Result<Refuted, AllocError>
+    /// [`refute`]: crate::contradiction::refute
+    pub fn refute(&mut self, alloc: Global) -> Result<Refuted, AllocError>
         ensures refuted { IfOk result (IsAnswerAgainst self.old) }
         ensures same { self.new ≡ self.old }
     {
-        self.has_limited_facts();
         if let Some(lit) = clash(alloc, &self.facts)? {
             return Ok(Refuted::Yes(Against::Clash { lit }));
         }

@@ -32,22 +32,21 @@ pub enum Refuted {
 /// else no admissible assignment makes the metric facts true. It fails only out of memory.
 ///
 /// It begins from what the context has solved of its facts, and lets go what it solves itself;
-/// [`Context::against`] keeps that for the next question.
-pub fn against(alloc: Global, context: &Context) -> Result<Refuted, AllocError>
+/// [`Context::refute`] keeps that for the next question.
+pub fn refute(alloc: Global, context: &Context) -> Result<Refuted, AllocError>
     ensures { IfOk result (IsAnswerAgainst context.now) }
 {
-    context.has_limited_facts();
     if let Some(lit) = clash(alloc, context.facts())? {
         return Ok(Refuted::Yes(Against::Clash { lit }));
     }
-    let mut metric_facts = context.metric_facts(alloc)?;
+    let mut metric_facts = context.copy_of_metric_facts(alloc)?;
     let refuted = by_arithmetic(alloc, context, &mut metric_facts);
     mem::drop(metric_facts);
     refuted
 }
 
-/// The same, where no diagram literal and its negation are both facts: the kinds of magnitude are
-/// asked in turn.
+/// Whether the facts contradict each other, where no diagram literal and its negation are both
+/// facts: the kinds of magnitude are asked in turn.
 pub(crate) fn by_arithmetic(
     alloc: Global,
     context: &Context,
@@ -58,7 +57,6 @@ pub(crate) fn by_arithmetic(
     ensures refuted { IfOk result (IsAnswerAgainst context.now) }
     ensures metric_facts { AreFronts context.now.facts metric_facts.new }
 {
-    context.has_limited_facts();
     let facts = context.facts();
     match metric_facts.absurd_in_turn(alloc, facts)? {
         Metric::Yes(cert) => Ok(Refuted::Yes(Against::Metric(cert))),

@@ -19,7 +19,7 @@ mod verdicts;
 pub use blanks::{Filled, match_blanks};
 pub use choices::{FirstChoices, first_choices};
 pub use context::Context;
-pub use contradiction::{Refuted, against};
+pub use contradiction::{Refuted, refute};
 pub use e_transfer::{are_limited_facts, is_well_formed_in};
 pub use licensing::{Licensed, licence};
 pub use limits::is_statement;

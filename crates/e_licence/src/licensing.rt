@@ -1,19 +1,19 @@
 //! Whether a literal is allowed.
 
-ghost use Rattle.std.specs.Prelude.{IsTrue, IsFalse, IfOk, Some};
-ghost use Rattle.e_literal.specs.Facts.{has, is_metric};
+ghost use Rattle.std.specs.Prelude.{◌≡◌, IsTrue, IsFalse, IfOk};
+ghost use Rattle.e_literal.specs.Facts.{has};
 ghost use Rattle.e_clause.specs.LimitedFacts.{is_well_formed_in};
-ghost use Rattle.e_clause.specs.Metric.{MetricConsequence};
 ghost use Rattle.e_metric.specs.Fronts.{AreFronts};
-ghost use Rattle.e_metric.specs.MetricAnswers.{IsMetricAnswer, IfNo};
 ghost use Rattle.e_transfer.specs.Prepared.{IsPrepared};
 ghost use Rattle.e_licence.specs.Licences.{IsLicence};
-ghost use Rattle.e_licence.specs.Verdicts.{GivenIs, JudgedIs};
+ghost use Rattle.e_licence.specs.Verdicts.{JudgedIs};
+ghost use Rattle.e_licence.specs.inner.Questions;
+ghost use Rattle.e_licence.specs.inner.Questions.{IsAnsweredByTransfer};
 
 use crate::context::Context;
 use e_clause::{Cert, Part};
 use e_literal::{Lit, Values, kind};
-use e_metric::{Metric, MetricFacts};
+use e_metric::{Metric, MetricFacts, StepFacts};
 use e_transfer::{Found, Prepared, Verdict, find_by_facts, find_prepared, prepare};
 use std::alloc::{AllocError, Global};
 use std::mem;
@@ -43,15 +43,16 @@ pub fn licence(alloc: Global, context: &Context, lit: &Lit) -> Result<Licensed, 
     if context.facts().has(lit) {
         return Ok(Licensed::Yes(Cert::Plain(Part::Fact)));
     }
-    let mut metric_facts = context.metric_facts(alloc)?;
+    let mut metric_facts = context.copy_of_metric_facts(alloc)?;
     let licensed = licence_in_turn(alloc, context, &mut metric_facts, lit);
     mem::drop(metric_facts);
     licensed
 }
 
-/// The same of a literal that is no fact, where each kind of magnitude is solved only if it is
-/// asked: a metric literal that its own kind gives asks no other, and one that facts alone give by
-/// a transfer none besides.
+/// Whether a literal that is no fact is allowed. What is dear is asked last: first whether its own
+/// kind of magnitude gives it, then whether a transfer does from facts alone, and only then, with
+/// all kinds solved, whether sums or a transfer do.
+#[tactic(auto, using(crate::proofs::LimitsOfFacts::well_formed))]
 pub(crate) fn licence_in_turn(
     alloc: Global,
     context: &Context,
@@ -64,228 +65,125 @@ pub(crate) fn licence_in_turn(
     ensures licence { IfOk result (IsLicence context.now lit.now) }
     ensures metric_facts { AreFronts context.now.facts metric_facts.new }
 {
-    context.has_limited_facts();
     let facts = context.facts();
-    if kind(lit).is_none() {
-        return given_in_turn(alloc, context, metric_facts, lit);
+    if kind(lit).is_some() {
+        if let Some(cert) = metric_facts.certificate_by_kind(alloc, facts, lit)? {
+            return Ok(Licensed::Yes(Cert::Plain(Part::Metric(cert))));
+        }
     }
-    match metric_facts.certificate_by_kind(alloc, facts, lit)? {
-        Some(cert) => Ok(Licensed::Yes(Cert::Plain(Part::Metric(cert)))),
-        None => given_in_turn(alloc, context, metric_facts, lit),
-    }
-}
-
-// The same, where the literal's own kind does not give it.
-fn given_in_turn(
-    alloc: Global,
-    context: &Context,
-    metric_facts: &mut MetricFacts,
-    lit: &Lit,
-) -> Result<Licensed, AllocError>
-    requires metric_facts { AreFronts context.now.facts metric_facts.old }
-    requires lit { IsTrue (is_well_formed_in context.now.scope lit.now) }
-    requires not_fact { IsFalse (has context.now.facts lit.now) }
-    ensures licence { IfOk result (IsLicence context.now lit.now) }
-    ensures metric_facts { AreFronts context.now.facts metric_facts.new }
-{
-    context.has_limited_facts();
-    let scope = context.scope();
-    let facts = context.facts();
-    if let Some(cert) = find_by_facts(alloc, scope, facts, lit)? {
+    if let Some(cert) = find_by_facts(alloc, context.scope(), facts, lit)? {
         return Ok(Licensed::Yes(Cert::Transfer(cert)));
     }
     metric_facts.bring_all(alloc, facts)?;
     let prepared = prepare(alloc, facts, metric_facts)?;
-    let licensed = by_sums(alloc, context, metric_facts, &prepared, lit);
+    let step_facts = StepFacts::new(facts, metric_facts);
+    let question = Question {
+        context,
+        step_facts: &step_facts,
+        prepared: &prepared,
+        lit,
+    };
+    let licensed = question.licence(alloc);
     mem::drop(prepared);
     licensed
 }
 
-// The same of a literal that is no fact.
-fn by_sums(
-    alloc: Global,
-    context: &Context,
-    metric_facts: &MetricFacts,
-    prepared: &Prepared,
-    lit: &Lit,
-) -> Result<Licensed, AllocError>
-    requires metric_facts { AreFronts context.now.facts metric_facts.now }
-    requires prepared { IsPrepared context.now.facts prepared.now }
-    requires lit { IsTrue (is_well_formed_in context.now.scope lit.now) }
-    requires not_fact { IsFalse (has context.now.facts lit.now) }
-    ensures { IfOk result (IsLicence context.now lit.now) }
-{
-    if kind(lit).is_none() {
-        return diagram(alloc, context, metric_facts, prepared, lit);
-    }
-    context.has_limited_facts();
-    let facts = context.facts();
-    let answer = metric_facts.follows(alloc, facts, lit)?;
-    metric(alloc, context, metric_facts, prepared, lit, answer)
+/// A literal that is asked about, and by what it is answered: the context, what is solved of the
+/// magnitudes of its facts, and what is made of them for all literals.
+#[derive(Clone, Copy)]
+pub struct Question<'a> {
+    pub context: &'a Context,
+    pub step_facts: &'a StepFacts<'a>,
+    pub prepared: &'a Prepared,
+    pub lit: &'a Lit,
+    ghost fronts: { step_facts.now ≡ context.now.facts },
+    ghost prepares: { IsPrepared context.now.facts prepared.now },
+    ghost well_formed: { IsTrue (is_well_formed_in context.now.scope lit.now) },
 }
 
-// A diagram literal, the same.
-fn diagram(
-    alloc: Global,
-    context: &Context,
-    metric_facts: &MetricFacts,
-    prepared: &Prepared,
-    lit: &Lit,
-) -> Result<Licensed, AllocError>
-    requires metric_facts { AreFronts context.now.facts metric_facts.now }
-    requires prepared { IsPrepared context.now.facts prepared.now }
-    requires lit { IsTrue (is_well_formed_in context.now.scope lit.now) }
-    requires not_fact { IsFalse (has context.now.facts lit.now) }
-    requires diagram { IsFalse (is_metric lit.now) }
-    ensures { IfOk result (IsLicence context.now lit.now) }
-{
-    context.has_limited_facts();
-    let scope = context.scope();
-    let facts = context.facts();
-    match find_prepared(alloc, scope, facts, metric_facts, prepared, lit)? {
-        Found::Yes(cert) => Ok(Licensed::Yes(Cert::Transfer(cert))),
-        Found::No => Ok(Licensed::No(None)),
-        Found::TooWide(width) => Ok(Licensed::TooWide(width)),
-    }
-}
-
-// A metric literal, the same, with this answer.
-fn metric(
-    alloc: Global,
-    context: &Context,
-    metric_facts: &MetricFacts,
-    prepared: &Prepared,
-    lit: &Lit,
-    answer: Metric,
-) -> Result<Licensed, AllocError>
-    requires metric_facts { AreFronts context.now.facts metric_facts.now }
-    requires prepared { IsPrepared context.now.facts prepared.now }
-    requires answer { IsMetricAnswer context.now.facts (Some lit.now) answer }
-    requires no { IfNo answer (¬ MetricConsequence context.now.facts lit.now) }
-    requires lit { IsTrue (is_well_formed_in context.now.scope lit.now) }
-    requires not_fact { IsFalse (has context.now.facts lit.now) }
-    requires metric { IsTrue (is_metric lit.now) }
-    ensures { IfOk result (IsLicence context.now lit.now) }
-{
-    context.has_limited_facts();
-    let scope = context.scope();
-    let facts = context.facts();
-    match answer {
-        Metric::Yes(cert) => Ok(Licensed::Yes(Cert::Plain(Part::Metric(cert)))),
-        Metric::No(values) => match find_prepared(
-            alloc,
-            scope,
-            facts,
-            metric_facts,
-            prepared,
-            lit,
-        )? {
-            Found::Yes(cert) => Ok(Licensed::Yes(Cert::Transfer(cert))),
-            Found::No => Ok(Licensed::No(Some(values))),
-            Found::TooWide(width) => Ok(Licensed::TooWide(width)),
-        },
-        // A transfer from facts alone allows it, whatever the sums are.
-        Metric::TooWide(width) => match find_prepared(
-            alloc,
-            scope,
-            facts,
-            metric_facts,
-            prepared,
-            lit,
-        )? {
-            Found::Yes(cert) => Ok(Licensed::Yes(Cert::Transfer(cert))),
-            Found::No | Found::TooWide(_) => Ok(Licensed::TooWide(width)),
-        },
-    }
-}
-
-/// Whether the literal is allowed, no matter why, where what is asked of magnitudes is solved
-/// already, so that it need not be for each of many literals. A metric literal that is seen to be
-/// false with values with which the facts are true is asked of no sums.
-pub(crate) fn allowed_by(
-    alloc: Global,
-    context: &Context,
-    metric_facts: &MetricFacts,
-    prepared: &Prepared,
-    lit: &Lit,
-) -> Result<Verdict<()>, AllocError>
-    requires metric_facts { AreFronts context.now.facts metric_facts.now }
-    requires prepared { IsPrepared context.now.facts prepared.now }
-    requires lit { IsTrue (is_well_formed_in context.now.scope lit.now) }
-    ensures { IfOk result (JudgedIs context.now lit.now) }
-{
-    let facts = context.facts();
-    if kind(lit).is_some() && prepared.refutes(facts, lit) {
-        return by_transfer(alloc, context, metric_facts, prepared, lit);
-    }
-    if facts.has(lit) {
-        return Ok(Verdict::Yes(()));
-    }
-    if kind(lit).is_none() {
-        return by_transfer(alloc, context, metric_facts, prepared, lit);
-    }
-    follows_or_given(alloc, context, metric_facts, prepared, lit)
-}
-
-// The same of a metric literal that is no fact.
-fn follows_or_given(
-    alloc: Global,
-    context: &Context,
-    metric_facts: &MetricFacts,
-    prepared: &Prepared,
-    lit: &Lit,
-) -> Result<Verdict<()>, AllocError>
-    requires metric_facts { AreFronts context.now.facts metric_facts.now }
-    requires prepared { IsPrepared context.now.facts prepared.now }
-    requires lit { IsTrue (is_well_formed_in context.now.scope lit.now) }
-    requires not_fact { IsFalse (has context.now.facts lit.now) }
-    requires metric { IsTrue (is_metric lit.now) }
-    ensures { IfOk result (JudgedIs context.now lit.now) }
-{
-    context.has_limited_facts();
-    let facts = context.facts();
-    match metric_facts.follows(alloc, facts, lit)? {
-        Metric::Yes(cert) => {
-            mem::drop(cert);
-            Ok(Verdict::Yes(()))
-        }
-        Metric::No(values) => {
-            mem::drop(values);
-            by_transfer(alloc, context, metric_facts, prepared, lit)
-        }
-        // A transfer from facts alone allows it, whatever the sums are.
-        Metric::TooWide(width) => {
-            match by_transfer(alloc, context, metric_facts, prepared, lit)? {
-                Verdict::Yes(()) => Ok(Verdict::Yes(())),
-                Verdict::No | Verdict::TooWide(_) => Ok(Verdict::TooWide(width)),
+impl<'a> Question<'a> {
+    /// Whether a transfer gives the literal, which is no fact. Where none does, it is answered with
+    /// these values.
+    fn transfer(&self, alloc: Global, values: Option<Values>) -> Result<Licensed, AllocError>
+        requires { IsFalse (has self.now.context.now.facts self.now.lit.now) }
+        ensures { IfOk result
+            (IsAnsweredByTransfer self.now.context.now self.now.lit.now values) }
+    {
+        let scope = self.context.scope();
+        let facts = self.context.facts();
+        let metric_facts = self.step_facts.metric_facts();
+        match find_prepared(alloc, scope, facts, metric_facts, self.prepared, self.lit) {
+            Ok(Found::No) => Ok(Licensed::No(values)),
+            Ok(Found::Yes(cert)) => {
+                mem::drop(values);
+                Ok(Licensed::Yes(Cert::Transfer(cert)))
+            }
+            Ok(Found::TooWide(width)) => {
+                mem::drop(values);
+                Ok(Licensed::TooWide(width))
+            }
+            Err(error) => {
+                mem::drop(values);
+                Err(error)
             }
         }
     }
+
+    /// Whether the literal, which is no fact, is allowed: by sums, if it is metric, or by a
+    /// transfer.
+    #[tactic(auto, using(crate::proofs::LimitsOfFacts::well_formed))]
+    fn licence(&self, alloc: Global) -> Result<Licensed, AllocError>
+        requires { IsFalse (has self.now.context.now.facts self.now.lit.now) }
+        ensures { IfOk result (IsLicence self.now.context.now self.now.lit.now) }
+    {
+        if kind(self.lit).is_none() {
+            return self.transfer(alloc, None);
+        }
+        let facts = self.context.facts();
+        match self
+            .step_facts
+            .metric_facts()
+            .follows(alloc, facts, self.lit)?
+        {
+            Metric::Yes(cert) => Ok(Licensed::Yes(Cert::Plain(Part::Metric(cert)))),
+            Metric::No(values) => self.transfer(alloc, Some(values)),
+            // A transfer from facts alone allows it, whatever the sums are.
+            Metric::TooWide(width) => match self.transfer(alloc, None)? {
+                Licensed::Yes(cert) => Ok(Licensed::Yes(cert)),
+                Licensed::No(_) | Licensed::TooWide(_) => Ok(Licensed::TooWide(width)),
+            },
+        }
+    }
+
+    /// Whether the literal is allowed, no matter why. A metric one that is seen to be false with
+    /// values with which the facts are true is asked of no sums.
+    pub fn verdict(&self, alloc: Global) -> Result<Verdict<()>, AllocError>
+        ensures { IfOk result (JudgedIs self.now.context.now self.now.lit.now) }
+    {
+        let facts = self.context.facts();
+        if kind(self.lit).is_some() && self.prepared.refutes(facts, self.lit) {
+            return Ok(verdict_of(self.transfer(alloc, None)?));
+        }
+        if facts.has(self.lit) {
+            return Ok(Verdict::Yes(()));
+        }
+        Ok(verdict_of(self.licence(alloc)?))
+    }
 }
 
-// Whether a transfer gives a literal that is no fact.
-fn by_transfer(
-    alloc: Global,
-    context: &Context,
-    metric_facts: &MetricFacts,
-    prepared: &Prepared,
-    lit: &Lit,
-) -> Result<Verdict<()>, AllocError>
-    requires metric_facts { AreFronts context.now.facts metric_facts.now }
-    requires prepared { IsPrepared context.now.facts prepared.now }
-    requires lit { IsTrue (is_well_formed_in context.now.scope lit.now) }
-    requires not_fact { IsFalse (has context.now.facts lit.now) }
-    ensures { IfOk result (GivenIs context.now lit.now) }
+/// An answer, with no word of why.
+fn verdict_of(licensed: Licensed) -> Verdict<()>
+    ensures { result ≡ Questions.verdict_of licensed }
 {
-    context.has_limited_facts();
-    let scope = context.scope();
-    let facts = context.facts();
-    match find_prepared(alloc, scope, facts, metric_facts, prepared, lit)? {
-        Found::Yes(cert) => {
+    match licensed {
+        Licensed::Yes(cert) => {
             mem::drop(cert);
-            Ok(Verdict::Yes(()))
+            Verdict::Yes(())
         }
-        Found::No => Ok(Verdict::No),
-        Found::TooWide(width) => Ok(Verdict::TooWide(width)),
+        Licensed::No(values) => {
+            mem::drop(values);
+            Verdict::No
+        }
+        Licensed::TooWide(width) => Verdict::TooWide(width),
     }
 }

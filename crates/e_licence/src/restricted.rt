@@ -173,8 +173,8 @@ impl<'a> Blanks<'a> {
         Ok(marks)
     }
 
-    /// For each blank, the same.
-    pub fn excluded(
+    /// For each blank, for each of its numbers, whether it is passed over.
+    pub fn excluded_numbers(
         &self,
         alloc: Global,
         memory: &mut Verdicts,

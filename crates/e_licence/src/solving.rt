@@ -31,13 +31,16 @@ fn metric_facts_outside(alloc: Global, held: &[Held]) -> Result<MetricFacts, All
         → AreHeld 0 high facts held.now → AreFronts facts metric_facts) }
 {
     match held.last() {
-        Some(last) => copied(alloc, &last.solved),
+        Some(last) => copy_or_new(alloc, &last.solved),
         None => Ok(MetricFacts::new()),
     }
 }
 
 /// A copy, or nothing known where there is none.
-pub fn copied(alloc: Global, metric_facts: &Option<MetricFacts>) -> Result<MetricFacts, AllocError>
+pub fn copy_or_new(
+    alloc: Global,
+    metric_facts: &Option<MetricFacts>,
+) -> Result<MetricFacts, AllocError>
     ensures { IfOk result (λ copy. (facts : List Lit) → IfSome metric_facts.now (AreFronts facts)
         → AreFronts facts copy) }
 {

@@ -53,7 +53,7 @@ pub fn contradiction(alloc: Global, context: &mut Context) -> Result<Close, Step
         → IsStopOfClose before (Contradiction written) context.old goal h) }
     ensures kept { context.new ≡ context.old }
 {
-    let answer = context.against(alloc)?;
+    let answer = context.refute(alloc)?;
     close_by(answer)
 }
 

@@ -1,5 +1,6 @@
 -- Blanks alone are a pattern of the statement.
-use Rattle.std.proofs.Common.{◌≡◌, ℕ, List, [], ◌∷◌, map, length, replicate, refl, ap, ◌∙◌, subst, true, Option, None}
+use Rattle.std.proofs.Common.{◌≡◌, ℕ, List, [], ◌∷◌, map, length, replicate, refl, ap, ◌∙◌, subst, true, Option, None, Result}
+use Rattle.std.specs.Prelude.{IfOk}
 use Rattle.e_literal.specs.declared.object.Obj.{Obj}
 use Rattle.e_literal.specs.declared.object.Scope.{Scope}
 use Rattle.e_literal.specs.declared.object.Sort.{Sort}
@@ -8,9 +9,7 @@ use Rattle.e_theorem.specs.Pattern.{are_entries, is_pattern}
 use Rattle.e_licence.specs.Contexts.{Basis}
 use Rattle.e_licence.specs.ChoicesInOrder.{FirstAre}
 use Rattle.e_licence.specs.declared.choices.FirstChoices.{FirstChoices}
-use Rattle.e_licence.specs.declared.choices.FirstChoices.TheVariants as first
 use Rattle.e_suggest.specs.Suggestions.{blanks, SuggestedIs}
-use Rattle.e_suggest.specs.declared.suggestions.Suggested.TheVariants as suggested
 
 abbrev blank : Option Obj
 blank = None
@@ -30,10 +29,6 @@ pub blank_pattern : (t : StatementView) (s : Scope) (pattern : List (Option Obj)
 blank_pattern t s pattern n many is = ap (are_entries s t.declared) (blanks_are t pattern n many is) ∙ blank_entries s t.declared
 
 -- the answer of the search is that of the blanks
-pub found_is : (t : StatementView) (b : Basis) (pattern : List (Option Obj)) (most : _) (f : FirstChoices) (choices : List (List Obj)) (more : _) → pattern ≡ blanks t → f ≡ first.Found choices more
-    → FirstAre t b pattern most f → SuggestedIs t b most (suggested.Found choices more)
-found_is t b pattern most f choices more is here h = subst (λ (p : List (Option Obj)). FirstAre t b p most (first.Found choices more)) is (subst (λ (x : FirstChoices). FirstAre t b pattern most x) here h)
-
-pub wide_is : (t : StatementView) (b : Basis) (pattern : List (Option Obj)) (most : _) (f : FirstChoices) (w : _) → pattern ≡ blanks t → f ≡ first.TooWide w
-    → FirstAre t b pattern most f → SuggestedIs t b most (suggested.TooWide w)
-wide_is t b pattern most f w is here h = subst (λ (p : List (Option Obj)). FirstAre t b p most (first.TooWide w)) is (subst (λ (x : FirstChoices). FirstAre t b pattern most x) here h)
+pub suggested_is : {E : Type 0} (t : StatementView) (b : Basis) (pattern : List (Option Obj)) (most : ℕ) (r : Result FirstChoices E) → pattern ≡ blanks t → IfOk r (FirstAre t b pattern most)
+    → IfOk r (SuggestedIs t b most)
+suggested_is t b pattern most r is h = subst (λ (p : List (Option Obj)). IfOk r (FirstAre t b p most)) is h

@@ -6,9 +6,8 @@ use Rattle.e_literal.specs.declared.literal.Lit.{Lit}
 use Rattle.e_literal.specs.Use.{StatementView}
 use Rattle.e_theorem.specs.Choice.{IsAllowedChoice}
 use Rattle.e_licence.specs.Contexts.{Basis}
-use Rattle.e_licence.specs.ChoicesInOrder.{is_ascending, AreFirst, AnyChoiceIsTooWide}
-use Rattle.e_suggest.specs.declared.suggestions.Suggested.{Suggested}
-use Rattle.e_suggest.specs.declared.suggestions.Suggested.TheVariants as suggested
+use Rattle.e_licence.specs.ChoicesInOrder.{is_ascending, AreFirst, AnyChoiceIsTooWide, FirstAre}
+use Rattle.e_licence.specs.declared.choices.FirstChoices.{FirstChoices}
 
 -- a blank for each declared object
 abbrev pub blanks : StatementView → List (Option Obj)
@@ -31,7 +30,5 @@ AreFirstChoices t scope facts most choices more =
 abbrev pub SomeArgsAreTooWide : StatementView → Scope → List Lit → ℕ → Type 0
 SomeArgsAreTooWide t scope facts w = AnyChoiceIsTooWide t scope facts (blanks t) w
 
-abbrev pub SuggestedIs : StatementView → Basis → ℕ → Suggested → Type 0
-SuggestedIs t b most (suggested.Found choices more) =
-    AreFirstChoices t b.scope b.facts most choices more
-SuggestedIs t b most (suggested.TooWide w) = SomeArgsAreTooWide t b.scope b.facts w
+abbrev pub SuggestedIs : StatementView → Basis → ℕ → FirstChoices → Type 0
+SuggestedIs t b most answer = FirstAre t b (blanks t) most answer

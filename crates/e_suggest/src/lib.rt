@@ -6,4 +6,4 @@ mod laws;
 mod suggestions;
 
 pub use laws::first_of_choices;
-pub use suggestions::{Suggested, all};
+pub use suggestions::all;

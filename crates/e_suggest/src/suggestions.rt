@@ -6,21 +6,9 @@ ghost use Rattle.e_licence.specs.Verdicts.{AreRight};
 ghost use Rattle.e_suggest.specs.Suggestions.{SuggestedIs};
 
 use e_licence::{Context, FirstChoices, Verdicts, first_choices};
-use e_literal::{Items, Obj};
+use e_literal::Obj;
 use e_theorem::Statement;
 use std::alloc::{AllocError, Global};
-
-/// What is answered on the choices of arguments for a statement.
-#[derive(Drop)]
-pub enum Suggested {
-    /// The first of the good choices in order, and whether there are more.
-    Found {
-        choices: Items<Items<Obj>>,
-        more: bool,
-    },
-    /// Under some choice a given literal is wide, and this is the width of one of its systems.
-    TooWide(u128),
-}
 
 /// The first of all choices of arguments at which each given literal of the statement is allowed,
 /// at most this many, and whether there are more. They are compared in declared order by the
@@ -34,7 +22,7 @@ pub fn all(
     memory: &mut Verdicts,
     statement: &Statement,
     most: usize,
-) -> Result<Suggested, AllocError>
+) -> Result<FirstChoices, AllocError>
     requires memory { AreRight context.now memory.old }
     requires states { IsTrue (is_statement (stated statement.now)) }
     requires few { length statement.now.declared ≤ 6 }
@@ -42,10 +30,7 @@ pub fn all(
     ensures memory { OnOk result (AreRight context.now memory.new) }
 {
     let pattern = only_blanks(alloc, statement.declared.len())?;
-    match first_choices(alloc, context, memory, statement, &pattern, most)? {
-        FirstChoices::Found { choices, more } => Ok(Suggested::Found { choices, more }),
-        FirstChoices::TooWide(width) => Ok(Suggested::TooWide(width)),
-    }
+    first_choices(alloc, context, memory, statement, &pattern, most)
 }
 
 /// `count` blanks.

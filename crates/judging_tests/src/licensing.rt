@@ -8,8 +8,8 @@ use crate::literals::{facts_of, lit};
 use e_clause::{Against, Cert, Part};
 use e_facts::{Added, Facts};
 use e_licence::{
-    Context, Filled, Licensed, Refuted, against, are_limited_facts, is_statement,
-    is_well_formed_in, licence, match_blanks,
+    Context, Filled, Licensed, Refuted, are_limited_facts, is_statement, is_well_formed_in,
+    licence, match_blanks, refute,
 };
 use e_literal::{Atom, Items, Lit, Obj, Scope, Sort};
 use e_theorem::{Statement, is_pattern};
@@ -141,7 +141,7 @@ fn word_against(refuted: &Refuted) -> &'static str {
 
 fn refuted(rt: &impl Abort, alloc: Global, facts: &str) -> Result<&'static str, AllocError> {
     let context = context(rt, alloc, SCOPE, facts)?;
-    let refuted = against(alloc, &context);
+    let refuted = refute(alloc, &context);
     mem::drop(context);
     let refuted = refuted?;
     let word = word_against(&refuted);
@@ -201,7 +201,6 @@ fn a_context_grows(rt: HostRuntime) -> Result<(), Fail> {
             assert_eq!(rt; first, Added::Added);
             assert_eq!(rt; second, Added::Present);
             context.release();
-            context.has_limited_facts();
             assert_eq!(rt; context.scope().points, 1);
             assert_eq!(rt; context.facts().len(), 0);
             mem::drop(context);

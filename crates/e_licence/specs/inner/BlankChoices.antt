@@ -1,5 +1,5 @@
 -- Choices for the blanks of an application, number by number, and what is licensed at each.
-use Rattle.std.specs.Prelude.{◌≡◌, ℕ, List, [], ◌∷◌, Bool, true, Option, Some, None}
+use Rattle.std.specs.Prelude.{◌≡◌, ℕ, List, [], ◌∷◌, Bool, true, false, Option, Some, None}
 use Rattle.std.specs.Prelude.{map, length, IsTrue, Contains}
 use Rattle.e_literal.specs.declared.object.Obj.{Obj}
 use Rattle.e_literal.specs.declared.object.Scope.{Scope}
@@ -16,6 +16,10 @@ use Rattle.e_transfer.specs.declared.walk.Verdict.{Verdict}
 use Rattle.e_transfer.specs.declared.walk.Verdict.TheVariants as verdict
 use Rattle.e_transfer.specs.Choice.{FitsSpans}
 use Rattle.e_licence.specs.Contexts.{Basis}
+use Rattle.e_licence.specs.declared.blanks.Asked.{Asked}
+use Rattle.e_licence.specs.declared.blanks.Asked.TheVariants as asked
+use Rattle.e_licence.specs.declared.blanks.Relations.{Relations}
+use Rattle.e_licence.specs.declared.blanks.Relations.TheVariants as relations
 
 -- ---- arguments
 
@@ -50,6 +54,14 @@ abbrev pub images_of_choice : Scope → List Obj → List (Option Obj) → List 
 images_of_choice s os entries c = paired os (filled_arguments s os entries c)
 
 -- ---- what is licensed at the first numbers of a choice
+
+abbrev pub asks_all : Asked → Bool
+asks_all asked.All = true
+asks_all (asked.KnownWith n) = false
+
+abbrev pub are_metric : Relations → Bool
+are_metric relations.Diagram = false
+are_metric relations.Metric = true
 
 -- each literal all of whose objects are in scope is allowed
 abbrev pub AllBound : Basis → List Entry → List Lit → Type 0

@@ -8,5 +8,5 @@ returns-clause-ok c before =
     let x = c.args.state.now in
     let by = c.args.by.now in
     licensed_cite before by c.in_ok-derived.derived x _ c.in_ok-derived.ensures
-    (sym (c.in_ok-is_cited.ensures ∙ ap (λ facts. is_cited facts by) c.facts.ensures) ∙ c.if-not-branch.false)
+    (sym (c.in_ok-is_cited.ensures ∙ ap (λ facts. is_cited facts by) c.facts.ensures.facts) ∙ c.if-not-branch.false)
     c.in_ok-assume.ensures

@@ -2,7 +2,7 @@ use Rattle.std.proofs.Common.{ap, sym, ◌∙◌, rules}
 use Rattle.e_theorem.specs.Statements.{stated}
 use Rattle.e_licence.proofs.BlankChoices.{has_empty}
 use Rattle.e_licence.proofs.ChoicesInOrder.{none_first, swept_all, swept_full, swept_wide}
-use Rattle.e_licence.proofs.choices.choices_by.Goals as goal
+use Rattle.e_licence.proofs.choices.choices_of_prepared.Goals as goal
 
 pub returns-then-has_empty-clause-choices : goal.returns-then-has_empty-clause-choices
 returns-then-has_empty-clause-choices c =

@@ -2,7 +2,7 @@ use Rattle.std.proofs.Common.{ap, sym, ◌∙◌, rules}
 use Rattle.e_theorem.specs.Statements.{stated}
 use Rattle.e_licence.proofs.BlankChoices.{has_empty}
 use Rattle.e_licence.proofs.FilledBlanks.{empty_span, found, nothing_found, stopped}
-use Rattle.e_licence.proofs.blanks.matched_by.Goals as goal
+use Rattle.e_licence.proofs.blanks.match_prepared.Goals as goal
 
 pub returns-then-has_empty : goal.returns-then-has_empty
 returns-then-has_empty c =

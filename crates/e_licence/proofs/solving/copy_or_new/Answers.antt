@@ -1,5 +1,5 @@
 use Rattle.e_licence.proofs.Fronts.{copied_metric_facts}
-use Rattle.e_licence.proofs.solving.copied.Goals as goal
+use Rattle.e_licence.proofs.solving.copy_or_new.Goals as goal
 
 pub returns-in-Some : goal.returns-in-Some
 returns-in-Some c = copied_metric_facts c.args.metric_facts.now c.in-Some.metric_facts c.copied.result c.in-Some.is c.copied.ensures
