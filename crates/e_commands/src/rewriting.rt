@@ -21,7 +21,7 @@ use e_judgement::Judgement;
 use e_names::Theorems;
 use e_places::numbered;
 use e_spell::spell;
-use e_trim::{applied, trim};
+use e_trim::{applied_theorems, trim};
 use std::alloc::{AllocError, Global};
 use std::mem;
 
@@ -130,7 +130,7 @@ fn put_titles(out: &mut Vec<u8>, known: &Theorems, places: &[u32]) -> Result<(),
 fn uses_line(alloc: Global, known: &Theorems, theorem: &Theorem) -> Result<Vec<u8>, AllocError>
     ensures { IfOk result (λ v. v.items ≡ Rewrites.uses_line known.now (entry_of theorem.now)) }
 {
-    let places = applied(alloc, &theorem.block)?;
+    let places = applied_theorems(alloc, &theorem.block)?;
     let mut line = Vec::from_slice(alloc, b"uses ")?;
     line.extend_from_slice(theorem.title.bytes())?;
     put_titles(&mut line, known, &places)?;

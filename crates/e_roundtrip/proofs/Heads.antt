@@ -2,3 +2,4 @@
 pub mod SpelledHeads
 pub mod HeadTaken
 pub mod HeadAlong
+pub mod ItemsAdded

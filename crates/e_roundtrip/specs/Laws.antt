@@ -1,11 +1,16 @@
 -- What holds between reading, spelling and verifying, whatever the code does.
-use Rattle.std.specs.Prelude.{◌≡◌, ℕ, IsTrue, List, [], ◌++◌, length, map, Result, Ok}
+use Rattle.std.specs.Prelude.{◌≡◌, ℕ, ◌+◌, IsTrue, List, [], ◌∷◌, ◌++◌, length, map, Some, Result}
+use Rattle.std.specs.Prelude.{Ok}
 use Rattle.std.specs.List.{list_all}
 use Rattle.e_text.specs.Lines.{LineView, text_of_lines}
 use Rattle.e_text.specs.declared.line.LineFault.{LineFault}
+use Rattle.e_literal.specs.declared.object.Obj.{Obj}
+use Rattle.e_literal.specs.declared.literal.Lit.{Lit}
 use Rattle.e_literal.specs.Use.{StatementView}
 use Rattle.e_clause.specs.declared.cert.Version.{Version}
 use Rattle.e_clause.specs.declared.cert.Version.TheVariants.{One}
+use Rattle.e_theorem.specs.declared.notion.Notion.{Notion}
+use Rattle.e_theorem.specs.Notions.{expanded}
 use Rattle.e_theorem.specs.Statements.{stated}
 use Rattle.e_deriv.specs.Script.{Script, erased}
 use Rattle.e_deriv.specs.Parts.{filled_by}
@@ -13,7 +18,18 @@ use Rattle.e_deriv.specs.Certified.{Certified}
 use Rattle.e_deriv.specs.Fitting.{is_small_statement}
 use Rattle.e_deriv.specs.Versions.{has_certs_of}
 use Rattle.e_deriv.specs.Written.{is_written_well}
+use Rattle.e_line.specs.HasSpelling.{AreNames}
+use Rattle.e_line.specs.declared.items.RawAs.{RawAs}
+use Rattle.e_line.specs.declared.items.RawItem.TheVariants.{As}
+use Rattle.e_line.specs.declared.items.Listing.{Listing}
+use Rattle.e_line.specs.declared.items.Listing.TheVariants.{Given, Show}
+use Rattle.e_names.specs.declared.known.Known.{Known}
+use Rattle.e_names.specs.Fits.{NamesDiffer}
+use Rattle.e_names.specs.Scope.{scope_of_names, objects_of_sorts}
+use Rattle.e_names.specs.Titled.{are_notions, notion_of}
 use Rattle.e_names.specs.TitledStatements.{TitledStatement, stated_by}
+use Rattle.e_book.specs.Open.{Head, Stating}
+use Rattle.e_book.specs.Definitions.{Coming, InTheorem, after_listed_line}
 use Rattle.e_book.specs.TheoremViews.{TheoremView}
 use Rattle.e_book.specs.HasSpelling.{HasSpelling}
 use Rattle.e_trim.specs.Trimmed.{trimmed}
@@ -25,6 +41,29 @@ use Rattle.e_roundtrip.specs.Formed.{Formed}
 use Rattle.e_roundtrip.specs.Spelled.{ShowsEnded, CanBeSpelled}
 use Rattle.e_roundtrip.specs.Written.{AllCanBeSpelled, AllCanBeVerified, SpellsProofs, judgement_of}
 use Rattle.e_roundtrip.specs.Written.{derivation_text, entry_with}
+
+-- ---- what is written out is what is meant
+
+-- a head with these literals at the end of what a line gives or shows
+abbrev pub with_listed : Listing → List Lit → Head → Head
+with_listed Given ls h =
+    record h { statement = record h.statement { given = h.statement.given ++ ls } }
+with_listed Show ls h =
+    record h { statement = record h.statement { shown = h.statement.shown ++ ls } }
+with_listed line ls h = h
+
+-- The literals that an item means are written out in its line, and the line is read: so it adds to
+-- the statement what its notion gives of the objects that it names, all of it, and nothing else.
+abbrev pub ItemsAddWhatTheyMean : Type 0
+ItemsAddWhatTheyMean =
+    (known : Known) (h : Head) (n : ℕ) (line : Listing) (raw : RawAs) (notion : Notion)
+    (args : List Obj) (c : Coming) → AreNames h.names.points → AreNames h.names.lines
+    → AreNames h.names.circles → NamesDiffer h.names → IsTrue (are_notions known.notions)
+    → notion_of known.notions raw.title ≡ Some notion
+    → objects_of_sorts h.names notion.declared raw.args ≡ Ok args
+    → after_listed_line known (InTheorem (Stating h) n) line (As raw ∷ []) ≡ Ok c →
+    let ls = expanded notion args (scope_of_names h.names)
+    in c ≡ InTheorem (Stating (with_listed line ls h)) (n + length ls)
 
 -- ---- what is read is spelled so
 

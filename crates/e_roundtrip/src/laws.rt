@@ -4,6 +4,13 @@ ghost use Rattle.e_roundtrip.specs.Laws.{SpelledIsRead, CertifiedIsFormed, Fille
 ghost use Rattle.e_roundtrip.specs.Laws.{TrimmedHasSpelling, WrittenIsJudged};
 ghost use Rattle.e_roundtrip.specs.Laws.{WrittenIsVerified, VerifiedIsWritten};
 ghost use Rattle.e_roundtrip.specs.Laws.{OneTreeForOneText, GarbledSpellsNothing};
+ghost use Rattle.e_roundtrip.specs.Laws.{ItemsAddWhatTheyMean};
+
+/// An item of a statement adds what its notion gives of the objects that it names, all of it, and
+/// nothing else.
+pub fn items_add_what_they_mean()
+    ensures { ItemsAddWhatTheyMean }
+{}
 
 /// The lines that are read as a theorem with its derivation are exactly the lines of its one
 /// spelling.

@@ -17,5 +17,5 @@ mod trimming;
 mod wanted;
 
 pub use laws::{trimmed_is_certified, trimmed_is_shorter, trimmed_keeps_version};
-pub use noting::applied;
+pub use noting::applied_theorems;
 pub use trimming::trim;

@@ -233,7 +233,7 @@ fn look_transfer(
 ) -> Result<(), AllocError>
     ensures { OnOk result (out.new ≡ both out.old (of_transfer facts.now lit.now cert.now)) }
 {
-    out.need(cert.args.items())?;
+    out.need_all(cert.args.items())?;
     let lits = negated_others(alloc, cert.rule, cert.args.items(), lit)?;
     look_parts(alloc, facts, &lits, cert.parts.items(), out)
 }

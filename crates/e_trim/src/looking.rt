@@ -170,7 +170,7 @@ fn look_inside(
     ensures same { OnOk result (state.new ≡ state.old) }
 {
     let outer = state.checkpoint();
-    state.open(alloc, sorts, lits)?;
+    state.extend(alloc, sorts, lits)?;
     let inside = look(
         alloc,
         before,

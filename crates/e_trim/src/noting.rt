@@ -73,7 +73,7 @@ fn note_close(places: &mut Vec<u32>, close: &Close) -> Result<(), AllocError>
 
 /// The places of the earlier theorems that the steps of the derivation apply, in the order of their
 /// first use in the text, each once. It fails only out of memory.
-pub fn applied(alloc: Global, deriv: &Block) -> Result<Vec<u32>, AllocError>
+pub fn applied_theorems(alloc: Global, deriv: &Block) -> Result<Vec<u32>, AllocError>
     ensures { IfOk result (λ v. v.items ≡ applied_by (script_of deriv.now)) }
 {
     let mut places = Vec::new(alloc);

@@ -44,7 +44,7 @@ impl StepState {
     }
 
     /// The next objects of these sorts come into scope, and the literals are facts.
-    pub fn open(&mut self, alloc: Global, sorts: &[Sort], lits: &[Lit]) -> Result<(), AllocError>
+    pub fn extend(&mut self, alloc: Global, sorts: &[Sort], lits: &[Lit]) -> Result<(), AllocError>
         requires scope { IsTrue (is_small self.old.scope) }
         requires few { length sorts.now < 2 ^ 15 }
         ensures { OnOk result (self.new ≡ opened sorts.now lits.now self.old) }

@@ -137,7 +137,7 @@ pub fn pass(
         → state.new ≡ passed (all_stated before.now) (step_script step.now rest) state.old) }
 {
     let lits = joins(alloc, before, step, state.scope)?;
-    let opened = state.open(alloc, makes(before, step), lits.items());
+    let opened = state.extend(alloc, makes(before, step), lits.items());
     mem::drop(lits);
     opened
 }
@@ -188,7 +188,7 @@ fn look_cite(alloc: Global, by: &By, out: &mut Wanted) -> Result<(), AllocError>
         (goal : BlockGoal) → out.new
         ≡ both out.old (of_step before (as_step (scripts.Cite by.now rest) x.scope x.facts goal))) }
 {
-    out.need(by.args.items())?;
+    out.need_all(by.args.items())?;
     out.need_objects_of(&by.lit)?;
     out.look_up_all(negated_others(alloc, by.rule, by.args.items(), &by.lit)?)
 }
@@ -222,8 +222,8 @@ fn look_make(
         (goal : BlockGoal) → out.new ≡ both out.old (of_step before (as_step (scripts.Make
         construction.now names certs.now rest) state.now.scope state.now.facts goal))) }
 {
-    out.need(construction.args.items())?;
-    out.need(construction.avoid.items())?;
+    out.need_all(construction.args.items())?;
+    out.need_all(construction.avoid.items())?;
     let needs = construction.needs(alloc)?;
     look_certs(alloc, &state.facts, &needs, certs, out)
 }
@@ -245,7 +245,7 @@ fn look_apply(
         args.now names certs.now rest) state.now.scope state.now.facts goal))) }
 {
     let objects = written_of(alloc, args)?;
-    out.need(&objects)?;
+    out.need_all(&objects)?;
     let Applied { needs, gives } = use_at(alloc, before, theorem, args, state.scope)?;
     mem::drop(gives);
     let looked = look_certs(alloc, &state.facts, needs.items(), certs, out);
@@ -279,7 +279,7 @@ fn need_superposed(superposition: &Superpose, out: &mut Wanted) -> Result<(), Al
 {
     let [a, b, c, d, g, h] = superposition.points;
     let [k, l] = superposition.lines;
-    out.need(&[
+    out.need_all(&[
         point(a),
         point(b),
         point(c),
@@ -364,7 +364,7 @@ fn look_qed(
         → out.new ≡ both out.old (of_step before (as_step (scripts.Qed objects.now certs.now)
         state.now.scope state.now.facts (goal_view goal.now)))) }
 {
-    out.need(objects)?;
+    out.need_all(objects)?;
     let lits = goal_with(alloc, goal, objects)?;
     look_certs(alloc, &state.facts, &lits, certs, out)
 }

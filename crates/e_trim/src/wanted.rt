@@ -72,7 +72,7 @@ impl Wanted {
 
     /// The objects are needed.
     #[tactic(auto, using(crate::proofs::walks::Both::joining))]
-    pub fn need(&mut self, objects: &[Obj]) -> Result<(), AllocError>
+    pub fn need_all(&mut self, objects: &[Obj]) -> Result<(), AllocError>
         ensures { OnOk result (self.new ≡ both self.old (needed objects.now)) }
     {
         self.objects.extend_from_slice(objects)
@@ -82,7 +82,7 @@ impl Wanted {
     pub fn need_one(&mut self, object: Obj) -> Result<(), AllocError>
         ensures { OnOk result (self.new ≡ both self.old (needed (object ∷ []))) }
     {
-        self.need(&[object])
+        self.need_all(&[object])
     }
 
     /// The points of the term are needed.
@@ -90,9 +90,9 @@ impl Wanted {
         ensures { OnOk result (self.new ≡ both self.old (needed (objects_of_term term))) }
     {
         match term {
-            Term::Seg(a, b) => self.need(&[point(a), point(b)]),
-            Term::Ang(a, b, c) | Term::Area(a, b, c) => self.need(&[point(a), point(b), point(c)]),
-            Term::Right => self.need(&[]),
+            Term::Seg(a, b) => self.need_all(&[point(a), point(b)]),
+            Term::Ang(a, b, c) | Term::Area(a, b, c) => self.need_all(&[point(a), point(b), point(c)]),
+            Term::Right => self.need_all(&[]),
         }
     }
 
@@ -122,16 +122,16 @@ impl Wanted {
         ensures { OnOk result (self.new ≡ both self.old (needed (objects_of_atom lit.now.atom))) }
     {
         match &lit.atom {
-            Atom::On(a, l) => self.need(&[point(*a), line(*l)]),
+            Atom::On(a, l) => self.need_all(&[point(*a), line(*l)]),
             Atom::OnC(a, c) | Atom::Inside(a, c) | Atom::Center(a, c) => {
-                self.need(&[point(*a), circle(*c)])
+                self.need_all(&[point(*a), circle(*c)])
             }
-            Atom::Between(a, b, c) => self.need(&[point(*a), point(*b), point(*c)]),
-            Atom::Same(a, b, l) => self.need(&[point(*a), point(*b), line(*l)]),
-            Atom::MeetLL(l, m) | Atom::EqL(l, m) => self.need(&[line(*l), line(*m)]),
-            Atom::MeetLC(l, c) => self.need(&[line(*l), circle(*c)]),
-            Atom::MeetCC(c, d) | Atom::EqC(c, d) => self.need(&[circle(*c), circle(*d)]),
-            Atom::EqP(a, b) => self.need(&[point(*a), point(*b)]),
+            Atom::Between(a, b, c) => self.need_all(&[point(*a), point(*b), point(*c)]),
+            Atom::Same(a, b, l) => self.need_all(&[point(*a), point(*b), line(*l)]),
+            Atom::MeetLL(l, m) | Atom::EqL(l, m) => self.need_all(&[line(*l), line(*m)]),
+            Atom::MeetLC(l, c) => self.need_all(&[line(*l), circle(*c)]),
+            Atom::MeetCC(c, d) | Atom::EqC(c, d) => self.need_all(&[circle(*c), circle(*d)]),
+            Atom::EqP(a, b) => self.need_all(&[point(*a), point(*b)]),
             Atom::MagEq(x, y) | Atom::MagLt(x, y) => self.need_sums(x.items(), y.items()),
         }
     }

@@ -108,15 +108,15 @@ taken_good s zero ls h = refl
 taken_good s (suc k) [] h = refl
 taken_good s (suc k) (l ∷ ls) h = let p = and_parts (is_well_formed_in s l) (are_well_formed_in s ls) h in rw (p.0, taken_good s k ls p.1) refl
 
-within : (s : Scope) (ls : List Lit) → are_well_formed_in s ls ≡ true → list_all (all_in_scope s) ls ≡ true
+pub within : (s : Scope) (ls : List Lit) → are_well_formed_in s ls ≡ true → list_all (all_in_scope s) ls ≡ true
 within s [] h = refl
 within s (l ∷ ls) h = let p = and_parts (is_well_formed_in s l) (are_well_formed_in s ls) h in rw ((and_parts (all_in_scope s l) (is_well_formed l) p.0).0, within s ls p.1) refl
 
-well_formed : (s : Scope) (ls : List Lit) → are_well_formed_in s ls ≡ true → list_all is_well_formed ls ≡ true
+pub well_formed : (s : Scope) (ls : List Lit) → are_well_formed_in s ls ≡ true → list_all is_well_formed ls ≡ true
 well_formed s [] h = refl
 well_formed s (l ∷ ls) h = let p = and_parts (is_well_formed_in s l) (are_well_formed_in s ls) h in rw ((and_parts (all_in_scope s l) (is_well_formed l) p.0).1, well_formed s ls p.1) refl
 
-meant_good : (notions : List Titled) (ns : Names) (most : ℕ) (raw : RawAs) (ls : List Lit) → Meant notions ns most raw ls → are_well_formed_in (scope_of_names ns) ls ≡ true
+pub meant_good : (notions : List Titled) (ns : Names) (most : ℕ) (raw : RawAs) (ls : List Lit) → Meant notions ns most raw ls → are_well_formed_in (scope_of_names ns) ls ≡ true
 meant_good notions ns most raw ls m =
     let s = scope_of_names ns in
     subst (λ (x : List Lit). are_well_formed_in s x ≡ true) (sym m.are) (taken_good s most (expanded m.notion m.args s) (expanded_good m.notion m.args s m.is_one m.fit))

@@ -62,19 +62,19 @@ look-returns-in-Ok-clause-kept t c = later_keeps c.args.state.now c.restore.new.
 pub look_inside-look-requires : goal.look_inside-look-requires
 look_inside-look-requires t c = (
   (let same = ap size (ap (λ xs. steps_script xs (close_script c.args.block.now.close)) c.deref.ensures.value) in omega (arith, c.decreases, same)),
-  (subst (λ d. IsReady (all_stated c.args.before.now) d c.open.new.self.scope c.open.new.self.facts (goal_view c.args.goal.now)) (sym (ap (λ xs. steps_script xs (close_script c.args.block.now.close)) c.deref.ensures.value)) (block_ready (all_stated c.args.before.now) (script_of c.args.block.now) (goal_view c.args.goal.now) c.args.sorts.now c.args.lits.now c.args.state.now c.open.new.self c.in_ok-open.ensures c.requires.ready), c.requires.statements),
+  (subst (λ d. IsReady (all_stated c.args.before.now) d c.extend.new.self.scope c.extend.new.self.facts (goal_view c.args.goal.now)) (sym (ap (λ xs. steps_script xs (close_script c.args.block.now.close)) c.deref.ensures.value)) (block_ready (all_stated c.args.before.now) (script_of c.args.block.now) (goal_view c.args.goal.now) c.args.sorts.now c.args.lits.now c.args.state.now c.extend.new.self c.in_ok-extend.ensures c.requires.ready), c.requires.statements),
 )
 
 pub look_inside-restore-requires : goal.look_inside-restore-requires
-look_inside-restore-requires t c = block_enough c.args.sorts.now c.args.lits.now c.args.state.now c.open.new.self c.look.new.state c.checkpoint-outer.result c.in_ok-open.ensures c.in_ok-inside.ensures.kept c.checkpoint-outer.ensures
+look_inside-restore-requires t c = block_enough c.args.sorts.now c.args.lits.now c.args.state.now c.extend.new.self c.look.new.state c.checkpoint-outer.result c.in_ok-extend.ensures c.in_ok-inside.ensures.kept c.checkpoint-outer.ensures
 
 pub look_inside-returns-clause-wanted : goal.look_inside-returns-clause-wanted
 look_inside-returns-clause-wanted t c =
     ok_map (λ (w : Wants). w ≡ wants_outside c.restore.new.self.scope c.restore.new.self.facts c.in_ok-inside.inside) (λ (w : Wants). w ≡ wants_outside c.args.state.now.scope c.args.state.now.facts (wants (all_stated c.args.before.now) (script_of c.args.block.now) (grown c.args.state.now.scope c.args.sorts.now) (joined_all c.args.state.now.facts c.args.lits.now) (goal_view c.args.goal.now))) c.outside.result
-    (λ w h. block_wants (all_stated c.args.before.now) (script_of c.args.block.now) (goal_view c.args.goal.now) c.args.sorts.now c.args.lits.now c.args.state.now c.open.new.self c.restore.new.self c.in_ok-inside.inside w c.in_ok-open.ensures (block_back c.args.sorts.now c.args.lits.now c.args.state.now c.open.new.self c.look.new.state c.restore.new.self c.checkpoint-outer.result c.in_ok-open.ensures c.in_ok-inside.ensures.kept c.checkpoint-outer.ensures c.restore.ensures) (c.in_ok-inside.ensures.wanted ∙ ap (λ d. wants (all_stated c.args.before.now) d c.open.new.self.scope c.open.new.self.facts (goal_view c.args.goal.now)) (ap (λ xs. steps_script xs (close_script c.args.block.now.close)) c.deref.ensures.value)) h) c.outside.ensures
+    (λ w h. block_wants (all_stated c.args.before.now) (script_of c.args.block.now) (goal_view c.args.goal.now) c.args.sorts.now c.args.lits.now c.args.state.now c.extend.new.self c.restore.new.self c.in_ok-inside.inside w c.in_ok-extend.ensures (block_back c.args.sorts.now c.args.lits.now c.args.state.now c.extend.new.self c.look.new.state c.restore.new.self c.checkpoint-outer.result c.in_ok-extend.ensures c.in_ok-inside.ensures.kept c.checkpoint-outer.ensures c.restore.ensures) (c.in_ok-inside.ensures.wanted ∙ ap (λ d. wants (all_stated c.args.before.now) d c.extend.new.self.scope c.extend.new.self.facts (goal_view c.args.goal.now)) (ap (λ xs. steps_script xs (close_script c.args.block.now.close)) c.deref.ensures.value)) h) c.outside.ensures
 
 pub look_inside-returns-clause-same : goal.look_inside-returns-clause-same
-look_inside-returns-clause-same t c = on_ok c.outside.result (block_back c.args.sorts.now c.args.lits.now c.args.state.now c.open.new.self c.look.new.state c.restore.new.self c.checkpoint-outer.result c.in_ok-open.ensures c.in_ok-inside.ensures.kept c.checkpoint-outer.ensures c.restore.ensures)
+look_inside-returns-clause-same t c = on_ok c.outside.result (block_back c.args.sorts.now c.args.lits.now c.args.state.now c.extend.new.self c.look.new.state c.restore.new.self c.checkpoint-outer.result c.in_ok-extend.ensures c.in_ok-inside.ensures.kept c.checkpoint-outer.ensures c.restore.ensures)
 
 -- ---- back at a step
 

@@ -11,4 +11,4 @@ returns c =
     let g
     : (c.point.result ∷ c.point-2.result ∷ c.point-3.result ∷ c.point-4.result ∷ c.point-5.result ∷ c.point-6.result ∷ c.line.result ∷ c.line-2.result ∷ []) ≡ objects_at c.args.superposition.now.points c.args.superposition.now.lines
     = search rules in
-    and_so c.need.result (λ h. h ∙ ap (λ os. both c.args.out.now (needed os)) (g ∙ objects_are c.args.superposition.now e f)) c.need.ensures
+    and_so c.need_all.result (λ h. h ∙ ap (λ os. both c.args.out.now (needed os)) (g ∙ objects_are c.args.superposition.now e f)) c.need_all.ensures
