@@ -64,7 +64,7 @@ returns-clause-book g c =
       count = omega (arith, ap length c.in-Ok-keep.ensures, length-append c.args.self.now.known.theorems (headed c.args.theorem.title c.args.theorem.statement ∷ []), b.count);
       most = omega (arith, s.few_theorems, b.count);
       steps = omega (arith, b.steps, s.fits.steps, c.size-count.ensures);
-      coming = rw c.requires.begins tt;
+      partial_item = rw c.requires.begins tt;
       begun = rw c.requires.begins (begun_first (record c.args.self.now.known { theorems = c.keep.new.known }));
     }
 

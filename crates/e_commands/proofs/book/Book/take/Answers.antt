@@ -34,7 +34,7 @@ returns-in-Ok-None-clause-book g c = book_with c.loop-item.self c.read.new.self 
 pub returns-in-Err-clause-takes : goal.returns-in-Err-clause-takes
 returns-in-Err-clause-takes g c =
     λ all before h.
-    rw c.result_of_fault.ensures (faulty_here all before c.loop-item.self _ (g.K.Sink.written c.loop-item.sink) c.loop-item.lines.lines c.read.new.lines.lines c.read.new.self.coming c.in-Err.fault c.loop-item.invariant.book (c.loop-item.invariant.reaches all before h) c.in-Err.ensures.reads)
+    rw c.result_of_fault.ensures (faulty_here all before c.loop-item.self _ (g.K.Sink.written c.loop-item.sink) c.loop-item.lines.lines c.read.new.lines.lines c.read.new.self.partial_item c.in-Err.fault c.loop-item.invariant.book (c.loop-item.invariant.reaches all before h) c.in-Err.ensures.reads)
 
 pub returns-in-Err-clause-taken : goal.returns-in-Err-clause-taken
 returns-in-Err-clause-taken g c = fault_none c.in-Err.fault c.result_of_fault.result _ c.result_of_fault.ensures
@@ -52,7 +52,7 @@ returns-in_err-handle_item-clause-takes g c =
     λ all before h.
     let r = c.loop-item.invariant.reaches all before h in
     rw (p.1, p.2) (λ (more : Rest). c.in_err-handle_item.ensures.handles (all more) (r.tail ++ (c.loop-item.lines.lines ++ more)) (c.read.new.lines.lines ++ more) before (r.history more)
-    (next_is all before c.loop-item.self (g.K.Sink.written c.loop-item.sink) c.loop-item.lines.lines c.read.new.lines.lines c.read.new.self.coming c.in-Ok-Some.item r c.loop-item.invariant.book reads more))
+    (next_is all before c.loop-item.self (g.K.Sink.written c.loop-item.sink) c.loop-item.lines.lines c.read.new.lines.lines c.read.new.self.partial_item c.in-Ok-Some.item r c.loop-item.invariant.book reads more))
 
 pub returns-in-Some-clause-takes : goal.returns-in-Some-clause-takes
 returns-in-Some-clause-takes g c =
@@ -61,7 +61,7 @@ returns-in-Some-clause-takes g c =
     let r = c.loop-item.invariant.reaches all before h in
     λ more. subst (λ (e : Option BookResult). Handles (all more) before (c.read.new.lines.lines ++ more) (Ok e) c.handle_item.new.self (g.K.Sink.written c.handle_item.new.sink)) c.in-Some.is
     (c.in_ok-handle_item.ensures.handles (all more) (r.tail ++ (c.loop-item.lines.lines ++ more)) (c.read.new.lines.lines ++ more) before (r.history more)
-    (next_is all before c.loop-item.self (g.K.Sink.written c.loop-item.sink) c.loop-item.lines.lines c.read.new.lines.lines c.read.new.self.coming c.in-Ok-Some.item r c.loop-item.invariant.book reads more))
+    (next_is all before c.loop-item.self (g.K.Sink.written c.loop-item.sink) c.loop-item.lines.lines c.read.new.lines.lines c.read.new.self.partial_item c.in-Ok-Some.item r c.loop-item.invariant.book reads more))
 
 pub loop-item-preserved : goal.loop-item-preserved
 loop-item-preserved g c =
@@ -73,7 +73,7 @@ loop-item-preserved g c =
           next_reaches all before c.handle_item.new.self (g.K.Sink.written c.handle_item.new.sink) c.read.new.lines.lines
           (λ more. subst (λ (e : Option BookResult). Handles (all more) before (c.read.new.lines.lines ++ more) (Ok e) c.handle_item.new.self (g.K.Sink.written c.handle_item.new.sink)) c.in-None.is
           (c.in_ok-handle_item.ensures.handles (all more) (r.tail ++ (c.loop-item.lines.lines ++ more)) (c.read.new.lines.lines ++ more) before (r.history more)
-          (next_is all before c.loop-item.self (g.K.Sink.written c.loop-item.sink) c.loop-item.lines.lines c.read.new.lines.lines c.read.new.self.coming c.in-Ok-Some.item r c.loop-item.invariant.book reads more)))
+          (next_is all before c.loop-item.self (g.K.Sink.written c.loop-item.sink) c.loop-item.lines.lines c.read.new.lines.lines c.read.new.self.partial_item c.in-Ok-Some.item r c.loop-item.invariant.book reads more)))
           (rw c.in-None.is at c.in_ok-handle_item.ensures.begins);
       good = λ h. c.loop-item.invariant.good (reads.1 h);
       last = c.in-Ok-Some.ensures.last ∙ c.loop-item.invariant.last;
