@@ -2,6 +2,7 @@
 -- sink, and the answer. One more command is one more case of each.
 use Rattle.std.specs.Prelude.{ℕ, List, Option}
 use Rattle.e_commands.specs.declared.status.Status.{Status}
+use Rattle.e_commands.specs.declared.status.Status.TheVariants as status
 use Rattle.e_run.specs.declared.command.Command.{Command}
 use Rattle.e_run.specs.declared.command.Command.TheVariants.{Check, Verify, Figure, Rewrite, Make}
 use Rattle.e_run.specs.declared.command.Command.TheVariants.{Suggest, Trial, Unknown}
@@ -9,7 +10,7 @@ use Rattle.e_commands.specs.Answers.{Answers, IsAccepted, IsDrawn, IsReadFault, 
 use Rattle.e_commands.specs.Answers.{WroteOfText, UsageAnswer}
 use Rattle.e_commands.specs.DrawerAnswers.{AnswersFigure, FigureAnswer}
 use Rattle.e_commands.specs.Input.{IsAtEnd}
-use Rattle.e_run.specs.Proofs.{ReadProofs, RewroteProofs, WroteProofs}
+use Rattle.e_run.specs.Proofs.{ReadProofs, WroteProofs}
 use Rattle.e_commands.specs.Rewrites.{AnswersRewrite, IsRewritten, RewriteAnswer}
 use Rattle.e_commands.specs.SuggesterAnswers.{AnswersSuggest, SuggestAnswer}
 use Rattle.e_commands.specs.Taken.{HandledAll, TookFew}
@@ -23,10 +24,11 @@ use Rattle.e_commands.specs.Outcome.{lines_of_book}
 -- is verified, spell proofs
 abbrev pub HasProofs : Command → Option (List ℕ) → Option (List ℕ)
     → Option (List ℕ) → Status → Type 0
-HasProofs Check left old new answer = WroteProofs old new answer
-HasProofs Verify left old new answer = ReadProofs left answer
-HasProofs (Rewrite job) left old new answer = RewroteProofs old new answer
-HasProofs _ left old new answer = Unit {0}
+HasProofs Check left old new (status.Accepted n) = WroteProofs n old new
+HasProofs Verify left old new (status.Verified n) = ReadProofs n left
+HasProofs (Rewrite job) left old new (status.Upgraded n) = WroteProofs n old new
+HasProofs (Rewrite job) left old new (status.Trimmed n) = WroteProofs n old new
+HasProofs command left old new answer = Unit {0}
 
 -- what the answer means, and what was written
 abbrev pub Runs : Command → Option (List ℕ) → Option (List ℕ) → Option (List ℕ) → Status → Type 0

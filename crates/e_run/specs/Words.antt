@@ -9,10 +9,10 @@ use Rattle.e_run.specs.declared.command.Command.TheVariants.{Check, Verify, Figu
 use Rattle.e_run.specs.declared.command.Command.TheVariants.{Suggest, Trial, Unknown}
 use Rattle.e_commands.specs.declared.rewriting.Job.TheVariants.{Upgrade, Trim, Uses}
 
--- how many theorems: a numeral from 1 to 500
-abbrev pub theorem_count_of : List ℕ → Option ℕ
-theorem_count_of word =
-    option_and_then (λ n. if nat_le 1 n && nat_le n 500 then Some n else None) (number_of word)
+-- a numeral from 1 to this number
+abbrev pub number_to : ℕ → List ℕ → Option ℕ
+number_to most word =
+    option_and_then (λ n. if nat_le 1 n && nat_le n most then Some n else None) (number_of word)
 
 abbrev pub plain_command : List ℕ → Command
 plain_command word =
@@ -29,11 +29,6 @@ counted_command word (Some n) =
     if bytes_eq word (codes "make") then Make n else
     if bytes_eq word (codes "trial") then Trial n else Unknown
 
--- the number of a step: a numeral from 1 to 1,024
-abbrev pub step_of : List ℕ → Option ℕ
-step_of word =
-    option_and_then (λ n. if nat_le 1 n && nat_le n 1024 then Some n else None) (number_of word)
-
 abbrev pub placed_command : List ℕ → Option (List ℕ) → Option ℕ → Command
 placed_command word (Some title) (Some step) =
     if bytes_eq word (codes "suggest") then Suggest title step else Unknown
@@ -43,8 +38,8 @@ placed_command word _ _ = Unknown
 -- before a number, and `suggest` before a title and the number of a step
 abbrev pub command_of : List (List ℕ) → Command
 command_of (word ∷ []) = plain_command word
-command_of (word ∷ number ∷ []) = counted_command word (theorem_count_of number)
-command_of (word ∷ title ∷ number ∷ []) = placed_command word (title_of title) (step_of number)
+command_of (word ∷ number ∷ []) = counted_command word (number_to 500 number)
+command_of (word ∷ title ∷ number ∷ []) = placed_command word (title_of title) (number_to 1024 number)
 command_of _ = Unknown
 
 -- the command reads the source

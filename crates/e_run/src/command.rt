@@ -1,17 +1,17 @@
 //! The words of a command.
 ghost use Rattle.std.specs.Prelude.{◌≡◌, ◌≤◌, IfSome, map, string_bytes};
 ghost use Rattle.e_line.specs.Limits.{most_theorems};
-ghost use Rattle.e_run.specs.Words.{theorem_count_of, step_of, plain_command, counted_command};
+ghost use Rattle.e_run.specs.Words.{number_to, plain_command, counted_command};
 ghost use Rattle.e_run.specs.Words.{placed_command, command_of, OfCount, OfStep};
 
 use e_commands::Job;
 use e_text::{Title, number};
 
 /// The most theorems of a generated book.
-const MOST_THEOREMS: u128 = 500;
+const MOST_THEOREMS: u32 = 500;
 
 /// The most steps of a theorem.
-const MOST_STEPS: u128 = 1024;
+const MOST_STEPS: u32 = 1024;
 
 /// What a run is asked for.
 #[derive(Clone, Copy)]
@@ -30,13 +30,14 @@ pub enum Command {
     Unknown,
 }
 
-/// How many theorems: a numeral from 1 to 500.
-fn count_of(word: &[u8]) -> Option<u32>
-    ensures value { result ≡ theorem_count_of word.now }
-    ensures few { IfSome result (λ n. n ≤ most_theorems) }
+/// A numeral from 1 to this number.
+fn number_to(most: u32, word: &[u8]) -> Option<u32>
+    ensures value { result ≡ number_to most word.now }
+    ensures few { IfSome result (λ n. n ≤ most) }
+    ensures first { IfSome result (λ n. 1 ≤ n) }
 {
     match number(word) {
-        Some(count) if 1 <= count && count <= MOST_THEOREMS => Some(count as u32),
+        Some(n) if 1 <= n && n <= most as u128 => Some(n as u32),
         _ => None,
     }
 }
@@ -83,17 +84,6 @@ fn counted_command(word: &[u8], count: Option<u32>) -> Command
     }
 }
 
-/// The number of a step: a numeral from 1 to 1,024.
-fn step_of(word: &[u8]) -> Option<u32>
-    ensures value { result ≡ step_of word.now }
-    ensures first { IfSome result (λ n. 1 ≤ n) }
-{
-    match number(word) {
-        Some(step) if 1 <= step && step <= MOST_STEPS => Some(step as u32),
-        _ => None,
-    }
-}
-
 /// The command of a word, a title and the number of a step.
 fn placed_command(word: &[u8], title: Option<Title>, step: Option<u32>) -> Command
     requires { IfSome step (λ n. 1 ≤ n) }
@@ -119,11 +109,14 @@ pub fn command_of(words: &[String]) -> Command
 {
     match words {
         [word] => plain_command(word.as_bytes()),
-        [word, number] => counted_command(word.as_bytes(), count_of(number.as_bytes())),
+        [word, number] => counted_command(
+            word.as_bytes(),
+            number_to(MOST_THEOREMS, number.as_bytes()),
+        ),
         [word, title, number] => placed_command(
             word.as_bytes(),
             Title::read(title.as_bytes()),
-            step_of(number.as_bytes()),
+            number_to(MOST_STEPS, number.as_bytes()),
         ),
         _ => Command::Unknown,
     }
