@@ -22,7 +22,7 @@ use e_text::Title;
 use std::alloc::{AllocError, Global};
 use std::mem;
 
-/// Writes the last lines of an answer, and gives the answer.
+/// Writes the last lines of an answer, and gives the answer, or a write fault where the sink fails.
 pub fn close<K: Sink>(sink: &mut K, last: &[u8], answer: Status) -> Status
     requires { IsWriteFault answer → ⊥ }
     ensures closes { ClosesWith (K.written sink.old) (K.written sink.new) last.now answer result }
@@ -52,7 +52,7 @@ pub fn last_lines(alloc: Global, book_result: &BookResult) -> Result<Vec<u8>, Al
     }
 }
 
-/// The answer of a stop.
+/// The answer to a theorem that stops so.
 pub fn stop_answer(title: Title, stop: Stop) -> Status
     ensures { result ≡ Rattle.e_commands.specs.inner.BookResults.stop_answer title stop }
 {

@@ -56,14 +56,14 @@ pub fn verified(alloc: Global, theorems: u32) -> Result<Vec<u8>, AllocError>
     line_with(alloc, b"verified ", u64::from(theorems), b"\n")
 }
 
-/// The line after the lines of the theorems that a derivation text applies.
+/// The line after those that `uses` writes, one for each theorem of a derivation text.
 pub fn listed(alloc: Global, theorems: u32) -> Result<Vec<u8>, AllocError>
     ensures { IfOk result (λ v. v.items ≡ listed_line theorems) }
 {
     line_with(alloc, b"listed ", u64::from(theorems), b"\n")
 }
 
-/// The line of a step that is not certified.
+/// The line that says which step is not certified.
 pub fn bad(alloc: Global, title: Title, step: u32) -> Result<Vec<u8>, AllocError>
     ensures { IfOk result (λ v. v.items ≡ bad_line title step) }
 {
@@ -74,7 +74,7 @@ pub fn bad(alloc: Global, title: Title, step: u32) -> Result<Vec<u8>, AllocError
     Ok(line)
 }
 
-/// The line of a line that is malformed at its place.
+/// The line that says which line is malformed at its place.
 pub fn garbled(alloc: Global, number: u64) -> Result<Vec<u8>, AllocError>
     ensures { IfOk result (λ v. v.items ≡ garbled_line number) }
 {
@@ -116,7 +116,8 @@ fn word_of(what: What) -> &'static [u8]
     }
 }
 
-/// The number of the faulty line.
+/// The number of the faulty line. Out of memory has none, and its line of a fault is never written:
+/// the answer is then `no memory`.
 fn faulty_line_of(fault: &BookFault) -> u32
     ensures { result ≡ faulty_line fault.now }
 {

@@ -39,7 +39,7 @@ use e_text::{Lines, Title};
 use std::alloc::{AllocError, Global};
 use std::mem;
 
-/// That there is no such step.
+/// The answer that there is no such step.
 fn no_step(alloc: Global) -> Result<Answer, AllocError>
     ensures { IfOk result (λ a. (a.status ≡ NoStep) × (a.line.items ≡ no_step_line)) }
 {
@@ -50,7 +50,7 @@ fn no_step(alloc: Global) -> Result<Answer, AllocError>
     })
 }
 
-/// A fault other than out of memory.
+/// The answer to a fault; to out of memory there is none.
 fn faulty(alloc: Global, at: BookFault) -> Result<Answer, AllocError>
     ensures { IfOk result
         (λ a. (lacks_memory at ≡ false) × (a.status ≡ Fault at) × (a.line.items ≡ fault_line at)) }
@@ -72,7 +72,7 @@ fn is_out_of_memory(stop: &Stop) -> bool
     matches!(stop, Stop::NoMemory)
 }
 
-/// A stop other than out of memory.
+/// The answer to a stop; to out of memory there is none.
 fn stopped(alloc: Global, title: Title, stop: Stop) -> Result<Answer, AllocError>
     ensures { IfOk result (λ a. IsStopAnswer title stop a.status a.line.items) }
 {
@@ -177,8 +177,8 @@ fn has_title(theorem: &Theorem, title: Title) -> bool
     theorem.title.bytes() == title.bytes()
 }
 
-/// A theorem with another title is licensed, and then it is known. The answer on the one with the
-/// title, and on a stop.
+/// Licenses a theorem with another title, which then is known, and gives no answer. It gives one
+/// where the theorem has the title, or stops.
 fn pass_theorem(
     alloc: Global,
     known: &mut Known,
@@ -277,8 +277,8 @@ fn answer_for(alloc: Global, text: &[u8], title: Title, step: u32) -> Result<Ans
     answer
 }
 
-/// Reads a book from a source, and writes to a sink what may be applied before a step of the
-/// theorem with a title. Nothing is written before all of it was read and all was found.
+/// Reads a book from a source, and writes to a sink what may be applied before this step of the
+/// theorem with this title. Nothing is written before all of it was read and all was found.
 pub fn suggest<S: Source, K: Sink>(
     alloc: Global,
     title: Title,

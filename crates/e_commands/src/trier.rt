@@ -24,13 +24,14 @@ use e_text::Lines;
 use std::alloc::{AllocError, Global};
 use std::mem;
 
-/// An answer with its line.
+/// An answer, and the bytes that are written with it: one line, or with `suggest` all its lines.
 pub struct Answer {
     pub status: Status,
     pub line: Vec<u8>,
 }
 
-/// The answer to an accepted book, once what is written then is verified, which it is.
+/// The answer to an accepted book, of which `check` writes this text. It is judged once more here:
+/// by what is proved of `check` it comes out verified.
 fn verified(alloc: Global, text: &[u8], theorems: u32, steps: u32) -> Result<Answer, AllocError>
     requires few { length text.now ≤ 2 ^ 60 }
     requires verified { JudgesText text.now (Judgement.Verified theorems) }
@@ -81,7 +82,8 @@ fn answer_to(alloc: Global, lines: &mut Lines) -> Result<Answer, AllocError>
     verified(alloc, &store.into_bytes(), theorems, steps)
 }
 
-/// The answer to the generated book of this many theorems, with its line.
+/// The answer to the generated book of this many theorems, with its line. The book is read as one
+/// is from a source, at most one byte past the limit.
 fn answer_for(alloc: Global, theorems: u32) -> Result<Answer, AllocError>
     requires { theorems ≤ most_theorems }
     ensures { IfOk result
