@@ -1,4 +1,5 @@
--- The grammar of books: theorems and definitions, one after another.
+-- The grammar of books, on which the claim rests: definitions, and theorems as Grammar has them,
+-- one after another.
 use Rattle.std.specs.Prelude.{◌≡◌, ℕ, ◌+◌, List, [], ◌∷◌, length, map, nat_le, Bool, true, false}
 use Rattle.std.specs.Prelude.{Option, Some, None, IsTrue, Result, Ok, Err, if◌then◌else◌}
 use Rattle.std.specs.Option.{option_map}

@@ -166,6 +166,7 @@ abbrev pub put_at : {A : Type 0} → ℕ → Result A FaultKind → Result A Boo
 put_at line (Ok x) = Ok x
 put_at line (Err kind) = Err (at_line line kind)
 
+-- the lines of a text that are left, each with its bytes or with a fault of them
 abbrev pub Rest : Type 0
 Rest = List (Result LineView LineFault)
 
@@ -195,10 +196,11 @@ read_from known last o (Ok line ∷ lines) =
 
 -- ---- what is answered
 
+-- the number after the last line
 abbrev pub last_line : Ahead → ℕ
 last_line ahead = ahead.line + length ahead.lines
 
--- what was answered is what the grammar says, unless memory ran out
+-- the fault that was answered is the one that the grammar says, unless memory ran out
 abbrev pub BookFails : {Y : Type 0} → BookFault → Result Y BookFault → Type 0
 BookFails faults.NoMemory read = Unit {0}
 BookFails (faults.Malformed line) read = read ≡ Err (faults.Malformed line)
