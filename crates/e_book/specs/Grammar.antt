@@ -61,6 +61,7 @@ none_made t = is_empty t.made && is_empty t.shown
 abbrev pub none_given : Statement → Bool
 none_given t = is_empty t.given && none_made t
 
+-- a line of the statement that comes too late is malformed
 abbrev pub at_its_place : Bool → Result Open FaultKind → Result Open FaultKind
 at_its_place true next = next
 at_its_place false next = Err Malformed
@@ -127,6 +128,7 @@ goes_on known ns h around steps rawlines.Contradiction =
     Ok (after_close h around steps (Contradiction None))
 goes_on known ns h around steps f = Err Malformed
 
+-- a line at its place, without its limits
 abbrev pub next : List TitledStatement → Open → RawLine → Result Open FaultKind
 next known (Stating h) f = states h f
 next known (Proving h around steps) f =
@@ -170,15 +172,18 @@ put_at line (Err kind) = Err (at_line line kind)
 abbrev pub Rest : Type 0
 Rest = List (Result LineView LineFault)
 
+-- the theorem whose last line has come
 abbrev pub theorem_ended : Open → Option TheoremView
 theorem_ended (Ended t) = Some t
 theorem_ended o = None
 
+-- what is read, where this has ended: it, or what the lines after it make
 abbrev pub or_more : Option TheoremView → Rest → Result (Option (TheoremView × Rest)) BookFault
     → Result (Option (TheoremView × Rest)) BookFault
 or_more None lines more = more
 or_more (Some t) lines more = Ok (Some (t, lines))
 
+-- what is read, where no lines are left: a theorem that has begun is unended
 abbrev pub no_more : ℕ → Option Open → Result (Option (TheoremView × Rest)) BookFault
 no_more last None = Ok None
 no_more last (Some o) = Err (faults.Unended last)

@@ -66,6 +66,7 @@ fn listing_raw_line(
     }
 }
 
+/// The raw line of a superposition with these literals.
 fn raw_superpose_line(
     alloc: Global,
     args: &[Name],
@@ -328,6 +329,7 @@ impl TheoremParser {
     }
 }
 
+/// A line that may not come at its place is malformed.
 fn right_place(right: bool) -> Result<(), LineError>
     ensures { Gives (λ u. u) result (right_count right) }
 {

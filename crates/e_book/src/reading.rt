@@ -38,6 +38,7 @@ pub fn is_skipped(words: &[&[u8]]) -> bool
     }
 }
 
+/// Whether its last line has come.
 fn is_done(partial_item: &PartialItem) -> bool
     ensures { result ≡ is_done partial_item.now }
 {

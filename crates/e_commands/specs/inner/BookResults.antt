@@ -56,6 +56,7 @@ StopsWith lines old new title (stops.TooWide step wanted width names) =
     BlocksUpTo lines old new (Widens lines title step wanted width names)
 StopsWith lines old new title stops.NoMemory = ⊥
 
+-- the blocks end so: those of the theorems before the end were written
 abbrev pub BookResultIs : Rest → Option (List ℕ) → Option (List ℕ) → BookResult → Type 0
 BookResultIs lines old new (All n s) =
     (e : BlocksUpTo lines old new (OutcomeAfter lines (outcome.Accepted n)))

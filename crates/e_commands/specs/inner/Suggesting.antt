@@ -39,7 +39,7 @@ use Rattle.e_commands.specs.inner.BookResults.{stop_answer}
 abbrev pub apply_lines : List ℕ → Names → List (List Obj) → List (List ℕ)
 apply_lines title names choices = map (apply_line title names) choices
 
--- the theorem is not asked; or these are all its choices
+-- the theorem has more than six declared objects, and is passed over; or these are all its choices
 abbrev pub AreAllChoices : StatementView → Scope → List Lit → ℕ → List (List Obj) → Type 0
 AreAllChoices t scope facts left choices =
     ((6 < length t.declared) × (choices ≡ []))
@@ -60,7 +60,7 @@ IsListedOne names scope facts title t left old new (listed.TooWide w) =
 
 -- ---- all theorems
 
--- a theorem is asked, and a choice for it is too wide
+-- a theorem is not passed over, and a choice for it is too wide
 pub record SomeIsTooWide (scope : Scope) (facts : List Lit) (known : List TitledStatement)
     (w : ℕ) : Type 0 where
   pub theorem : TitledStatement
