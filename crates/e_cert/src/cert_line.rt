@@ -9,9 +9,7 @@ ghost use Rattle.e_cert.specs.CertLines.{cert_line_of, row_is_of, cert_line_is_o
 ghost use Rattle.e_clause.specs.Versions.{by_literals, by_places};
 
 use e_clause::Version;
-use e_line::{
-    FaultKind, LineError, RawLit, RawTerm, Words, diagram_lit_of, lit_of, names_of, term_of,
-};
+use e_line::{LineError, RawLit, RawTerm, Words, diagram_lit_of, lit_of, names_of, term_of};
 use e_literal::Items;
 use e_text::{Name, Title, is, number};
 use std::alloc::Global;
@@ -73,7 +71,7 @@ fn size_of(digits: &[u8]) -> Result<i128, LineError>
 {
     match number(digits) {
         Some(size) if size > 0 && size <= MAX_MULTIPLIER => Ok(size as i128),
-        _ => Err(LineError::Fault(FaultKind::Malformed)),
+        _ => Err(LineError::MALFORMED),
     }
 }
 
@@ -82,7 +80,7 @@ fn multiplier_of(word: &[u8]) -> Result<i128, LineError>
     ensures { Gives (λ m. m) result (multiplier_of word.now) }
 {
     match word {
-        [] => Err(LineError::Fault(FaultKind::Malformed)),
+        [] => Err(LineError::MALFORMED),
         [b'-', digits @ ..] => {
             let size = size_of(digits)?;
             Ok(-size)
@@ -97,7 +95,7 @@ fn place_of(digits: &[u8]) -> Result<u32, LineError>
 {
     match number(digits) {
         Some(place) if place < MAX_PLACES => Ok(place as u32),
-        _ => Err(LineError::Fault(FaultKind::Malformed)),
+        _ => Err(LineError::MALFORMED),
     }
 }
 
@@ -107,7 +105,7 @@ fn fact_row_of(alloc: Global, words: &[&[u8]]) -> Result<RawRow, LineError>
     ensures { Gives (λ r. r) result (fact_row_of (texts words.now)) }
 {
     match words {
-        [] => Err(LineError::Fault(FaultKind::Malformed)),
+        [] => Err(LineError::MALFORMED),
         [word, rest @ ..] => {
             if rest.is_empty() {
                 return Ok(RawRow::FactAt(place_of(word)?));
@@ -159,7 +157,7 @@ fn row_named(alloc: Global, word: &[u8], rest: &[&[u8]]) -> Result<RawRow, LineE
     if is(word, b"below") {
         return bare_row(words, RawRow::Below);
     }
-    Err(LineError::Fault(FaultKind::Malformed))
+    Err(LineError::MALFORMED)
 }
 
 #[tactic(auto, unfolding(crate::specs::CertLines::raw_row_of))]
@@ -167,7 +165,7 @@ fn row_of(alloc: Global, words: &[&[u8]]) -> Result<RawRow, LineError>
     ensures { Gives (λ r. r) result (raw_row_of (texts words.now)) }
 {
     match words {
-        [] => Err(LineError::Fault(FaultKind::Malformed)),
+        [] => Err(LineError::MALFORMED),
         [word, rest @ ..] => row_named(alloc, word, rest),
     }
 }
@@ -200,7 +198,7 @@ fn differs_of(alloc: Global, words: &[&[u8]]) -> Result<CertLine, LineError>
         Ok(CertLine::Differs(row))
     } else {
         mem::drop(row);
-        Err(LineError::Fault(FaultKind::Malformed))
+        Err(LineError::MALFORMED)
     }
 }
 
@@ -210,10 +208,10 @@ fn transfer_of(alloc: Global, words: &[&[u8]]) -> Result<CertLine, LineError>
     ensures { Gives (λ m. m) result (transfer_of (texts words.now)) }
 {
     let [title, rest @ ..] = words else {
-        return Err(LineError::Fault(FaultKind::Malformed));
+        return Err(LineError::MALFORMED);
     };
     let Some(title) = Title::read(title) else {
-        return Err(LineError::Fault(FaultKind::Malformed));
+        return Err(LineError::MALFORMED);
     };
     let names = names_of(alloc, rest)?;
     Ok(CertLine::Transfer(title, names))
@@ -275,7 +273,7 @@ pub(crate) fn cert_line_of(alloc: Global, words: &[&[u8]]) -> Result<CertLine, L
     ensures { Gives (λ m. m) result (cert_line_of (texts words.now)) }
 {
     match words {
-        [] => Err(LineError::Fault(FaultKind::Malformed)),
+        [] => Err(LineError::MALFORMED),
         [word, rest @ ..] => cert_line_named(alloc, word, rest),
     }
 }

@@ -18,7 +18,7 @@ use e_clause::{
     Against, Cert, InstanceFault, MetricCert, Part, RowName, Rule, Sums, TransferCert, instance,
 };
 use e_deriv::Names;
-use e_line::{FaultKind, LineError, RawLit, few_monos};
+use e_line::{LineError, RawLit, few_monos};
 use e_literal::{Items, Lit, Obj, same};
 use e_names::{args_in, lit_in, term_in};
 use e_text::{Name, Title};
@@ -80,12 +80,6 @@ pub struct Pending {
     pub sums: Option<OpenSums>,
 }
 
-fn malformed() -> LineError
-    ensures { result ≡ LineError.Fault FaultKind.Malformed }
-{
-    LineError::Fault(FaultKind::Malformed)
-}
-
 /// A literal of a certificate: its names, and then its limits.
 fn fact_in(alloc: Global, names: &Names, raw: &RawLit) -> Result<Lit, LineError>
     requires { FewNames names.now }
@@ -125,7 +119,7 @@ fn add_row(sum: &mut Rows, multiplier: i128, row: RowName) -> Result<(), LineErr
 {
     if sum.len() >= MAX_ROWS {
         mem::drop(row);
-        return Err(malformed());
+        return Err(LineError::MALFORMED);
     }
     sum.push(multiplier, row)?;
     Ok(())
@@ -137,7 +131,7 @@ fn sum_begun(alloc: Global, sums: Option<OpenSums>) -> Result<OpenSums, LineErro
 {
     match sums {
         Some(sums) => sum_after(alloc, sums),
-        None => Err(malformed()),
+        None => Err(LineError::MALFORMED),
     }
 }
 
@@ -152,13 +146,13 @@ fn sum_after(alloc: Global, sums: OpenSums) -> Result<OpenSums, LineError>
             if sum.len() == 0 {
                 mem::drop(differs);
                 mem::drop(sum);
-                return Err(malformed());
+                return Err(LineError::MALFORMED);
             }
             Ok(OpenSums::Below(differs, sum, Rows::new(alloc)))
         }
         other => {
             mem::drop(other);
-            Err(malformed())
+            Err(LineError::MALFORMED)
         }
     }
 }
@@ -171,7 +165,7 @@ fn sums_ended(sums: OpenSums) -> Result<Sums, LineError>
         OpenSums::One(sum) => {
             if sum.len() == 0 {
                 mem::drop(sum);
-                return Err(malformed());
+                return Err(LineError::MALFORMED);
             }
             Ok(Sums::One(sum.into_sum()))
         }
@@ -180,7 +174,7 @@ fn sums_ended(sums: OpenSums) -> Result<Sums, LineError>
                 mem::drop(differs);
                 mem::drop(above);
                 mem::drop(sum);
-                return Err(malformed());
+                return Err(LineError::MALFORMED);
             }
             Ok(Sums::Two {
                 differs,
@@ -190,7 +184,7 @@ fn sums_ended(sums: OpenSums) -> Result<Sums, LineError>
         }
         other => {
             mem::drop(other);
-            Err(malformed())
+            Err(LineError::MALFORMED)
         }
     }
 }
@@ -214,10 +208,10 @@ fn transfer_rule(name: Title) -> Result<Rule, LineError>
     ensures { Gives (λ r. r) result (transfer_rule (number_of_rule name)) }
 {
     let Some(rule) = Rule::named(name.bytes()) else {
-        return Err(malformed());
+        return Err(LineError::MALFORMED);
     };
     if !rule.is_transfer() {
-        return Err(malformed());
+        return Err(LineError::MALFORMED);
     }
     Ok(rule)
 }
@@ -252,7 +246,7 @@ fn transfer_at(
             parts: Items::empty(alloc),
             owed: count_others(wanted, &lits),
         }),
-        Err(InstanceFault::BadArgs) => Err(malformed()),
+        Err(InstanceFault::BadArgs) => Err(LineError::MALFORMED),
         Err(InstanceFault::NoMemory) => Err(LineError::NoMemory),
     }
 }
@@ -273,7 +267,7 @@ fn transfer_in(
     let sig = rule.sig();
     let count = usize::from(sig.points) + usize::from(sig.lines) + usize::from(sig.circles);
     if raws.len() != count {
-        return Err(malformed());
+        return Err(LineError::MALFORMED);
     }
     let args = args_in(alloc, names, sig, raws)?;
     transfer_at(alloc, wanted, rule, args)
@@ -307,12 +301,12 @@ impl Obligation {
         } = self
         else {
             mem::drop(part);
-            return Err(malformed());
+            return Err(LineError::MALFORMED);
         };
         let Some(begun) = transfer else {
             if certs.len() >= wanted.len() {
                 mem::drop(part);
-                return Err(malformed());
+                return Err(LineError::MALFORMED);
             }
             certs.push(Cert::Plain(part))?;
             return Ok(());
@@ -345,7 +339,7 @@ impl Obligation {
     {
         if !matches!(self, Obligation::Contradiction { against: None }) {
             mem::drop(lit);
-            return Err(malformed());
+            return Err(LineError::MALFORMED);
         }
         let against = Some(Against::Clash { lit });
         mem::drop(mem::replace(self, Obligation::Contradiction { against }));
@@ -369,13 +363,13 @@ impl Obligation {
             transfer,
         } = self
         else {
-            return Err(malformed());
+            return Err(LineError::MALFORMED);
         };
         if transfer.is_some() {
-            return Err(malformed());
+            return Err(LineError::MALFORMED);
         }
         let Some(next) = wanted.items().get(certs.len()) else {
-            return Err(malformed());
+            return Err(LineError::MALFORMED);
         };
         let begun = transfer_in(alloc, names, next, title, raws)?;
         if begun.parts.len() != begun.owed {
@@ -428,7 +422,7 @@ impl Pending {
         let differs = row_in(alloc, &self.names, raw)?;
         if !matches!(self.sums, Some(OpenSums::Begun)) {
             mem::drop(differs);
-            return Err(malformed());
+            return Err(LineError::MALFORMED);
         }
         mem::drop(mem::replace(&mut self.sums, Some(OpenSums::Differs(differs))));
         Ok(())
@@ -449,7 +443,7 @@ impl Pending {
             Some(OpenSums::Below(_, _, sum)) => add_row(sum, multiplier, row),
             _ => {
                 mem::drop(row);
-                Err(malformed())
+                Err(LineError::MALFORMED)
             }
         }
     }
@@ -473,7 +467,7 @@ impl Pending {
             CertLine::Metric => {
                 self.end_sums()?;
                 if !takes_metric(&self.due) {
-                    return Err(malformed());
+                    return Err(LineError::MALFORMED);
                 }
                 mem::drop(mem::replace(&mut self.sums, Some(OpenSums::Begun)));
                 Ok(())
@@ -525,7 +519,7 @@ fn kept_of(due: Obligation) -> Result<Option<StepCerts>, LineError>
             mem::drop(wanted);
             if is_short {
                 mem::drop(certs);
-                return Err(malformed());
+                return Err(LineError::MALFORMED);
             }
             Ok(Some(StepCerts::Certs(certs)))
         }
@@ -534,7 +528,7 @@ fn kept_of(due: Obligation) -> Result<Option<StepCerts>, LineError>
         } => Ok(Some(StepCerts::Against(against))),
         other => {
             mem::drop(other);
-            Err(malformed())
+            Err(LineError::MALFORMED)
         }
     }
 }

@@ -6,7 +6,7 @@ ghost use Rattle.e_cert.specs.Strict.{is_strict_row, is_strict_cert_line, exact_
 
 use crate::cert_line::{CertLine, RawRow, cert_line_of};
 use crate::spelled::is_cert_line_text;
-use e_line::{FaultKind, LineError, is_direct};
+use e_line::{LineError, is_direct};
 use std::alloc::Global;
 use std::mem;
 
@@ -40,6 +40,6 @@ pub fn exact_cert_line(alloc: Global, line: &[u8], words: &[&[u8]]) -> Result<Ce
         Ok(cert_line)
     } else {
         mem::drop(cert_line);
-        Err(LineError::Fault(FaultKind::Malformed))
+        Err(LineError::MALFORMED)
     }
 }

@@ -23,12 +23,12 @@ use Rattle.e_judgement.specs.declared.judgement.Judgement.TheVariants as judgeme
 use Rattle.e_judgement.specs.Judged.{JudgesText, with_theorem}
 use Rattle.e_commands.specs.declared.status.Status.{Status}
 use Rattle.e_commands.specs.declared.status.Status.TheVariants as status
-use Rattle.e_commands.specs.Outcome.{BookOutcome, OutcomeAt, NextIs, Begins, IsFront, IsOutcomeOf}
-use Rattle.e_commands.specs.Outcome.{RefusedAt, TooWideAt, HasWide, end_line_number, lines_of_book}
+use Rattle.e_commands.specs.Outcome.{BookOutcome, OutcomeAt, NextIs, Begins, IsOutcomeOf, RefusedAt}
+use Rattle.e_commands.specs.Outcome.{TooWideAt, HasWide, end_line_number, lines_of_book}
 use Rattle.e_commands.specs.Outcome as outcome
 use Rattle.e_commands.specs.Wrote.{Wrote}
-use Rattle.e_commands.specs.LastLines.{head_line, accepted_line, fault_line, read_fault_line}
-use Rattle.e_commands.specs.LastLines.{no_memory_line, usage_line}
+use Rattle.e_commands.specs.LastLines.{fault_line, read_fault_line, no_memory_line, usage_line}
+use Rattle.e_roundtrip.specs.Written.{accepted_blocks_line, version_line}
 
 -- a theorem with a derivation of it
 pub record Derived : Type 0 where
@@ -62,14 +62,11 @@ abbrev pub steps_of : List Derived → ℕ
 steps_of [] = 0
 steps_of (d ∷ ds) = steps_of ds + size d.theorem.script
 
--- the block of a derivation
-abbrev pub block_of : List TitledStatement → Derived → List ℕ
-block_of known d = spelled known d.theorem d.derivation
-
 -- the blocks of derivations, one after the other
 abbrev pub blocks_of : List TitledStatement → List Derived → List ℕ
 blocks_of known [] = []
-blocks_of known (d ∷ ds) = block_of known d ++ blocks_of (with_theorem known d.theorem) ds
+blocks_of known (d ∷ ds) =
+    spelled known d.theorem d.derivation ++ blocks_of (with_theorem known d.theorem) ds
 
 -- with this known, these bytes are the block of a derivation of the theorem
 pub record HasBlock (known : List TitledStatement) (theorem : TheoremView)
@@ -80,7 +77,7 @@ pub record HasBlock (known : List TitledStatement) (theorem : TheoremView)
 
 -- the head line, the blocks, and the last lines
 abbrev pub written_with : List Derived → List ℕ → List ℕ
-written_with ds last = head_line ++ (blocks_of [] ds ++ last)
+written_with ds last = version_line One ++ (blocks_of [] ds ++ last)
 
 -- theorems with their derivations, which are the first of the book, and what holds after them
 pub record OutputUpTo (lines : Rest) (Holds : Known → Rest → Type 0)
@@ -111,11 +108,8 @@ Widens lines title step wanted width names known rest =
     (λ t. TooWideAt known.theorems t title step wanted width names)
 
 -- theorems with their derivations: some of the first ones of the book
-pub record CutOff (lines : Rest) (last out : List ℕ) : Type 0 where
-  pub derived : List Derived
-  pub sound : AllDerived [] derived
-  pub front : IsFront lines (theorems_of derived)
-  pub bytes : out ≡ written_with derived last
+abbrev pub CutOff : Rest → List ℕ → List ℕ → Type 0
+CutOff lines last out = OutputUpTo lines (λ known rest. Unit {0}) last out
 
 -- it is a derivation text, with n theorems, and each certificate certifies at its own step
 abbrev pub IsVerifiedText : ℕ → List ℕ → Type 0
@@ -124,7 +118,7 @@ IsVerifiedText n out = JudgesText out (judgements.Verified n)
 -- what is due in all with an answer to a book of these lines
 abbrev pub Outputs : Rest → Status → List ℕ → Type 0
 Outputs lines (status.Accepted n) out =
-    OutputUpTo lines (OutcomeAfter lines (outcome.Accepted n)) (accepted_line n) out
+    OutputUpTo lines (OutcomeAfter lines (outcome.Accepted n)) (accepted_blocks_line n) out
     × IsVerifiedText n out
 Outputs lines (status.Unlicensed title step wanted values) out =
     (names : Names) × OutputUpTo lines (Refuses lines title step wanted values names)
@@ -138,9 +132,12 @@ Outputs lines status.ReadFault out = CutOff lines read_fault_line out
 Outputs lines status.NoMemory out = CutOff lines no_memory_line out
 Outputs lines _ out = ⊥
 
--- a book of these lines is answered so, and this was written
-abbrev pub Checks : Rest → Option (List ℕ) → Option (List ℕ) → Status → Type 0
-Checks lines old new answer = Wrote (Outputs lines) old new answer
+-- a fault of the source or the sink, or out of memory
+abbrev pub IsFailure : Status → Type 0
+IsFailure status.ReadFault = Unit {0}
+IsFailure status.WriteFault = Unit {0}
+IsFailure status.NoMemory = Unit {0}
+IsFailure _ = ⊥
 
 -- the answer of an outcome, or that a step is too wide where one is that is reached; a fault of the
 -- source or the sink, and out of memory, can come in place of it
@@ -150,10 +147,7 @@ IsAnswer lines (outcome.Unlicensed title step wanted names) (status.Unlicensed p
     (p ≡ title) × (i ≡ step) × (w ≡ wanted)
 IsAnswer lines (outcome.Faulty f) (status.Fault g) = g ≡ f
 IsAnswer lines end (status.TooWide title step wanted width) = HasWide lines
-IsAnswer lines end status.ReadFault = Unit {0}
-IsAnswer lines end status.WriteFault = Unit {0}
-IsAnswer lines end status.NoMemory = Unit {0}
-IsAnswer lines end other = ⊥
+IsAnswer lines end other = IsFailure other
 
 -- where a source exposes its bytes, whatever the outcome of that book is, the answer is that
 abbrev pub Answers : Option (List ℕ) → Status → Type 0
@@ -166,10 +160,11 @@ abbrev pub IsAllOf : Option (List ℕ) → List ℕ → Type 0
 IsAllOf None text = Unit {0}
 IsAllOf (Some bytes) text = text ≡ bytes
 
--- the book that a source exposes is answered so, and this was written
-abbrev pub ChecksBook : Option (List ℕ) → Option (List ℕ) → Option (List ℕ) → Status → Type 0
-ChecksBook left old new answer =
-    (text : List ℕ) × IsAllOf left text × Checks (lines_of_book text) old new answer
+-- the text that a source exposes is answered so, and what is due was written
+abbrev pub WroteOfText : (List ℕ → Status → List ℕ → Type 0) → Option (List ℕ) → Option (List ℕ)
+    → Option (List ℕ) → Status → Type 0
+WroteOfText Due left old new answer =
+    (text : List ℕ) × IsAllOf left text × Wrote (Due text) old new answer
 
 abbrev pub IsWriteFault : Status → Type 0
 IsWriteFault status.WriteFault = Unit {0}
@@ -218,7 +213,3 @@ exit_of status.NoStep = 10
 abbrev pub UsageAnswer : Status → List ℕ → Type 0
 UsageAnswer status.Usage out = out ≡ usage_line
 UsageAnswer _ out = ⊥
-
--- it was written
-abbrev pub AnswersUsage : Option (List ℕ) → Option (List ℕ) → Status → Type 0
-AnswersUsage old new answer = Wrote UsageAnswer old new answer

@@ -6,9 +6,7 @@ use Rattle.e_drawing.specs.Answers.{drawn_of}
 use Rattle.e_commands.specs.declared.status.Status.{Status}
 use Rattle.e_commands.specs.declared.status.Status.TheVariants as status
 use Rattle.e_commands.specs.LastLines.{fault_line, read_fault_line, no_memory_line}
-use Rattle.e_commands.specs.Wrote.{Wrote}
-use Rattle.e_commands.specs.Answers.{IsAllOf}
-use Rattle.e_commands.specs.VerifierAnswers.{IsFailure}
+use Rattle.e_commands.specs.Answers.{IsFailure}
 
 -- What is due with an answer: what is written of the text, or the line of its first fault. A fault
 -- of the source and out of memory say nothing of it.
@@ -18,15 +16,6 @@ FigureAnswer text (status.Fault f) out = (drawn_of text ≡ Err f) × (out ≡ f
 FigureAnswer text status.ReadFault out = out ≡ read_fault_line
 FigureAnswer text status.NoMemory out = out ≡ no_memory_line
 FigureAnswer text _ out = ⊥
-
--- a figure text is answered so, and this was written
-abbrev pub DrawsAndWrites : List ℕ → Option (List ℕ) → Option (List ℕ) → Status → Type 0
-DrawsAndWrites text old new answer = Wrote (FigureAnswer text) old new answer
-
--- the figure text that a source exposes is answered so, and this was written
-abbrev pub DrawsText : Option (List ℕ) → Option (List ℕ) → Option (List ℕ) → Status → Type 0
-DrawsText left old new answer =
-    (text : List ℕ) × IsAllOf left text × DrawsAndWrites text old new answer
 
 -- the fault is out of memory, which says nothing of the text
 abbrev pub lacks_memory : BookFault → Bool

@@ -5,17 +5,6 @@ use Rattle.e_line.specs.declared.fault.BookFault.TheVariants as faults
 use Rattle.e_line.specs.declared.fault.What.{What}
 use Rattle.e_line.specs.declared.fault.What.TheVariants as limits
 
--- the line that comes before the blocks
-abbrev pub head_line : List ℕ
-head_line = codes "derivation 1\n"
-
--- the same in the second version
-abbrev pub second_head_line : List ℕ
-second_head_line = codes "derivation 2\n"
-
-abbrev pub accepted_line : ℕ → List ℕ
-accepted_line n = codes "accepted " ++ (decimal n ++ codes "\n")
-
 abbrev pub what_word : What → List ℕ
 what_word limits.Bytes = codes "bytes"
 what_word limits.LineBytes = codes "line-bytes"

@@ -1,7 +1,7 @@
 -- The outcome of a book: its theorems and definitions are taken one after another, up to the first
 -- fault or the first unlicensed step.
 use Rattle.std.specs.Prelude.{◌≡◌, ℕ, ◌+◌, ◌-◌, slice_get, List, [], ◌∷◌, ◌++◌, length, Option}
-use Rattle.std.specs.Prelude.{Some, None, Result, Ok, Err}
+use Rattle.std.specs.Prelude.{Some, None, Ok, Err}
 use Rattle.e_text.specs.Lines.{lines_of}
 use Rattle.e_theorem.specs.Statements.{stated}
 use Rattle.e_deriv.specs.declared.stop.Wanted.{Wanted}
@@ -64,14 +64,19 @@ pub data BookOutcome : Type 0 where
   Unlicensed : (title : List ℕ) (step : ℕ) (wanted : Wanted) (names : Names) → BookOutcome
   Faulty : (fault : BookFault) → BookOutcome
 
+-- these are the names of the objects in scope before the step
+abbrev pub HasNamesAt : List TitledStatement → TheoremView → ℕ → Names → Type 0
+HasNamesAt known t step names =
+    Some names ≡ slice_get (names_of_steps (stated_by known)
+    (declared_names (stated t.statement) t.names) t.script) (step - 1)
+
 -- with this known, the next theorem has this title, its step of this number is the first unlicensed
 -- one and lacks this, and these are the names of the objects in scope before it
 pub record StopsAt (known : List TitledStatement) (t : TheoremView) (title : List ℕ) (step : ℕ)
     (wanted : Wanted) (names : Names) : Type 0 where
   pub titled : t.title ≡ title
   pub first : IsFirstUnlicensed (stated_by known) (stated t.statement) t.script step wanted
-  pub named : Some names ≡ slice_get (names_of_steps (stated_by known)
-      (declared_names (stated t.statement) t.names) t.script) (step - 1)
+  pub named : HasNamesAt known t step names
 
 -- with this known, the next theorem of these lines is one of which this holds
 abbrev pub NextIs : ℕ → Known → Rest → (TheoremView → Type 0) → Type 0
@@ -104,12 +109,6 @@ pub record IsOutcome (lines : Rest) (theorems : List TheoremView) (end : BookOut
   pub begins : Begins lines theorems known rest
   pub ends : OutcomeAt (end_line_number lines) known rest end
 
--- these are the first theorems of the lines, each licensed
-pub record IsFront (lines : Rest) (theorems : List TheoremView) : Type 0 where
-  pub known : Known
-  pub rest : Rest
-  pub begins : Begins lines theorems known rest
-
 -- the lines of a book: a line has at most 1,600 bytes, and a book 4,194,304
 abbrev pub lines_of_book : List ℕ → Rest
 lines_of_book text =
@@ -128,16 +127,14 @@ pub record RefusedAt (known : List TitledStatement) (t : TheoremView) (title : L
     (wanted : Wanted) (values : Option (List (Term × ℕ))) (names : Names) : Type 0 where
   pub titled : t.title ≡ title
   pub refused : IsRefused (stated_by known) (stated t.statement) t.script step wanted values
-  pub named : Some names ≡ slice_get (names_of_steps (stated_by known)
-      (declared_names (stated t.statement) t.names) t.script) (step - 1)
+  pub named : HasNamesAt known t step names
 
 -- with this known, each step before is licensed, and this one is too wide at what is wanted there
 pub record TooWideAt (known : List TitledStatement) (t : TheoremView) (title : List ℕ) (step : ℕ)
     (wanted : Wanted) (width : ℕ) (names : Names) : Type 0 where
   pub titled : t.title ≡ title
   pub too_wide : IsTooWideAt (stated_by known) (stated t.statement) t.script step wanted width
-  pub named : Some names ≡ slice_get (names_of_steps (stated_by known)
-      (declared_names (stated t.statement) t.names) t.script) (step - 1)
+  pub named : HasNamesAt known t step names
 
 -- with this known, a step of the theorem is wide, and each step before it is licensed
 pub record HasWideStep (known : List TitledStatement) (t : TheoremView) : Type 0 where

@@ -20,12 +20,10 @@ use Rattle.e_commands.specs.declared.rewriting.Job.{Job}
 use Rattle.e_commands.specs.declared.rewriting.Job.TheVariants.{Upgrade, Trim, Uses}
 use Rattle.e_commands.specs.declared.status.Status.{Status}
 use Rattle.e_commands.specs.declared.status.Status.TheVariants as status
-use Rattle.e_commands.specs.LastLines.{head_line, second_head_line, accepted_line, listed_line}
-use Rattle.e_commands.specs.LastLines.{bad_line, garbled_line, text_limit_line, read_fault_line}
-use Rattle.e_commands.specs.LastLines.{no_memory_line}
-use Rattle.e_commands.specs.Wrote.{Wrote}
-use Rattle.e_commands.specs.Answers.{IsAllOf, IsVerifiedText}
-use Rattle.e_commands.specs.VerifierAnswers.{IsFailure}
+use Rattle.e_commands.specs.LastLines.{listed_line, bad_line, garbled_line, text_limit_line}
+use Rattle.e_commands.specs.LastLines.{read_fault_line, no_memory_line}
+use Rattle.e_commands.specs.Answers.{IsVerifiedText, IsFailure}
+use Rattle.e_roundtrip.specs.Written.{accepted_blocks_line, version_line}
 
 -- ---- what is written of a theorem
 
@@ -61,14 +59,14 @@ rewritten_blocks job known (t ∷ ts) =
 
 -- the line that comes before anything is read
 abbrev pub head_of_job : Job → List ℕ
-head_of_job Upgrade = second_head_line
-head_of_job Trim = head_line
+head_of_job Upgrade = version_line Two
+head_of_job Trim = version_line One
 head_of_job Uses = []
 
 -- the last line of a text that is verified
 abbrev pub verified_end : Job → ℕ → List ℕ
-verified_end Upgrade n = accepted_line n
-verified_end Trim n = accepted_line n
+verified_end Upgrade n = accepted_blocks_line n
+verified_end Trim n = accepted_blocks_line n
 verified_end Uses n = listed_line n
 
 abbrev pub end_line_of_job : Job → Judgement → List ℕ
@@ -87,8 +85,8 @@ answer_of job (judgements.Bad title step) = status.Bad title step
 answer_of job (judgements.Garbled line) = status.Garbled line
 
 -- the head, what is written of the theorems, and the last line
-abbrev pub written_with : Job → List TheoremView → List ℕ → List ℕ
-written_with job ts last = head_of_job job ++ (rewritten_blocks job [] ts ++ last)
+abbrev pub rewritten_with : Job → List TheoremView → List ℕ → List ℕ
+rewritten_with job ts last = head_of_job job ++ (rewritten_blocks job [] ts ++ last)
 
 -- ---- the theorems of a text
 
@@ -143,13 +141,13 @@ EndsAfter job (Ok l ∷ lines) ts j = EndsAfterHead (read_as job (version_of l))
 pub record RewroteUpTo (job : Job) (text : List ℕ) (j : Judgement) (out : List ℕ) : Type 0 where
   pub theorems : List TheoremView
   pub ends : EndsAfter job (lines_of_text text) theorems j
-  pub bytes : out ≡ written_with job theorems (end_line_of_job job j)
+  pub bytes : out ≡ rewritten_with job theorems (end_line_of_job job j)
 
 -- some of the first theorems of the text, what is written of them, and the last line
 pub record RewroteSome (job : Job) (text : List ℕ) (last out : List ℕ) : Type 0 where
   pub theorems : List TheoremView
   pub first : AreFirstTheorems job (lines_of_text text) theorems
-  pub bytes : out ≡ written_with job theorems last
+  pub bytes : out ≡ rewritten_with job theorems last
 
 -- What is due with each answer. A text that is upgraded, trimmed or listed, each by its command, is
 -- verified; what is written of one that is upgraded or trimmed is verified itself. Before the last
@@ -171,16 +169,6 @@ RewriteAnswer job text status.TextLimit out =
 RewriteAnswer job text status.ReadFault out = out ≡ head_of_job job ++ read_fault_line
 RewriteAnswer job text status.NoMemory out = RewroteSome job text no_memory_line out
 RewriteAnswer job text _ out = ⊥
-
--- a text is answered so, and this was written
-abbrev pub Rewrites : Job → List ℕ → Option (List ℕ) → Option (List ℕ) → Status → Type 0
-Rewrites job text old new answer = Wrote (RewriteAnswer job text) old new answer
-
--- the text that a source exposes is answered so, and this was written
-abbrev pub RewritesText : Job → Option (List ℕ) → Option (List ℕ)
-    → Option (List ℕ) → Status → Type 0
-RewritesText job left old new answer =
-    (text : List ℕ) × IsAllOf left text × Rewrites job text old new answer
 
 -- the lines have this judgement for the command, for which a text of a version that it does not
 -- take is garbled at line 1

@@ -1,8 +1,8 @@
 -- What the command `suggest` answers to a book, a title and the number of a step, and what it
 -- writes.
-use Rattle.std.specs.Prelude.{◌≡◌, ◌⊎◌, ℕ, ◌-◌, ◌<◌, ◌≤◌, List, [], ◌∷◌, ◌++◌, length, map, nat_lt}
-use Rattle.std.specs.Prelude.{Bool, true, ◌&&◌, ◌||◌, ◌==◌, IsTrue, IsFalse, Contains, MatchBool}
-use Rattle.std.specs.Prelude.{Option, Some, None, Ok, Err, codes, slice_get}
+use Rattle.std.specs.Prelude.{◌≡◌, ◌⊎◌, ℕ, ◌<◌, ◌≤◌, List, [], ◌∷◌, ◌++◌, length, map, nat_lt, Bool}
+use Rattle.std.specs.Prelude.{true, ◌&&◌, ◌||◌, ◌==◌, IsTrue, IsFalse, Contains, MatchBool, Option}
+use Rattle.std.specs.Prelude.{Some, None, Ok, Err, codes, slice_get}
 use Rattle.std.specs.List.{list_all}
 use Rattle.std.specs.Str.{bytes_eq}
 use Rattle.e_text.specs.Tokens.{spaced}
@@ -16,7 +16,6 @@ use Rattle.e_deriv.specs.declared.stop.Wanted.TheVariants.{Match}
 use Rattle.e_deriv.specs.declared.names.Names.{Names}
 use Rattle.e_deriv.specs.Script.{size}
 use Rattle.e_deriv.specs.PlacedSteps.{PlacedStep}
-use Rattle.e_deriv.specs.Naming.{names_of_steps, declared_names}
 use Rattle.e_deriv.specs.Licensed.{IsContext}
 use Rattle.e_deriv.specs.Refused.{IsWideStep}
 use Rattle.e_line.specs.declared.fault.BookFault.{BookFault}
@@ -31,12 +30,11 @@ use Rattle.e_spell.specs.Spelling.{unlicensed_text, too_wide_text}
 use Rattle.e_suggest.specs.Suggestions.{blanks, SomeArgsAreTooWide}
 use Rattle.e_commands.specs.declared.status.Status.{Status}
 use Rattle.e_commands.specs.declared.status.Status.TheVariants as status
+use Rattle.e_commands.specs.Answers.{IsFailure}
 use Rattle.e_commands.specs.Outcome.{NextIs, Begins, StopsAt, RefusedAt, TooWideAt, end_line_number}
-use Rattle.e_commands.specs.Outcome.{lines_of_book}
+use Rattle.e_commands.specs.Outcome.{lines_of_book, HasNamesAt}
 use Rattle.e_commands.specs.LastLines.{fault_line, suggested_line, no_step_line, read_fault_line}
 use Rattle.e_commands.specs.LastLines.{no_memory_line}
-use Rattle.e_commands.specs.Wrote.{Wrote}
-use Rattle.e_commands.specs.Answers.{IsAllOf}
 
 -- ---- the way to the step
 
@@ -73,12 +71,6 @@ pub record IsAsked (title : List ℕ) (step : ℕ) (known : List TitledStatement
 pub record HasTooFewSteps (title : List ℕ) (step : ℕ) (t : TheoremView) : Type 0 where
   pub titled : t.title ≡ title
   pub short : size t.script < step
-
--- these are the names of the objects in scope before the step
-abbrev pub HasNamesAt : List TitledStatement → TheoremView → ℕ → Names → Type 0
-HasNamesAt known t step names =
-    Some names ≡ slice_get (names_of_steps (stated_by known)
-    (declared_names (stated t.statement) t.names) t.script) (step - 1)
 
 -- what is due before anything is suggested: the step is reached; there is no such step; an earlier
 -- step is not licensed; a line has a fault up to the end of the theorem
@@ -205,13 +197,6 @@ SuggestAnswer lines title step status.ReadFault out = out ≡ read_fault_line
 SuggestAnswer lines title step status.NoMemory out = out ≡ no_memory_line
 SuggestAnswer lines title step _ out = ⊥
 
--- the book that a source exposes is answered so, and this was written
-abbrev pub SuggestsBook : List ℕ → ℕ → Option (List ℕ) → Option (List ℕ)
-    → Option (List ℕ) → Status → Type 0
-SuggestsBook title step left old new answer =
-    (text : List ℕ) × IsAllOf left text
-    × Wrote (SuggestAnswer (lines_of_book text) title step) old new answer
-
 -- ---- the answer, from how the way to the step ends
 
 -- a step that comes before the one that is asked for is wide
@@ -239,10 +224,7 @@ IsWayAnswer lines title step (Unlicensed p n wanted names) (status.Unlicensed q 
 IsWayAnswer lines title step (Faulty f) (status.Fault g) = g ≡ f
 IsWayAnswer lines title step way (status.TooWide p n wanted width) =
     NextUpTo lines title (HasWideOnWay title step)
-IsWayAnswer lines title step way status.ReadFault = Unit {0}
-IsWayAnswer lines title step way status.WriteFault = Unit {0}
-IsWayAnswer lines title step way status.NoMemory = Unit {0}
-IsWayAnswer lines title step way other = ⊥
+IsWayAnswer lines title step way other = IsFailure other
 
 -- where a source exposes its bytes, whatever the way to the step ends with, the answer is that
 abbrev pub AnswersSuggest : List ℕ → ℕ → Option (List ℕ) → Status → Type 0

@@ -9,20 +9,14 @@ use Rattle.e_judgement.specs.declared.judgement.Judgement.TheVariants as judgeme
 use Rattle.e_judgement.specs.Judged.{JudgesText}
 use Rattle.e_commands.specs.declared.status.Status.{Status}
 use Rattle.e_commands.specs.declared.status.Status.TheVariants as status
-use Rattle.e_commands.specs.LastLines.{tried_line, fault_line, accepted_line, no_memory_line}
+use Rattle.e_commands.specs.LastLines.{tried_line, fault_line, no_memory_line}
 use Rattle.e_commands.specs.Wrote.{Wrote}
 use Rattle.e_commands.specs.Outcome.{BookOutcome, Begins, IsOutcomeOf, lines_of_book}
 use Rattle.e_commands.specs.Outcome.{Accepted as AcceptedBook, Faulty as FaultyBook}
 use Rattle.e_commands.specs.Answers.{Derived, AllDerived, OutputUpTo, OutcomeAfter, Refuses, Widens}
 use Rattle.e_commands.specs.Answers.{IsAnswer, theorems_of, steps_of}
 use Rattle.e_book.specs.Grammar.{Rest}
-
--- a book of these lines is accepted with these numbers of theorems and steps, and then `check`
--- writes this
-pub record IsAccepted (lines : Rest) (theorems steps : ℕ) (out : List ℕ) : Type 0 where
-  pub ended : OutputUpTo lines (OutcomeAfter lines (AcceptedBook theorems))
-      (accepted_line theorems) out
-  pub steps_are : steps ≡ steps_of ended.derived
+use Rattle.e_roundtrip.specs.Written.{accepted_blocks_line}
 
 -- its first theorems have derivations, and this holds after them
 pub record IsStopped (lines : Rest) (Holds : Known → Rest → Type 0) : Type 0 where
@@ -33,10 +27,13 @@ pub record IsStopped (lines : Rest) (Holds : Known → Rest → Type 0) : Type 0
   pub begins : Begins lines (theorems_of derived) known rest
   pub holds : Holds known rest
 
--- it is accepted so, and what is written then is verified
+-- a book of these lines is accepted with these numbers of theorems and steps, and what `check`
+-- writes then is verified
 pub record IsTrial (lines : Rest) (theorems steps : ℕ) : Type 0 where
   pub out : List ℕ
-  pub accepted : IsAccepted lines theorems steps out
+  pub ended : OutputUpTo lines (OutcomeAfter lines (AcceptedBook theorems))
+      (accepted_blocks_line theorems) out
+  pub steps_are : steps ≡ steps_of ended.derived
   pub verified : JudgesText out (judgements.Verified theorems)
 
 -- the line that is due with an answer to a book of these lines
@@ -53,13 +50,9 @@ TrialAnswer lines (status.Fault f) last =
 TrialAnswer lines status.NoMemory last = last ≡ no_memory_line
 TrialAnswer lines _ last = ⊥
 
--- a book of these lines is answered so, and this was written
-abbrev pub TriesLines : Rest → Option (List ℕ) → Option (List ℕ) → Status → Type 0
-TriesLines lines old new answer = Wrote (TrialAnswer lines) old new answer
-
 -- the generated book of n theorems is answered so, and this was written
 abbrev pub Tries : ℕ → Option (List ℕ) → Option (List ℕ) → Status → Type 0
-Tries n old new answer = TriesLines (lines_of_book (generated_text n)) old new answer
+Tries n old new answer = Wrote (TrialAnswer (lines_of_book (generated_text n))) old new answer
 
 -- as many theorems were tried as were asked for
 abbrev pub HasCount : ℕ → Status → Type 0

@@ -7,8 +7,7 @@ use Rattle.e_commands.specs.declared.status.Status.{Status}
 use Rattle.e_commands.specs.declared.status.Status.TheVariants as status
 use Rattle.e_commands.specs.LastLines.{verified_line, bad_line, garbled_line, text_limit_line}
 use Rattle.e_commands.specs.LastLines.{read_fault_line, no_memory_line}
-use Rattle.e_commands.specs.Wrote.{Wrote}
-use Rattle.e_commands.specs.Answers.{IsAllOf}
+use Rattle.e_commands.specs.Answers.{IsFailure}
 
 -- the answer of a judgement
 abbrev pub answer_of : Judgement → Status
@@ -35,22 +34,6 @@ TextAnswer text status.TextLimit out = (2 ^ 60 < length text) × (out ≡ text_l
 TextAnswer text status.ReadFault out = out ≡ read_fault_line
 TextAnswer text status.NoMemory out = out ≡ no_memory_line
 TextAnswer text _ out = ⊥
-
--- a text is answered so, and this was written
-abbrev pub Verifies : List ℕ → Option (List ℕ) → Option (List ℕ) → Status → Type 0
-Verifies text old new answer = Wrote (TextAnswer text) old new answer
-
--- the text that a source exposes is answered so, and this was written
-abbrev pub VerifiesText : Option (List ℕ) → Option (List ℕ) → Option (List ℕ) → Status → Type 0
-VerifiesText left old new answer =
-    (text : List ℕ) × IsAllOf left text × Verifies text old new answer
-
--- a fault of the source or the sink, or out of memory
-abbrev pub IsFailure : Status → Type 0
-IsFailure status.ReadFault = Unit {0}
-IsFailure status.WriteFault = Unit {0}
-IsFailure status.NoMemory = Unit {0}
-IsFailure _ = ⊥
 
 -- where a source exposes its bytes, and they are a text that has this judgement, the answer is
 -- that, or the run failed

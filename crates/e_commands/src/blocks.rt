@@ -1,30 +1,28 @@
 //! The block of a theorem in an answer, its lines with their certificates; how the blocks of a book
 //! end; and those of a book whose lines are all there.
-ghost use Rattle.std.specs.Prelude.{◌≡◌, ◌≤◌, ◌<◌, ◌^◌, false, length};
-ghost use Rattle.std.specs.Prelude.{IfOk, OnOk, IfErr, IsErrOf, IsTrue};
+ghost use Rattle.std.specs.Prelude.{◌≡◌, ◌≤◌, ◌<◌, ◌^◌, length, IfOk, IfErr, IsErrOf, IsTrue};
 ghost use Rattle.e_io.specs.Bytes.{Rose};
 ghost use Rattle.e_theorem.specs.Statements.{stated};
 ghost use Rattle.e_deriv.specs.Script.{script_of};
 ghost use Rattle.e_deriv.specs.Fitting.{IsFitting};
 ghost use Rattle.e_names.specs.TitledStatements.{stated_by};
-ghost use Rattle.e_names.specs.Taken.{is_taken};
 ghost use Rattle.e_book.specs.TheoremViews.{entry_of};
 ghost use Rattle.e_book.specs.Fits.{has_well_formed_literals};
 ghost use Rattle.e_prove.specs.Stops.{StopIs, HasNames};
-ghost use Rattle.e_commands.specs.Outcome.{and_theorem};
 ghost use Rattle.e_commands.specs.Answers.{HasBlock};
 ghost use Rattle.e_commands.specs.inner.BookResults.{BlocksAre, result_of_stop, result_of_fault};
 
 use crate::book::Book;
+use crate::output::Failure;
 use e_book::Theorem;
 use e_deriv::Stop;
 use e_io::Sink;
 use e_line::BookFault;
-use e_names::{Known, Theorems};
+use e_names::Theorems;
 use e_prove::prove;
 use e_spell::spell;
 use e_text::{Lines, Title};
-use std::alloc::{AllocError, Global};
+use std::alloc::Global;
 use std::mem;
 
 /// How the blocks of a book end.
@@ -36,25 +34,6 @@ pub enum BookResult {
     Stopped { title: Title, stop: Stop },
     /// The next line has a fault.
     Faulty(BookFault),
-}
-
-/// Why the blocks break off.
-#[derive(Clone, Copy)]
-pub enum RunError {
-    NoMemory,
-    ReadFault,
-    WriteFault,
-}
-
-impl From<AllocError> for RunError {
-    ghost use Rattle.std.specs.Prelude.{◌≡◌};
-    ghost use Rattle.e_commands.specs.declared.blocks.RunError.TheVariants.{NoMemory};
-
-    ghost from_gives = { λ _ e. e ≡ NoMemory };
-
-    fn from(_e: AllocError) -> RunError {
-        RunError::NoMemory
-    }
 }
 
 /// The block of a theorem with its derivation from those that are known.
@@ -75,40 +54,24 @@ pub fn block(alloc: Global, known: &Theorems, theorem: &Theorem) -> Result<Vec<u
 }
 
 /// That the next theorem stops, or that memory ran out.
-pub fn stopped(title: Title, stop: Stop) -> Result<Option<BookResult>, RunError>
+pub fn result_of_stop(title: Title, stop: Stop) -> Result<Option<BookResult>, Failure>
     ensures { result ≡ result_of_stop title stop }
 {
     if matches!(stop, Stop::NoMemory) {
         mem::drop(stop);
-        return Err(RunError::NoMemory);
+        return Err(Failure::NoMemory);
     }
     Ok(Some(BookResult::Stopped { title, stop }))
 }
 
 /// That the next line has a fault, or that memory ran out.
-pub fn faulty(fault: BookFault) -> Result<Option<BookResult>, RunError>
+pub fn result_of_fault(fault: BookFault) -> Result<Option<BookResult>, Failure>
     ensures { result ≡ result_of_fault fault }
 {
     if matches!(fault, BookFault::NoMemory) {
-        return Err(RunError::NoMemory);
+        return Err(Failure::NoMemory);
     }
     Ok(Some(BookResult::Faulty(fault)))
-}
-
-/// Keeps the title and the statement of a theorem.
-pub fn keep(known: &mut Known, theorem: Theorem) -> Result<(), AllocError>
-    requires { is_taken known.old theorem.title ≡ false }
-    ensures { OnOk result (known.new ≡ and_theorem known.old (entry_of theorem)) }
-{
-    let Theorem {
-        title,
-        names,
-        statement,
-        block,
-    } = theorem;
-    mem::drop(names);
-    mem::drop(block);
-    known.add(title, statement)
 }
 
 /// Takes the theorems one after another, and writes the block of each.
@@ -116,13 +79,13 @@ pub fn blocks<K: Sink>(
     alloc: Global,
     lines: &mut Lines,
     sink: &mut K,
-) -> Result<BookResult, RunError>
+) -> Result<BookResult, Failure>
     requires first { lines.old.line ≡ 1 }
     requires few { length lines.old.lines < 2 ^ 31 }
     ensures book_result { BlocksAre lines.old.lines (K.written sink.old)
         (K.written sink.new) result }
     ensures rises { K.faults sink.old ≤ K.faults sink.new }
-    ensures cause { IsErrOf result RunError.WriteFault
+    ensures cause { IsErrOf result Failure.WriteFault
         → Rose (K.faults sink.old) (K.faults sink.new) }
 {
     let mut book = Book::new(alloc);

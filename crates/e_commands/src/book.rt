@@ -1,23 +1,24 @@
 //! A book while its lines come: each theorem is checked, and its block written, as soon as its last
 //! line has come.
-ghost use Rattle.std.specs.Prelude.{◌≡◌, ◌≤◌, ◌<◌, ◌^◌, ◌++◌, ℕ, List, [], Option};
-ghost use Rattle.std.specs.Prelude.{Some, None, Ok, false, IfOk, IfNone, IsErrOf};
+ghost use Rattle.std.specs.Prelude.{◌≡◌, ◌≤◌, ◌<◌, ◌^◌, ◌++◌, ℕ, List, [], Option, Some, None, Ok};
+ghost use Rattle.std.specs.Prelude.{IfOk, IfNone, IsErrOf};
 ghost use Rattle.e_io.specs.Bytes.{Rose};
 ghost use Rattle.e_book.specs.Grammar.{last_line, Rest};
-ghost use Rattle.e_names.specs.Titled.{defines};
 ghost use Rattle.e_book.specs.Definitions.{OfTheorem, view_of, item_from, HasWellFormedView};
 ghost use Rattle.e_book.specs.TheoremViews.{entry_of};
 ghost use Rattle.e_book.specs.HasSpelling.{HasSpelling};
 ghost use Rattle.e_commands.specs.Outcome.{end_line_number};
 ghost use Rattle.e_commands.specs.inner.BookResults.{BlocksAre};
-ghost use Rattle.e_commands.specs.inner.Progress.{History, IsBook, Reaches, Handles};
-ghost use Rattle.e_commands.specs.inner.Progress.{BookTakes, AreTaken, first_book, result_at};
-ghost use Rattle.e_commands.specs.declared.blocks.RunError.{RunError};
+ghost use Rattle.e_commands.specs.inner.Progress.{History, IsBook, Reaches, Handles, BookTakes};
+ghost use Rattle.e_commands.specs.inner.Progress.{AreTaken, first_book, result_at};
+ghost use Rattle.e_commands.specs.declared.output.Failure.{Failure};
 
-use crate::blocks::{BookResult, RunError, block, faulty, keep, stopped};
+use crate::blocks::{BookResult, block, result_of_fault, result_of_stop};
+use crate::output::Failure;
 use e_book::{Item, Reading, Theorem};
 use e_deriv::size;
 use e_io::{Sink, write_all};
+use e_judgement::keep;
 use e_names::Known;
 use e_text::Lines;
 use std::alloc::Global;
@@ -52,11 +53,10 @@ impl Book {
         alloc: Global,
         theorem: Theorem,
         sink: &mut K,
-    ) -> Result<Option<BookResult>, RunError>
+    ) -> Result<Option<BookResult>, Failure>
         requires book { IsBook self.old }
         requires begins { self.old.reading.partial_item ≡ None }
         requires spelled { HasSpelling self.old.known.theorems (entry_of theorem) }
-        requires title { defines self.old.known.notions theorem.title ≡ false }
         ensures handles { (lines rest after : Rest) (before : Option (List ℕ))
             → History lines before self.old.known rest (K.written sink.old) self.old.steps
             → item_from self.old.known (end_line_number lines) None rest
@@ -65,7 +65,7 @@ impl Book {
         ensures book { IfOk result (λ e. IfNone e (IsBook self.new)) }
         ensures begins { IfOk result (λ e. IfNone e (self.new.reading.partial_item ≡ None)) }
         ensures rises { K.faults sink.old ≤ K.faults sink.new }
-        ensures cause { IsErrOf result RunError.WriteFault
+        ensures cause { IsErrOf result Failure.WriteFault
             → Rose (K.faults sink.old) (K.faults sink.new) }
     {
         let block = match block(alloc, &self.known.theorems, &theorem) {
@@ -73,16 +73,16 @@ impl Book {
             Err(stop) => {
                 let title = theorem.title;
                 mem::drop(theorem);
-                return stopped(title, stop);
+                return result_of_stop(title, stop);
             }
         };
         let Ok(()) = write_all(sink, &block) else {
             mem::drop(theorem);
-            return Err(RunError::WriteFault);
+            return Err(Failure::WriteFault);
         };
         let count = size(&theorem.block);
-        let Ok(()) = keep(&mut self.known, theorem) else {
-            return Err(RunError::NoMemory);
+        let Ok(()) = keep(&mut self.known.theorems, theorem) else {
+            return Err(Failure::NoMemory);
         };
         self.theorems += 1;
         self.steps += count;
@@ -95,7 +95,7 @@ impl Book {
         alloc: Global,
         item: Item,
         sink: &mut K,
-    ) -> Result<Option<BookResult>, RunError>
+    ) -> Result<Option<BookResult>, Failure>
         requires book { IsBook self.old }
         requires begins { self.old.reading.partial_item ≡ None }
         requires good { HasWellFormedView self.old.known item }
@@ -107,14 +107,14 @@ impl Book {
         ensures book { IfOk result (λ e. IfNone e (IsBook self.new)) }
         ensures begins { IfOk result (λ e. IfNone e (self.new.reading.partial_item ≡ None)) }
         ensures rises { K.faults sink.old ≤ K.faults sink.new }
-        ensures cause { IsErrOf result RunError.WriteFault
+        ensures cause { IsErrOf result Failure.WriteFault
             → Rose (K.faults sink.old) (K.faults sink.new) }
     {
         match item {
             Item::Theorem(theorem) => self.handle(alloc, theorem, sink),
             Item::Notion(title, notion) => {
                 let Ok(()) = self.known.add_notion(title, notion) else {
-                    return Err(RunError::NoMemory);
+                    return Err(Failure::NoMemory);
                 };
                 Ok(None)
             }
@@ -128,7 +128,7 @@ impl Book {
         alloc: Global,
         lines: &mut Lines,
         sink: &mut K,
-    ) -> Result<Option<BookResult>, RunError>
+    ) -> Result<Option<BookResult>, Failure>
         requires book { IsBook self.old }
         requires lines { last_line lines.old < 2 ^ 32 }
         ensures takes { (all : Rest → Rest) (before : Option (List ℕ))
@@ -137,14 +137,14 @@ impl Book {
         ensures taken { IfOk result (λ e. IfNone e (AreTaken lines.old lines.new)) }
         ensures book { IfOk result (λ e. IfNone e (IsBook self.new)) }
         ensures rises { K.faults sink.old ≤ K.faults sink.new }
-        ensures cause { IsErrOf result RunError.WriteFault
+        ensures cause { IsErrOf result Failure.WriteFault
             → Rose (K.faults sink.old) (K.faults sink.new) }
     {
         loop {
             let item = match self.reading.read(alloc, lines, &self.known) {
                 Ok(Some(item)) => item,
                 Ok(None) => return Ok(None),
-                Err(fault) => return faulty(fault),
+                Err(fault) => return result_of_fault(fault),
             };
             match self.handle_item(alloc, item, sink)? {
                 None => {}
@@ -174,7 +174,7 @@ impl Book {
         alloc: Global,
         lines: &mut Lines,
         sink: &mut K,
-    ) -> Result<BookResult, RunError>
+    ) -> Result<BookResult, Failure>
         requires book { IsBook self.old }
         requires lines { last_line lines.old < 2 ^ 32 }
         ensures ends { (all : Rest → Rest) (before : Option (List ℕ))
@@ -182,7 +182,7 @@ impl Book {
             → Reaches all (λ more. lines.old.lines ++ more) before self.old (K.written sink.old)
             → BlocksAre (all []) before (K.written sink.new) result }
         ensures rises { K.faults sink.old ≤ K.faults sink.new }
-        ensures cause { IsErrOf result RunError.WriteFault
+        ensures cause { IsErrOf result Failure.WriteFault
             → Rose (K.faults sink.old) (K.faults sink.new) }
     {
         match self.take(alloc, lines, sink)? {

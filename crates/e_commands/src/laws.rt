@@ -1,6 +1,6 @@
 //! What follows from the definitions of books and their outcomes.
 ghost use Rattle.e_commands.specs.Laws.{BooksHaveOneOutcome, RefusalIsOutcome, TooWideIsWide};
-ghost use Rattle.e_commands.specs.Laws.{WaysAreOne};
+ghost use Rattle.e_commands.specs.Laws.{SuggestionsAreOne, WaysAreOne};
 
 /// A book has one outcome.
 pub fn books_have_one_outcome()
@@ -21,4 +21,9 @@ pub fn too_wide_is_wide()
 /// is none, or the stop or the fault before it.
 pub fn ways_are_one()
     ensures { WaysAreOne }
+{}
+
+/// What is suggested at a step of a theorem of a book is one.
+pub fn suggestions_are_one()
+    ensures { SuggestionsAreOne }
 {}

@@ -20,10 +20,13 @@ mod suggestions;
 mod trier;
 mod verifier;
 
-pub use checker::{check, close};
+pub use checker::check;
 pub use drawer::figure;
-pub use laws::{books_have_one_outcome, refusal_is_outcome, too_wide_is_wide, ways_are_one};
+pub use laws::{
+    books_have_one_outcome, refusal_is_outcome, suggestions_are_one, too_wide_is_wide, ways_are_one,
+};
 pub use maker::make;
+pub use output::close;
 pub use rewriter::rewrite;
 pub use rewriting::Job;
 pub use status::{Status, exit_code};

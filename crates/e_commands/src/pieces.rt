@@ -1,6 +1,6 @@
 //! A book that is read piece by piece: its lines are taken as soon as they have their end.
-ghost use Rattle.std.specs.Prelude.{◌≡◌, ◌≤◌, ◌+◌, ◌++◌, ℕ, List, [], length};
-ghost use Rattle.std.specs.Prelude.{Option, IfOk, IfNone, IsErrOf, vec_len};
+ghost use Rattle.std.specs.Prelude.{◌≡◌, ◌≤◌, ◌+◌, ◌++◌, ℕ, List, [], length, Option, IfOk, IfNone};
+ghost use Rattle.std.specs.Prelude.{IsErrOf, vec_len};
 ghost use Rattle.e_io.specs.Bytes.{Rose};
 ghost use Rattle.e_text.specs.Lines.{IsClosed, IsOpen, lines_of};
 ghost use Rattle.e_commands.specs.Input.{IsAtEnd};
@@ -9,11 +9,12 @@ ghost use Rattle.e_commands.specs.inner.BookResults.{BlocksAre, IsAll};
 ghost use Rattle.e_commands.specs.inner.Progress.{IsBook, IsReadUpTo, PieceTakes, first_book};
 ghost use Rattle.e_commands.specs.inner.Handled.{HandledBlocks, TextResultIs};
 ghost use Rattle.e_commands.specs.Taken.{TookFew};
-ghost use Rattle.e_commands.specs.declared.blocks.RunError.{RunError};
+ghost use Rattle.e_commands.specs.declared.output.Failure.{Failure};
 
-use crate::blocks::{BookResult, RunError};
+use crate::blocks::BookResult;
 use crate::book::Book;
 use crate::input::{LONGEST_LINE, MOST_BYTES};
+use crate::output::Failure;
 use e_io::{Sink, Source};
 use e_text::{Lines, closed_len};
 use std::alloc::Global;
@@ -78,7 +79,7 @@ fn take_closed<K: Sink>(
     book: &mut Book,
     untaken: &mut Untaken,
     sink: &mut K,
-) -> Result<Option<BookResult>, RunError>
+) -> Result<Option<BookResult>, Failure>
     requires book { IsBook book.old }
     requires line { untaken.old.line ≤ untaken.old.before + 1 }
     requires few { untaken.old.before + vec_len untaken.old.bytes ≤ 4194305 }
@@ -92,7 +93,7 @@ fn take_closed<K: Sink>(
         (λ e. IfNone e (untaken.new.before ≡ untaken.old.before + vec_len untaken.old.bytes)) }
     ensures line { IfOk result (λ e. IfNone e (untaken.new.line ≤ untaken.new.before + 1)) }
     ensures rises { K.faults sink.old ≤ K.faults sink.new }
-    ensures cause { IsErrOf result RunError.WriteFault
+    ensures cause { IsErrOf result Failure.WriteFault
         → Rose (K.faults sink.old) (K.faults sink.new) }
 {
     let mut lines = untaken.lines();
@@ -115,7 +116,7 @@ fn take_piece<K: Sink>(
     untaken: &mut Untaken,
     piece: &[u8],
     sink: &mut K,
-) -> Result<Option<BookResult>, RunError>
+) -> Result<Option<BookResult>, Failure>
     requires book { IsBook book.old }
     requires line { untaken.old.line ≤ untaken.old.before + 1 }
     requires few { untaken.old.before + vec_len untaken.old.bytes + length piece.now ≤ 4194305 }
@@ -129,7 +130,7 @@ fn take_piece<K: Sink>(
         ≡ untaken.old.before + vec_len untaken.old.bytes + length piece.now)) }
     ensures line { IfOk result (λ e. IfNone e (untaken.new.line ≤ untaken.new.before + 1)) }
     ensures rises { K.faults sink.old ≤ K.faults sink.new }
-    ensures cause { IsErrOf result RunError.WriteFault
+    ensures cause { IsErrOf result Failure.WriteFault
         → Rose (K.faults sink.old) (K.faults sink.new) }
 {
     let (ended, rest) = piece.split_at(closed_len(piece));
@@ -152,7 +153,7 @@ fn take_last<K: Sink>(
     book: &mut Book,
     untaken: &Untaken,
     sink: &mut K,
-) -> Result<BookResult, RunError>
+) -> Result<BookResult, Failure>
     requires book { IsBook book.old }
     requires line { untaken.now.line ≤ untaken.now.before + 1 }
     requires few { untaken.now.before + vec_len untaken.now.bytes ≤ 4194305 }
@@ -160,7 +161,7 @@ fn take_last<K: Sink>(
         → IsReadUpTo read before book.old untaken.now (K.written sink.old)
         → BlocksAre (lines_of_book read) before (K.written sink.new) result }
     ensures rises { K.faults sink.old ≤ K.faults sink.new }
-    ensures cause { IsErrOf result RunError.WriteFault
+    ensures cause { IsErrOf result Failure.WriteFault
         → Rose (K.faults sink.old) (K.faults sink.new) }
 {
     let mut lines = untaken.lines();
@@ -174,19 +175,19 @@ fn take_source<S: Source, K: Sink>(
     book: &mut Book,
     source: &mut S,
     sink: &mut K,
-) -> Result<BookResult, RunError>
+) -> Result<BookResult, Failure>
     requires { book.old ≡ first_book }
     ensures ends { TextResultIs (S.left source.old) (K.written sink.old)
         (K.written sink.new) result }
-    ensures handled { IsErrOf result RunError.ReadFault → HandledBlocks (S.left source.old)
+    ensures handled { IsErrOf result Failure.ReadFault → HandledBlocks (S.left source.old)
         (S.left source.new) (K.written sink.old) (K.written sink.new) }
     ensures took { TookFew (S.left source.old) (S.left source.new) }
     ensures end { IfOk result (λ e. IsAll e → IsAtEnd (S.left source.new)) }
     ensures read_rises { S.faults source.old ≤ S.faults source.new }
-    ensures read_cause { IsErrOf result RunError.ReadFault
+    ensures read_cause { IsErrOf result Failure.ReadFault
         → Rose (S.faults source.old) (S.faults source.new) }
     ensures write_rises { K.faults sink.old ≤ K.faults sink.new }
-    ensures write_cause { IsErrOf result RunError.WriteFault
+    ensures write_cause { IsErrOf result Failure.WriteFault
         → Rose (K.faults sink.old) (K.faults sink.new) }
 {
     let mut untaken = Untaken::new(alloc);
@@ -195,7 +196,7 @@ fn take_source<S: Source, K: Sink>(
         let room = (MOST_BYTES + 1 - untaken.count()).min(PIECE);
         let n = match source.read(&mut buffer[..room]) {
             Ok(n) => n,
-            Err(_) => return Err(RunError::ReadFault),
+            Err(_) => return Err(Failure::ReadFault),
         };
         if n == 0 {
             return take_last(alloc, book, &untaken, sink);
@@ -214,18 +215,18 @@ pub fn blocks_of_source<S: Source, K: Sink>(
     alloc: Global,
     source: &mut S,
     sink: &mut K,
-) -> Result<BookResult, RunError>
+) -> Result<BookResult, Failure>
     ensures ends { TextResultIs (S.left source.old) (K.written sink.old)
         (K.written sink.new) result }
-    ensures handled { IsErrOf result RunError.ReadFault → HandledBlocks (S.left source.old)
+    ensures handled { IsErrOf result Failure.ReadFault → HandledBlocks (S.left source.old)
         (S.left source.new) (K.written sink.old) (K.written sink.new) }
     ensures took { TookFew (S.left source.old) (S.left source.new) }
     ensures end { IfOk result (λ e. IsAll e → IsAtEnd (S.left source.new)) }
     ensures read_rises { S.faults source.old ≤ S.faults source.new }
-    ensures read_cause { IsErrOf result RunError.ReadFault
+    ensures read_cause { IsErrOf result Failure.ReadFault
         → Rose (S.faults source.old) (S.faults source.new) }
     ensures write_rises { K.faults sink.old ≤ K.faults sink.new }
-    ensures write_cause { IsErrOf result RunError.WriteFault
+    ensures write_cause { IsErrOf result Failure.WriteFault
         → Rose (K.faults sink.old) (K.faults sink.new) }
 {
     let mut book = Book::new(alloc);

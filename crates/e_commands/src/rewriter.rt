@@ -1,18 +1,17 @@
 //! `upgrade`, `trim` and `uses`: a derivation text is read and verified, and what the command
 //! writes of a theorem is written as soon as that one is verified.
-ghost use Rattle.std.specs.Prelude.{◌≡◌, ◌≤◌, ◌^◌, [], length, IfErr, OnOk, IsErrOf};
+ghost use Rattle.std.specs.Prelude.{◌≡◌, ◌≤◌, ◌^◌, [], length, IfOk, IfErr, OnOk, IsErrOf};
 ghost use Rattle.e_io.specs.Bytes.{Rose};
 ghost use Rattle.e_book.specs.TheoremViews.{entry_of};
 ghost use Rattle.e_book.specs.Grammar.{last_line};
-ghost use Rattle.e_commands.specs.Answers.{IsReadFault, IsWriteFault};
+ghost use Rattle.e_commands.specs.Answers.{IsReadFault, IsWriteFault, WroteOfText};
 ghost use Rattle.e_commands.specs.Input.{IsAtEnd};
-ghost use Rattle.e_commands.specs.Rewrites.{RewritesText, IsRewritten};
-ghost use Rattle.e_commands.specs.inner.Rewriting.{BlocksWritten, Broke, IsReadFor, IsReported};
-ghost use Rattle.e_commands.specs.inner.Rewriting.{IsVerified, Passed, TheoremsWritten};
+ghost use Rattle.e_commands.specs.Rewrites.{IsRewritten, answer_of, end_line_of_job, RewriteAnswer};
+ghost use Rattle.e_commands.specs.inner.Rewriting.{BlocksWritten, Broke, IsReadFor, IsVerified};
+ghost use Rattle.e_commands.specs.inner.Rewriting.{Passed, TheoremsWritten};
 
-use crate::blocks::RunError;
-use crate::checker::close;
-use crate::input::{InputFault, MOST_TEXT, read_text};
+use crate::input::{MOST_TEXT, read_text};
+use crate::output::{Answer, Failure, close, finish, or_no_memory};
 use crate::rewriting::{Job, answer_of, block_of, head_of, line_of, read_as};
 use crate::status::Status;
 use e_book::Theorem;
@@ -21,7 +20,7 @@ use e_io::{Sink, Source, write_all};
 use e_judgement::{Judgement, LONGEST_LINE, NextItem, begins, keep, next_item};
 use e_names::Theorems;
 use e_text::Lines;
-use std::alloc::Global;
+use std::alloc::{AllocError, Global};
 use std::mem;
 
 /// Writes what the command writes of a verified theorem, and keeps its title and its statement.
@@ -31,26 +30,26 @@ fn pass<K: Sink>(
     known: &mut Theorems,
     theorem: Theorem,
     sink: &mut K,
-) -> Result<(), RunError>
+) -> Result<(), Failure>
     requires { IsVerified job known.old (entry_of theorem) }
     ensures passed { OnOk result (Passed job known.old (entry_of theorem) known.new
         (K.written sink.old) (K.written sink.new)) }
     ensures broke { IfErr result
         (Broke job known.old (entry_of theorem) (K.written sink.old) (K.written sink.new)) }
     ensures rises { K.faults sink.old ≤ K.faults sink.new }
-    ensures cause { IsErrOf result RunError.WriteFault
+    ensures cause { IsErrOf result Failure.WriteFault
         → Rose (K.faults sink.old) (K.faults sink.new) }
 {
     let Ok(block) = block_of(alloc, job, known, &theorem) else {
         mem::drop(theorem);
-        return Err(RunError::NoMemory);
+        return Err(Failure::NoMemory);
     };
     let Ok(()) = write_all(sink, &block) else {
         mem::drop(theorem);
-        return Err(RunError::WriteFault);
+        return Err(Failure::WriteFault);
     };
     let Ok(()) = keep(known, theorem) else {
-        return Err(RunError::NoMemory);
+        return Err(Failure::NoMemory);
     };
     Ok(())
 }
@@ -64,20 +63,20 @@ fn rewrite_theorems<K: Sink>(
     known: &mut Theorems,
     lines: &mut Lines,
     sink: &mut K,
-) -> Result<Judgement, RunError>
+) -> Result<Judgement, Failure>
     requires none { known.old ≡ [] }
     requires version { IsReadFor job version }
     ensures wrote { TheoremsWritten job version (last_line lines.old) lines.old.lines
         (K.written sink.old) (K.written sink.new) result }
     ensures rises { K.faults sink.old ≤ K.faults sink.new }
-    ensures cause { IsErrOf result RunError.WriteFault
+    ensures cause { IsErrOf result Failure.WriteFault
         → Rose (K.faults sink.old) (K.faults sink.new) }
 {
     loop {
         let theorem = match next_item(alloc, version, known, lines) {
             Ok(NextItem::Theorem(theorem)) => theorem,
             Ok(NextItem::End(judgement)) => return Ok(judgement),
-            Err(_) => return Err(RunError::NoMemory),
+            Err(_) => return Err(Failure::NoMemory),
         };
         pass(alloc, job, known, theorem, sink)?;
     }
@@ -90,11 +89,11 @@ fn rewrite_blocks<K: Sink>(
     job: Job,
     text: &[u8],
     sink: &mut K,
-) -> Result<Judgement, RunError>
+) -> Result<Judgement, Failure>
     requires { length text.now ≤ 2 ^ 60 }
     ensures wrote { BlocksWritten job text.now (K.written sink.old) (K.written sink.new) result }
     ensures rises { K.faults sink.old ≤ K.faults sink.new }
-    ensures cause { IsErrOf result RunError.WriteFault
+    ensures cause { IsErrOf result Failure.WriteFault
         → Rose (K.faults sink.old) (K.faults sink.new) }
 {
     let mut lines = Lines::new(text, LONGEST_LINE, text.len() as u64);
@@ -107,23 +106,22 @@ fn rewrite_blocks<K: Sink>(
     judged
 }
 
-/// Writes the last line with a judgement, and gives the answer.
-fn report<K: Sink>(alloc: Global, job: Job, judgement: Judgement, sink: &mut K) -> Status
-    ensures reported { IsReported job (K.written sink.old) (K.written sink.new) judgement result }
-    ensures rises { K.faults sink.old ≤ K.faults sink.new }
-    ensures cause { IsWriteFault result → Rose (K.faults sink.old) (K.faults sink.new) }
-    ensures no_read { IsReadFault result → ⊥ }
+/// The answer with a judgement.
+fn answer_to(alloc: Global, job: Job, judgement: Judgement) -> Result<Answer, AllocError>
+    ensures { IfOk result (λ a. (a.status ≡ answer_of job judgement)
+        × (a.line.items ≡ end_line_of_job job judgement)) }
 {
-    match line_of(alloc, job, &judgement) {
-        Ok(line) => close(sink, &line, answer_of(job, judgement)),
-        Err(_) => close(sink, b"no memory\n", Status::NoMemory),
-    }
+    let line = line_of(alloc, job, &judgement)?;
+    Ok(Answer {
+        status: answer_of(job, judgement),
+        line,
+    })
 }
 
 /// Reads a derivation text from a source, and writes to a sink the head, what the command writes of
 /// each theorem as soon as it is verified, and the last line.
 pub fn rewrite<S: Source, K: Sink>(alloc: Global, job: Job, source: &mut S, sink: &mut K) -> Status
-    ensures rewrites { RewritesText job (S.left source.old) (K.written sink.old)
+    ensures rewrites { WroteOfText (RewriteAnswer job) (S.left source.old) (K.written sink.old)
         (K.written sink.new) result }
     ensures end { IsRewritten result → IsAtEnd (S.left source.new) }
     ensures read_rises { S.faults source.old ≤ S.faults source.new }
@@ -136,16 +134,13 @@ pub fn rewrite<S: Source, K: Sink>(alloc: Global, job: Job, source: &mut S, sink
     };
     let text = match read_text(alloc, source, MOST_TEXT) {
         Ok(text) => text,
-        Err(InputFault::ReadFault) => return close(sink, b"read fault\n", Status::ReadFault),
-        Err(InputFault::NoMemory) => return close(sink, b"no memory\n", Status::NoMemory),
+        Err(failure) => return finish(sink, Err(failure)),
     };
     if text.len() > MOST_TEXT {
         return close(sink, b"text limit\n", Status::TextLimit);
     }
     match rewrite_blocks(alloc, job, &text, sink) {
-        Ok(judgement) => report(alloc, job, judgement, sink),
-        Err(RunError::NoMemory) => close(sink, b"no memory\n", Status::NoMemory),
-        Err(RunError::ReadFault) => close(sink, b"read fault\n", Status::ReadFault),
-        Err(RunError::WriteFault) => Status::WriteFault,
+        Ok(judgement) => finish(sink, or_no_memory(answer_to(alloc, job, judgement))),
+        Err(failure) => finish(sink, Err(failure)),
     }
 }

@@ -13,7 +13,7 @@ ghost use Rattle.e_verify.specs.Verdicts.{IsVerifiable};
 ghost use Rattle.e_commands.specs.Rewrites;
 ghost use Rattle.e_commands.specs.inner.Rewriting.{HasVersionFor, IsOfSecond};
 
-use crate::output::{accepted, bad, garbled, listed};
+use crate::output::{accepted_line, bad_line, garbled_line, listed_line};
 use crate::status::Status;
 use e_book::Theorem;
 use e_clause::Version;
@@ -167,12 +167,12 @@ pub fn line_of(alloc: Global, job: Job, judgement: &Judgement) -> Result<Vec<u8>
 {
     match judgement {
         Judgement::Verified { theorems } => match job {
-            Job::Upgrade => accepted(alloc, *theorems),
-            Job::Trim => accepted(alloc, *theorems),
-            Job::Uses => listed(alloc, *theorems),
+            Job::Upgrade => accepted_line(alloc, *theorems),
+            Job::Trim => accepted_line(alloc, *theorems),
+            Job::Uses => listed_line(alloc, *theorems),
         },
-        Judgement::Bad { title, step } => bad(alloc, *title, *step),
-        Judgement::Garbled { line } => garbled(alloc, *line),
+        Judgement::Bad { title, step } => bad_line(alloc, *title, *step),
+        Judgement::Garbled { line } => garbled_line(alloc, *line),
     }
 }
 

@@ -1,69 +1,42 @@
 //! `suggest`: which earlier theorems may be applied at a step of a theorem.
-ghost use Rattle.std.specs.Prelude.{◌≡◌, ◌≤◌, ◌<◌, ◌^◌, ◌++◌, [], length, false, IfOk, IsTrue};
+ghost use Rattle.std.specs.Prelude.{◌≡◌, ◌≤◌, ◌<◌, ◌^◌, ◌++◌, length, IfOk, IsTrue};
 ghost use Rattle.std.specs.List.{list_all};
 ghost use Rattle.std.specs.Str.{bytes_eq};
 ghost use Rattle.e_io.specs.Bytes.{Rose};
 ghost use Rattle.e_theorem.specs.Statements.{stated};
 ghost use Rattle.e_deriv.specs.Script.{script_of};
 ghost use Rattle.e_deriv.specs.Fitting.{IsFitting, is_small_statement};
-ghost use Rattle.e_book.specs.Definitions.{OfTheorem, view_of, IsWellFormedItem};
-ghost use Rattle.e_book.specs.Definitions.{HasWellFormedView, IsFittingItem};
+ghost use Rattle.e_book.specs.Definitions.{OfTheorem, view_of, IsWellFormedItem, HasWellFormedView};
+ghost use Rattle.e_book.specs.Definitions.{IsFittingItem};
 ghost use Rattle.e_book.specs.TheoremViews.{entry_of};
 ghost use Rattle.e_names.specs.TitledStatements.{stated_by};
 ghost use Rattle.e_names.specs.Taken.{nothing_known};
-ghost use Rattle.e_commands.specs.Answers.{IsReadFault, IsWriteFault};
-ghost use Rattle.e_commands.specs.declared.status.Status.TheVariants.{Fault, NoStep, Suggested};
-ghost use Rattle.e_commands.specs.LastLines.{fault_line, no_step_line, suggested_line};
-ghost use Rattle.e_commands.specs.DrawerAnswers.{lacks_memory};
+ghost use Rattle.e_commands.specs.Answers.{IsReadFault, IsWriteFault, WroteOfText};
+ghost use Rattle.e_commands.specs.declared.status.Status.TheVariants.{Suggested};
+ghost use Rattle.e_commands.specs.LastLines.{suggested_line};
 ghost use Rattle.e_commands.specs.Outcome.{lines_of_book};
-ghost use Rattle.e_commands.specs.SuggesterAnswers.{SuggestsBook};
+ghost use Rattle.e_commands.specs.SuggesterAnswers.{SuggestAnswer};
+ghost use Rattle.e_commands.specs.inner.Finished.{HasDueOfText, HasReadFault};
 ghost use Rattle.e_commands.specs.inner.Suggesting.{AnswersAt, AnswersNext, PassesNext};
 ghost use Rattle.e_commands.specs.inner.Suggesting.{IsBookAnswer, IsStopAnswer, is_out_of_memory};
 
-use crate::blocks::keep;
-use crate::checker::{close, stop_answer};
-use crate::drawer::lacks_memory;
-use crate::input::{InputFault, LONGEST_LINE, MOST_BYTES, read_text};
-use crate::output::{fault, suggested};
+use crate::checker::stop_answer;
+use crate::input::{LONGEST_LINE, MOST_BYTES, read_text};
+use crate::output::{
+    Answer, Failure, answer_of_fault, answer_with, finish, or_no_memory, suggested_line,
+};
 use crate::status::Status;
 use crate::suggestions::{Listed, list_theorems};
-use crate::trier::Answer;
 use e_book::{Item, Theorem, next_item};
 use e_deriv::{Stop, Wanted, size};
 use e_io::{Sink, Source};
-use e_line::BookFault;
+use e_judgement::keep;
 use e_names::{Known, Theorems};
 use e_prove::{Place, context_at, prove};
 use e_spell::spell_stop;
 use e_text::{Lines, Title};
 use std::alloc::{AllocError, Global};
 use std::mem;
-
-/// The answer that there is no such step.
-fn no_step(alloc: Global) -> Result<Answer, AllocError>
-    ensures { IfOk result (λ a. (a.status ≡ NoStep) × (a.line.items ≡ no_step_line)) }
-{
-    let line = Vec::from_slice(alloc, b"no step\n")?;
-    Ok(Answer {
-        status: Status::NoStep,
-        line,
-    })
-}
-
-/// The answer to a fault; to out of memory there is none.
-fn faulty(alloc: Global, at: BookFault) -> Result<Answer, AllocError>
-    ensures { IfOk result
-        (λ a. (lacks_memory at ≡ false) × (a.status ≡ Fault at) × (a.line.items ≡ fault_line at)) }
-{
-    if lacks_memory(at) {
-        return Err(AllocError);
-    }
-    let line = fault(alloc, &at)?;
-    Ok(Answer {
-        status: Status::Fault(at),
-        line,
-    })
-}
 
 /// Whether the stop is out of memory, which says nothing of the book.
 fn is_out_of_memory(stop: &Stop) -> bool
@@ -72,8 +45,8 @@ fn is_out_of_memory(stop: &Stop) -> bool
     matches!(stop, Stop::NoMemory)
 }
 
-/// The answer to a stop; to out of memory there is none.
-fn stopped(alloc: Global, title: Title, stop: Stop) -> Result<Answer, AllocError>
+/// The answer to a theorem with this stop, unless memory ran out.
+fn answer_of_stop(alloc: Global, title: Title, stop: Stop) -> Result<Answer, AllocError>
     ensures { IfOk result (λ a. IsStopAnswer title stop a.status a.line.items) }
 {
     if is_out_of_memory(&stop) {
@@ -103,7 +76,7 @@ fn with_last_line(
         × (a.line.items ≡ text.items ++ suggested_line lines more)) }
 {
     let mut text = text;
-    let last = suggested(alloc, lines, more)?;
+    let last = suggested_line(alloc, lines, more)?;
     text.extend_from_slice(&last)?;
     Ok(Answer {
         status: Status::Suggested { lines, more },
@@ -127,8 +100,7 @@ fn answer_at(
     place.context.solve(alloc)?;
     let mut text = Vec::new(alloc);
     match list_theorems(alloc, known, place, &mut text)? {
-        Listed::All(lines) => with_last_line(alloc, text, lines as u32, false),
-        Listed::Full(lines) => with_last_line(alloc, text, lines as u32, true),
+        Listed::Found { lines, more } => with_last_line(alloc, text, lines as u32, more),
         Listed::TooWide(width) => {
             let names = place.names.copy(alloc)?;
             let stop = Stop::TooWide {
@@ -137,7 +109,7 @@ fn answer_at(
                 width,
                 names,
             };
-            stopped(alloc, title, stop)
+            answer_of_stop(alloc, title, stop)
         }
     }
 }
@@ -159,11 +131,11 @@ fn answer_on(
 {
     let steps = size(&theorem.block);
     if steps < step {
-        return no_step(alloc);
+        return answer_with(alloc, Status::NoStep, b"no step\n");
     }
     let mut place = match context_at(alloc, known.statements(), theorem, step) {
         Ok(place) => place,
-        Err(stop) => return stopped(alloc, theorem.title, stop),
+        Err(stop) => return answer_of_stop(alloc, theorem.title, stop),
     };
     let answer = answer_at(alloc, known, &mut place, theorem.title, step);
     mem::drop(place);
@@ -203,12 +175,12 @@ fn pass_theorem(
     match prove(alloc, known.theorems.statements(), &theorem) {
         Ok(derivation) => mem::drop(derivation),
         Err(stop) => {
-            let answer = stopped(alloc, theorem.title, stop);
+            let answer = answer_of_stop(alloc, theorem.title, stop);
             mem::drop(theorem);
             return Ok(Some(answer?));
         }
     }
-    keep(known, theorem)?;
+    keep(&mut known.theorems, theorem)?;
     Ok(None)
 }
 
@@ -253,8 +225,8 @@ fn answer_to(
     loop {
         let item = match next_item(alloc, lines, known) {
             Ok(Some(item)) => item,
-            Ok(None) => return no_step(alloc),
-            Err(at) => return faulty(alloc, at),
+            Ok(None) => return answer_with(alloc, Status::NoStep, b"no step\n"),
+            Err(at) => return answer_of_fault(alloc, at),
         };
         match pass_item(alloc, known, item, title, step)? {
             None => {}
@@ -277,6 +249,26 @@ fn answer_for(alloc: Global, text: &[u8], title: Title, step: u32) -> Result<Ans
     answer
 }
 
+/// The answer to the book of a source.
+fn answer_to_source<S: Source>(
+    alloc: Global,
+    title: Title,
+    step: u32,
+    source: &mut S,
+) -> Result<Answer, Failure>
+    requires { 1 ≤ step }
+    ensures due { HasDueOfText (λ text. SuggestAnswer (lines_of_book text) title step)
+        (S.left source.old) result }
+    ensures rises { S.faults source.old ≤ S.faults source.new }
+    ensures cause { HasReadFault result → Rose (S.faults source.old) (S.faults source.new) }
+{
+    let text = match read_text(alloc, source, MOST_BYTES) {
+        Ok(text) => text,
+        Err(failure) => return Err(failure),
+    };
+    or_no_memory(answer_for(alloc, &text, title, step))
+}
+
 /// Reads a book from a source, and writes to a sink what may be applied before this step of the
 /// theorem with this title. Nothing is written before all of it was read and all was found.
 pub fn suggest<S: Source, K: Sink>(
@@ -287,20 +279,12 @@ pub fn suggest<S: Source, K: Sink>(
     sink: &mut K,
 ) -> Status
     requires { 1 ≤ step }
-    ensures suggests { SuggestsBook title step (S.left source.old) (K.written sink.old)
-        (K.written sink.new) result }
+    ensures suggests { WroteOfText (λ text. SuggestAnswer (lines_of_book text) title step)
+        (S.left source.old) (K.written sink.old) (K.written sink.new) result }
     ensures read_rises { S.faults source.old ≤ S.faults source.new }
     ensures read_cause { IsReadFault result → Rose (S.faults source.old) (S.faults source.new) }
     ensures write_rises { K.faults sink.old ≤ K.faults sink.new }
     ensures write_cause { IsWriteFault result → Rose (K.faults sink.old) (K.faults sink.new) }
 {
-    let text = match read_text(alloc, source, MOST_BYTES) {
-        Ok(text) => text,
-        Err(InputFault::ReadFault) => return close(sink, b"read fault\n", Status::ReadFault),
-        Err(InputFault::NoMemory) => return close(sink, b"no memory\n", Status::NoMemory),
-    };
-    match answer_for(alloc, &text, title, step) {
-        Ok(Answer { status, line }) => close(sink, &line, status),
-        Err(_) => close(sink, b"no memory\n", Status::NoMemory),
-    }
+    finish(sink, answer_to_source(alloc, title, step, source))
 }

@@ -33,10 +33,8 @@ const MOST_DECLARED: usize = 6;
 /// How many lines were written, for one theorem or for all.
 #[derive(Clone, Copy)]
 pub enum Listed {
-    /// This many lines, and none is left out.
-    All(usize),
-    /// This many lines, and some are left out.
-    Full(usize),
+    /// This many lines, and whether others are left out.
+    Found { lines: usize, more: bool },
     /// It is too wide to say whether some choice is good, and this is the width.
     TooWide(u128),
 }
@@ -110,17 +108,16 @@ fn list_theorem(
 {
     let declared = statement.declared.len();
     if declared > MOST_DECLARED {
-        return Ok(Listed::All(0));
+        return Ok(Listed::Found {
+            lines: 0,
+            more: false,
+        });
     }
     match all(alloc, &place.context, memory, statement, left)? {
         FirstChoices::Found { choices, more } => {
             put_applications(alloc, out, title, &place.names, choices.items())?;
-            let count = choices.len();
-            if more {
-                Ok(Listed::Full(count))
-            } else {
-                Ok(Listed::All(count))
-            }
+            let lines = choices.len();
+            Ok(Listed::Found { lines, more })
         }
         FirstChoices::TooWide(width) => Ok(Listed::TooWide(width)),
     }
@@ -152,10 +149,17 @@ pub fn list_theorems(
             MOST_LINES - count,
             out,
         )? {
-            Listed::All(lines) => count += lines,
-            Listed::Full(lines) => return Ok(Listed::Full(count + lines)),
+            Listed::Found { lines, more } => {
+                count += lines;
+                if more {
+                    return Ok(Listed::Found { lines: count, more });
+                }
+            }
             Listed::TooWide(width) => return Ok(Listed::TooWide(width)),
         }
     }
-    Ok(Listed::All(count))
+    Ok(Listed::Found {
+        lines: count,
+        more: false,
+    })
 }

@@ -1,5 +1,5 @@
 //! `trial`: a generated book is checked, and its derivations are verified, within one call.
-ghost use Rattle.std.specs.Prelude.{◌≡◌, ◌≤◌, ◌<◌, ◌^◌, length, IfOk, Some, []};
+ghost use Rattle.std.specs.Prelude.{◌≡◌, ◌≤◌, ◌<◌, ◌^◌, length, IfOk};
 ghost use Rattle.e_io.specs.Bytes.{Rose};
 ghost use Rattle.e_generate.specs.Generated.{generated_text};
 ghost use Rattle.e_line.specs.Limits.{most_theorems};
@@ -12,9 +12,9 @@ ghost use Rattle.e_judgement.specs.Judged.{JudgesText};
 ghost use Rattle.e_judgement.specs.declared.judgement.Judgement.{Judgement};
 
 use crate::blocks::{BookResult, blocks};
-use crate::checker::{answer_of, close, last_lines};
+use crate::checker::{answer_of, last_lines};
 use crate::input::{LONGEST_LINE, MOST_BYTES, read_text};
-use crate::output::{accepted, tried};
+use crate::output::{Answer, finish, or_no_memory, tried_line};
 use crate::status::Status;
 use crate::store::Store;
 use e_generate::generated;
@@ -24,15 +24,14 @@ use e_text::Lines;
 use std::alloc::{AllocError, Global};
 use std::mem;
 
-/// An answer, and the bytes that are written with it: one line, or with `suggest` all its lines.
-pub struct Answer {
-    pub status: Status,
-    pub line: Vec<u8>,
-}
-
 /// The answer to an accepted book, of which `check` writes this text. It is judged once more here:
 /// by what is proved of `check` it comes out verified.
-fn verified(alloc: Global, text: &[u8], theorems: u32, steps: u32) -> Result<Answer, AllocError>
+fn answer_of_accepted(
+    alloc: Global,
+    text: &[u8],
+    theorems: u32,
+    steps: u32,
+) -> Result<Answer, AllocError>
     requires few { length text.now ≤ 2 ^ 60 }
     requires verified { JudgesText text.now (Judgement.Verified theorems) }
     ensures { IfOk result (λ a. (a.status ≡ Status.Tried theorems steps)
@@ -41,7 +40,7 @@ fn verified(alloc: Global, text: &[u8], theorems: u32, steps: u32) -> Result<Ans
     let Judgement::Verified { theorems } = judge(alloc, text)? else {
         unreachable!();
     };
-    let line = tried(alloc, theorems, steps)?;
+    let line = tried_line(alloc, theorems, steps)?;
     Ok(Answer {
         status: Status::Tried { theorems, steps },
         line,
@@ -79,7 +78,7 @@ fn answer_to(alloc: Global, lines: &mut Lines) -> Result<Answer, AllocError>
     let Ok(()) = write_all(&mut store, &line) else {
         return Err(AllocError);
     };
-    verified(alloc, &store.into_bytes(), theorems, steps)
+    answer_of_accepted(alloc, &store.into_bytes(), theorems, steps)
 }
 
 /// The answer to the generated book of this many theorems, with its line. The book is read as one
@@ -107,8 +106,5 @@ pub fn trial<K: Sink>(alloc: Global, theorems: u32, sink: &mut K) -> Status
     ensures cause { IsWriteFault result → Rose (K.faults sink.old) (K.faults sink.new) }
     ensures no_read { IsReadFault result → ⊥ }
 {
-    match answer_for(alloc, theorems) {
-        Ok(Answer { status, line }) => close(sink, &line, status),
-        Err(_) => close(sink, b"no memory\n", Status::NoMemory),
-    }
+    finish(sink, or_no_memory(answer_for(alloc, theorems)))
 }

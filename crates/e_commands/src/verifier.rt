@@ -1,14 +1,15 @@
 //! `verify`: a derivation text is read and verified.
 ghost use Rattle.std.specs.Prelude.{◌≡◌, ◌≤◌, ◌^◌, length, IfOk};
 ghost use Rattle.e_io.specs.Bytes.{Rose};
-ghost use Rattle.e_judgement.specs.Judged.{JudgesText};
-ghost use Rattle.e_commands.specs.Answers.{IsWriteFault, IsReadFault, IsVerified};
+ghost use Rattle.e_commands.specs.Answers.{IsWriteFault, IsReadFault, IsVerified, WroteOfText};
 ghost use Rattle.e_commands.specs.Input.{IsAtEnd};
-ghost use Rattle.e_commands.specs.VerifierAnswers.{Verifies, VerifiesText};
+ghost use Rattle.e_commands.specs.VerifierAnswers.{TextAnswer};
+ghost use Rattle.e_commands.specs.inner.Finished.{HasDueOfText, HasReadFault};
 
-use crate::checker::close;
-use crate::input::{InputFault, MOST_TEXT, read_text};
-use crate::output::{bad, garbled, verified};
+use crate::input::{MOST_TEXT, read_text};
+use crate::output::{
+    Answer, Failure, answer_with, bad_line, finish, garbled_line, or_no_memory, verified_line,
+};
 use crate::status::Status;
 use e_io::{Sink, Source};
 use e_judgement::{Judgement, judge};
@@ -31,41 +32,46 @@ fn line_of(alloc: Global, judgement: &Judgement) -> Result<Vec<u8>, AllocError>
         (λ v. v.items ≡ Rattle.e_commands.specs.VerifierAnswers.judgement_line judgement.now) }
 {
     match judgement {
-        Judgement::Verified { theorems } => verified(alloc, *theorems),
-        Judgement::Bad { title, step } => bad(alloc, *title, *step),
-        Judgement::Garbled { line } => garbled(alloc, *line),
+        Judgement::Verified { theorems } => verified_line(alloc, *theorems),
+        Judgement::Bad { title, step } => bad_line(alloc, *title, *step),
+        Judgement::Garbled { line } => garbled_line(alloc, *line),
     }
 }
 
-/// A judgement with its line.
-fn judgement_of(alloc: Global, text: &[u8]) -> Result<(Judgement, Vec<u8>), AllocError>
+/// The answer to a text.
+fn answer_to(alloc: Global, text: &[u8]) -> Result<Answer, AllocError>
     requires { length text.now ≤ 2 ^ 60 }
-    ensures text { IfOk result (λ j. JudgesText text.now j.0) }
-    ensures line { IfOk result
-        (λ j. j.1.items ≡ Rattle.e_commands.specs.VerifierAnswers.judgement_line j.0) }
+    ensures due { IfOk result (λ a. TextAnswer text.now a.status a.line.items) }
+    ensures no_read { IfOk result (λ a. IsReadFault a.status → ⊥) }
 {
     let judgement = judge(alloc, text)?;
     let line = line_of(alloc, &judgement)?;
-    Ok((judgement, line))
+    Ok(Answer {
+        status: answer_of(judgement),
+        line,
+    })
 }
 
-/// Verifies a text, and writes the line of its judgement.
-fn report_judgement<K: Sink>(alloc: Global, text: &[u8], sink: &mut K) -> Status
-    requires { length text.now ≤ 2 ^ 60 }
-    ensures verifies { Verifies text.now (K.written sink.old) (K.written sink.new) result }
-    ensures rises { K.faults sink.old ≤ K.faults sink.new }
-    ensures cause { IsWriteFault result → Rose (K.faults sink.old) (K.faults sink.new) }
-    ensures no_read { IsReadFault result → ⊥ }
+/// The answer to the text of a source.
+fn answer_to_source<S: Source>(alloc: Global, source: &mut S) -> Result<Answer, Failure>
+    ensures due { HasDueOfText TextAnswer (S.left source.old) result }
+    ensures end { IfOk result (λ a. IsVerified a.status → IsAtEnd (S.left source.new)) }
+    ensures rises { S.faults source.old ≤ S.faults source.new }
+    ensures cause { HasReadFault result → Rose (S.faults source.old) (S.faults source.new) }
 {
-    match judgement_of(alloc, text) {
-        Ok((judgement, line)) => close(sink, &line, answer_of(judgement)),
-        Err(_) => close(sink, b"no memory\n", Status::NoMemory),
+    let text = match read_text(alloc, source, MOST_TEXT) {
+        Ok(text) => text,
+        Err(failure) => return Err(failure),
+    };
+    if text.len() > MOST_TEXT {
+        return or_no_memory(answer_with(alloc, Status::TextLimit, b"text limit\n"));
     }
+    or_no_memory(answer_to(alloc, &text))
 }
 
 /// Reads a derivation text from a source, and writes its judgement to a sink.
 pub fn verify<S: Source, K: Sink>(alloc: Global, source: &mut S, sink: &mut K) -> Status
-    ensures verifies { VerifiesText (S.left source.old) (K.written sink.old)
+    ensures verifies { WroteOfText TextAnswer (S.left source.old) (K.written sink.old)
         (K.written sink.new) result }
     ensures end { IsVerified result → IsAtEnd (S.left source.new) }
     ensures read_rises { S.faults source.old ≤ S.faults source.new }
@@ -73,13 +79,5 @@ pub fn verify<S: Source, K: Sink>(alloc: Global, source: &mut S, sink: &mut K) -
     ensures write_rises { K.faults sink.old ≤ K.faults sink.new }
     ensures write_cause { IsWriteFault result → Rose (K.faults sink.old) (K.faults sink.new) }
 {
-    let text = match read_text(alloc, source, MOST_TEXT) {
-        Ok(text) => text,
-        Err(InputFault::ReadFault) => return close(sink, b"read fault\n", Status::ReadFault),
-        Err(InputFault::NoMemory) => return close(sink, b"no memory\n", Status::NoMemory),
-    };
-    if text.len() > MOST_TEXT {
-        return close(sink, b"text limit\n", Status::TextLimit);
-    }
-    report_judgement(alloc, &text, sink)
+    finish(sink, answer_to_source(alloc, source))
 }

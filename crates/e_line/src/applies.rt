@@ -1,10 +1,10 @@
 //! The use of an earlier theorem, by its words.
-ghost use Rattle.std.specs.Prelude.{◌<◌};
-ghost use Rattle.e_line.specs.Reading.{texts, Gives};
+ghost use Rattle.std.specs.Prelude.{is_some};
+ghost use Rattle.e_line.specs.Reading.{texts, texts_after, Gives};
 ghost use Rattle.e_line.specs.Applies.{argument_of, arguments_of, made_names, apply_of};
 
-use crate::fault::{FaultKind, LineError};
-use crate::words::{cut, some_names};
+use crate::fault::LineError;
+use crate::words::{cut_at, some_names};
 use e_literal::Items;
 use e_text::{Name, Title, is};
 use std::alloc::Global;
@@ -28,7 +28,7 @@ fn argument_of(word: &[u8]) -> Result<Option<Name>, LineError>
     }
     match Name::read(word) {
         Some(name) => Ok(Some(name)),
-        None => Err(LineError::Fault(FaultKind::Malformed)),
+        None => Err(LineError::MALFORMED),
     }
 }
 
@@ -44,13 +44,12 @@ fn arguments_of(alloc: Global, words: &[&[u8]]) -> Result<Items<Option<Name>>, L
 }
 
 /// The words after `as`, at least one name.
-fn made_names(alloc: Global, making: bool, words: &[&[u8]]) -> Result<Items<Name>, LineError>
-    ensures { Gives (λ n. n) result (made_names making (texts words.now)) }
+fn made_names(alloc: Global, after: Option<&[&[u8]]>) -> Result<Items<Name>, LineError>
+    ensures { Gives (λ n. n) result (made_names (is_some after.entry) (texts_after after.entry)) }
 {
-    if making {
-        some_names(alloc, words)
-    } else {
-        Ok(Items::empty(alloc))
+    match after {
+        Some(words) => some_names(alloc, words),
+        None => Ok(Items::empty(alloc)),
     }
 }
 
@@ -60,13 +59,13 @@ pub(crate) fn apply_of(alloc: Global, words: &[&[u8]]) -> Result<RawApply, LineE
     ensures { Gives (λ a. a) result (apply_of (texts words.now)) }
 {
     let [title, rest @ ..] = words else {
-        return Err(LineError::Fault(FaultKind::Malformed));
+        return Err(LineError::MALFORMED);
     };
     let Some(title) = Title::read(title) else {
-        return Err(LineError::Fault(FaultKind::Malformed));
+        return Err(LineError::MALFORMED);
     };
-    let (args, new, making) = cut(rest, b"as");
+    let (args, after) = cut_at(rest, b"as");
     let args = arguments_of(alloc, args)?;
-    let new = made_names(alloc, making, new)?;
+    let new = made_names(alloc, after)?;
     Ok(RawApply { title, args, new })
 }

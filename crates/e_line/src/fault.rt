@@ -136,6 +136,9 @@ impl FaultKind {
 impl LineError {
     ghost use Rattle.e_line.specs.Faults.{error_at};
 
+    /// The line has none of the forms that its place takes.
+    pub const MALFORMED: LineError = LineError::Fault(FaultKind::Malformed);
+
     /// The fault, at a line; or out of memory.
     pub fn at(self, line: u32) -> BookFault
         ensures { result ≡ error_at line self }

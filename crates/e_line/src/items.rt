@@ -6,8 +6,8 @@ ghost use Rattle.e_line.specs.Reading.{texts, Gives, Moves, with_front};
 ghost use Rattle.e_line.specs.Items.{as_of, item_of, items_of, begins_item, has_item, define_of};
 ghost use Rattle.e_line.specs.Items.{placing_of, line_with_items, line_named, book_line_of};
 
-use crate::fault::{FaultKind, LineError};
-use crate::lets::{are_words_of, names_at};
+use crate::fault::LineError;
+use crate::lets::{Place, are_words_of, names_at};
 use crate::literal::{RawLit, lit_of};
 use crate::raw_line::{RawLine, raw_line_of};
 use crate::superposes::{head_and_lits, superposition_pieces};
@@ -59,10 +59,10 @@ fn as_of(alloc: Global, words: &[&[u8]]) -> Result<RawAs, LineError>
     ensures { Gives (λ a. a) result (as_of (texts words.now)) }
 {
     let [title, rest @ ..] = words else {
-        return Err(LineError::Fault(FaultKind::Malformed));
+        return Err(LineError::MALFORMED);
     };
     let Some(title) = Title::read(title) else {
-        return Err(LineError::Fault(FaultKind::Malformed));
+        return Err(LineError::MALFORMED);
     };
     let args = names_of(alloc, rest)?;
     Ok(RawAs { title, args })
@@ -74,7 +74,7 @@ fn item_of(alloc: Global, words: &[&[u8]]) -> Result<RawItem, LineError>
     ensures { Gives (λ i. i) result (item_of (texts words.now)) }
 {
     match words {
-        [] => Err(LineError::Fault(FaultKind::Malformed)),
+        [] => Err(LineError::MALFORMED),
         [word, rest @ ..] => {
             if is(word, b"as") {
                 return Ok(RawItem::As(as_of(alloc, rest)?));
@@ -147,10 +147,10 @@ fn placing_of(alloc: Global, head: &[&[u8]]) -> Result<Listing, LineError>
     ensures { Gives (λ l. l) result (placing_of (texts head.now)) }
 {
     if !are_words_of(superposition_pieces(), head) {
-        return Err(LineError::Fault(FaultKind::Malformed));
+        return Err(LineError::MALFORMED);
     }
-    let new = names_at(alloc, true, superposition_pieces(), head)?;
-    let args = names_at(alloc, false, superposition_pieces(), head)?;
+    let new = names_at(alloc, Place::New, superposition_pieces(), head)?;
+    let args = names_at(alloc, Place::Argument, superposition_pieces(), head)?;
     Ok(Listing::Superpose { args, new })
 }
 
@@ -212,7 +212,7 @@ pub fn book_line_of(alloc: Global, words: &[&[u8]]) -> Result<BookLine, LineErro
     ensures { Gives (λ l. l) result (book_line_of (texts words.now)) }
 {
     match words {
-        [] => Err(LineError::Fault(FaultKind::Malformed)),
+        [] => Err(LineError::MALFORMED),
         [word, rest @ ..] => line_named(alloc, word, rest, words),
     }
 }

@@ -1,13 +1,13 @@
 //! The lines of constructions, known from their words by spelling alone.
-ghost use Rattle.std.specs.Prelude.{◌≡◌, List, map, slice_get, false, IfOk};
+ghost use Rattle.std.specs.Prelude.{◌≡◌, List, map, slice_get, is_some, false, IfOk};
 ghost use Rattle.std.specs.Option.{option_map_or};
 ghost use Rattle.e_construct.specs.Views.{piece_view};
-ghost use Rattle.e_line.specs.Reading.{texts, names_of, Gives};
+ghost use Rattle.e_line.specs.Reading.{texts, texts_after, names_of, Gives};
 ghost use Rattle.e_line.specs.Lets.{is_word_of, are_words_of, is_line_of, shapes_of};
-ghost use Rattle.e_line.specs.Lets.{is_place, words_at, avoided_of, let_named, let_of};
+ghost use Rattle.e_line.specs.Lets.{is_new, is_place, words_at, avoided_of, let_named, let_of};
 
-use crate::fault::{FaultKind, LineError};
-use crate::words::{cut, some_names};
+use crate::fault::LineError;
+use crate::words::{cut_at, some_names};
 use e_construct::{Piece, Shape, all_shapes, may_avoid, pieces};
 use e_literal::Items;
 use e_text::{Name, is};
@@ -73,59 +73,65 @@ fn shapes_of(alloc: Global, avoiding: bool, words: &[&[u8]]) -> Result<Items<Sha
     Ok(shapes)
 }
 
-/// Whether a piece is the place of a new object, or else that of an argument.
-fn is_place(new: bool, piece: Piece) -> bool
-    ensures { result ≡ is_place new (piece_view piece) }
+/// What stands at a place of a line that has a name.
+#[derive(Clone, Copy)]
+pub(crate) enum Place {
+    New,
+    Argument,
+}
+
+/// Whether a piece is such a place.
+fn is_place(place: Place, piece: Piece) -> bool
+    ensures { result ≡ is_place (is_new place) (piece_view piece) }
 {
-    match piece {
-        Piece::New => new,
-        Piece::Argument => !new,
-        Piece::Word(_) => false,
+    match (place, piece) {
+        (Place::New, Piece::New) => true,
+        (Place::Argument, Piece::Argument) => true,
+        _ => false,
     }
 }
 
 /// Whether such a place is there.
-fn is_place_at(new: bool, pieces: &[Piece], at: usize) -> bool
+fn is_place_at(place: Place, pieces: &[Piece], at: usize) -> bool
     ensures { result
-        ≡ option_map_or (λ p. is_place new (piece_view p)) (slice_get pieces.now at) false }
+        ≡ option_map_or (λ p. is_place (is_new place) (piece_view p)) (slice_get pieces.now at) false }
 {
     match pieces.get(at) {
         None => false,
-        Some(piece) => is_place(new, *piece),
+        Some(piece) => is_place(place, *piece),
     }
 }
 
-/// The names at the places of the new objects, or else at those of the arguments.
+/// The names at such places.
 pub(crate) fn names_at(
     alloc: Global,
-    new: bool,
+    place: Place,
     pieces: &[Piece],
     words: &[&[u8]],
 ) -> Result<Items<Name>, LineError>
     ensures { Gives (λ n. n) result
-        (names_of (words_at new (map piece_view pieces.now) (texts words.now))) }
+        (names_of (words_at (is_new place) (map piece_view pieces.now) (texts words.now))) }
 {
     let mut names = Items::empty(alloc);
     for (i, word) in words.iter().enumerate() {
-        if !is_place_at(new, pieces, i) {
+        if !is_place_at(place, pieces, i) {
             continue;
         }
         match Name::read(word) {
             Some(name) => names.push(name)?,
-            None => return Err(LineError::Fault(FaultKind::Malformed)),
+            None => return Err(LineError::MALFORMED),
         }
     }
     Ok(names)
 }
 
 /// The words after `avoid`, where it is there.
-fn avoided_of(alloc: Global, avoiding: bool, words: &[&[u8]]) -> Result<Items<Name>, LineError>
-    ensures { Gives (λ n. n) result (avoided_of avoiding (texts words.now)) }
+fn avoided_of(alloc: Global, after: Option<&[&[u8]]>) -> Result<Items<Name>, LineError>
+    ensures { Gives (λ n. n) result (avoided_of (is_some after.entry) (texts_after after.entry)) }
 {
-    if avoiding {
-        some_names(alloc, words)
-    } else {
-        Ok(Items::empty(alloc))
+    match after {
+        Some(words) => some_names(alloc, words),
+        None => Ok(Items::empty(alloc)),
     }
 }
 
@@ -140,10 +146,10 @@ fn let_named(
     ensures { Gives (λ l. l) result (let_named shapes (texts words.now) avoid) }
 {
     let [first, ..] = shapes.items() else {
-        return Err(LineError::Fault(FaultKind::Malformed));
+        return Err(LineError::MALFORMED);
     };
-    let new = names_at(alloc, true, pieces(*first), words)?;
-    let args = names_at(alloc, false, pieces(*first), words)?;
+    let new = names_at(alloc, Place::New, pieces(*first), words)?;
+    let args = names_at(alloc, Place::Argument, pieces(*first), words)?;
     Ok(RawLet {
         shapes,
         new,
@@ -158,8 +164,8 @@ fn let_named(
 pub(crate) fn let_of(alloc: Global, words: &[&[u8]]) -> Result<RawLet, LineError>
     ensures { Gives (λ l. l) result (let_of (texts words.now)) }
 {
-    let (line, avoid, avoiding) = cut(words, b"avoid");
-    let avoid = avoided_of(alloc, avoiding, avoid)?;
-    let shapes = shapes_of(alloc, avoiding, line)?;
+    let (line, after) = cut_at(words, b"avoid");
+    let avoid = avoided_of(alloc, after)?;
+    let shapes = shapes_of(alloc, after.is_some(), line)?;
     let_named(alloc, shapes, line, avoid)
 }

@@ -7,7 +7,7 @@ ghost use Rattle.e_line.specs.Literals.{equal_sides, negation_of, sign_first, li
 ghost use Rattle.e_line.specs.Literals.{lit_by_first_word, signed_of, lit_of, is_diagram_raw};
 ghost use Rattle.e_line.specs.Literals.{diagram_lit_of, diagram_lits_of, lits_of};
 
-use crate::fault::{FaultKind, LineError};
+use crate::fault::LineError;
 use crate::sum::{RawMono, sum_of};
 use crate::words::{place_of, three_names, two_names};
 use e_literal::Items;
@@ -122,7 +122,7 @@ fn sums_of(alloc: Global, left: &[&[u8]], right: &[&[u8]]) -> Result<Sums, LineE
     let left = sum_of(alloc, left)?;
     let right = sum_of(alloc, right)?;
     if left.is_empty() && right.is_empty() {
-        return Err(LineError::Fault(FaultKind::Malformed));
+        return Err(LineError::MALFORMED);
     }
     Ok(Sums { left, right })
 }
@@ -171,13 +171,13 @@ fn negation_of(negated: bool, sign: Sign) -> Result<bool, LineError>
         Sign::Less => Ok(negated),
         Sign::Differ => {
             if negated {
-                return Err(LineError::Fault(FaultKind::Malformed));
+                return Err(LineError::MALFORMED);
             }
             Ok(true)
         }
         Sign::AtMost => {
             if negated {
-                return Err(LineError::Fault(FaultKind::Malformed));
+                return Err(LineError::MALFORMED);
             }
             Ok(false)
         }
@@ -191,10 +191,10 @@ fn lit_of_sides(alloc: Global, negated: bool, words: &[&[u8]]) -> Result<RawLit,
 {
     let (left, rest) = words.split_at(place_of_sign(words));
     let [sign, right @ ..] = rest else {
-        return Err(LineError::Fault(FaultKind::Malformed));
+        return Err(LineError::MALFORMED);
     };
     let Some(sign) = sign_of(sign) else {
-        return Err(LineError::Fault(FaultKind::Malformed));
+        return Err(LineError::MALFORMED);
     };
     let neg = negation_of(negated, sign)?;
     let atom = sides_of(alloc, sign, left, right)?;
@@ -251,7 +251,7 @@ fn signed_of(alloc: Global, neg: bool, words: &[&[u8]]) -> Result<RawLit, LineEr
     ensures { Gives (λ l. l) result (signed_of neg (texts words.now)) }
 {
     match words {
-        [] => Err(LineError::Fault(FaultKind::Malformed)),
+        [] => Err(LineError::MALFORMED),
         [word, rest @ ..] => lit_by_first_word(alloc, neg, word, rest, words),
     }
 }
@@ -262,7 +262,7 @@ pub fn lit_of(alloc: Global, words: &[&[u8]]) -> Result<RawLit, LineError>
     ensures { Gives (λ l. l) result (lit_of (texts words.now)) }
 {
     match words {
-        [] => Err(LineError::Fault(FaultKind::Malformed)),
+        [] => Err(LineError::MALFORMED),
         [word, rest @ ..] => {
             if is(word, b"not") {
                 return signed_of(alloc, true, rest);
@@ -291,7 +291,7 @@ pub fn diagram_lit_of(alloc: Global, words: &[&[u8]]) -> Result<RawLit, LineErro
     let lit = lit_of(alloc, words)?;
     if !is_diagram_raw(&lit.atom) {
         mem::drop(lit);
-        return Err(LineError::Fault(FaultKind::Malformed));
+        return Err(LineError::MALFORMED);
     }
     Ok(lit)
 }
@@ -303,8 +303,8 @@ fn put_lits_of(alloc: Global, words: &[&[u8]], lits: &mut Items<RawLit>) -> Resu
     let mut at = 0;
     while at <= words.len() {
         let end = at + place_of(&words[at..], b";");
-        let RawLit { neg, atom } = lit_of(alloc, &words[at..end])?;
-        lits.push(RawLit { neg, atom })?;
+        let lit = lit_of(alloc, &words[at..end])?;
+        lits.push(lit)?;
         at = end + 1;
     }
     Ok(())
@@ -325,7 +325,7 @@ pub fn diagram_lits_of(alloc: Global, words: &[&[u8]]) -> Result<Items<RawLit>, 
     let lits = lits_of(alloc, words)?;
     if !are_diagrams_raw(lits.items()) {
         mem::drop(lits);
-        return Err(LineError::Fault(FaultKind::Malformed));
+        return Err(LineError::MALFORMED);
     }
     Ok(lits)
 }

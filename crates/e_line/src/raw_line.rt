@@ -5,11 +5,11 @@ ghost use Rattle.e_line.specs.RawLines.{declare_of, sort_of, made_of, by_of};
 ghost use Rattle.e_line.specs.RawLines.{raw_line_of, raw_line_named, theorem_line_of, bare_line};
 
 use crate::applies::{RawApply, apply_of};
-use crate::fault::{FaultKind, LineError};
+use crate::fault::LineError;
 use crate::lets::{RawLet, let_of};
 use crate::literal::{RawLit, diagram_lit_of, lit_of, lits_of};
 use crate::superposes::{RawSuperpose, superpose_of};
-use crate::words::{Words, cut, names_of, some_names};
+use crate::words::{Words, cut_at, names_of, some_names};
 use e_literal::{Items, Sort};
 use e_text::{Name, Title, is};
 use std::alloc::Global;
@@ -76,7 +76,7 @@ fn sort_of(word: &[u8]) -> Result<Sort, LineError>
     if is(word, b"circles") {
         return Ok(Sort::Circle);
     }
-    Err(LineError::Fault(FaultKind::Malformed))
+    Err(LineError::MALFORMED)
 }
 
 #[tactic(auto, unfolding(crate::specs::RawLines::made_of, crate::specs::Reading::word_at))]
@@ -84,7 +84,7 @@ fn made_of(alloc: Global, words: &[&[u8]]) -> Result<RawLine, LineError>
     ensures { Gives (λ f. f) result (made_of (texts words.now)) }
 {
     let [word, rest @ ..] = words else {
-        return Err(LineError::Fault(FaultKind::Malformed));
+        return Err(LineError::MALFORMED);
     };
     let sort = sort_of(word)?;
     let names = some_names(alloc, rest)?;
@@ -96,15 +96,15 @@ fn by_of(alloc: Global, words: &[&[u8]]) -> Result<RawLine, LineError>
     ensures { Gives (λ f. f) result (by_of (texts words.now)) }
 {
     let [rule, rest @ ..] = words else {
-        return Err(LineError::Fault(FaultKind::Malformed));
+        return Err(LineError::MALFORMED);
     };
     let Some(rule) = Title::read(rule) else {
-        return Err(LineError::Fault(FaultKind::Malformed));
+        return Err(LineError::MALFORMED);
     };
-    let (names, lit, found) = cut(rest, b":");
-    if !found {
-        return Err(LineError::Fault(FaultKind::Malformed));
-    }
+    let (names, after) = cut_at(rest, b":");
+    let Some(lit) = after else {
+        return Err(LineError::MALFORMED);
+    };
     let names = names_of(alloc, names)?;
     let lit = diagram_lit_of(alloc, lit)?;
     Ok(RawLine::By(rule, names, lit))
@@ -194,7 +194,7 @@ fn raw_line_named(alloc: Global, word: &[u8], rest: &[&[u8]]) -> Result<RawLine,
     if is(word, b"end") {
         return bare_line(words, RawLine::End);
     }
-    Err(LineError::Fault(FaultKind::Malformed))
+    Err(LineError::MALFORMED)
 }
 
 /// The raw line of a line, by its words alone.
@@ -203,7 +203,7 @@ pub fn raw_line_of(alloc: Global, words: &[&[u8]]) -> Result<RawLine, LineError>
     ensures { Gives (λ f. f) result (raw_line_of (texts words.now)) }
 {
     match words {
-        [] => Err(LineError::Fault(FaultKind::Malformed)),
+        [] => Err(LineError::MALFORMED),
         [word, rest @ ..] => raw_line_named(alloc, word, rest),
     }
 }

@@ -6,7 +6,7 @@ ghost use Rattle.e_line.specs.Reading.{texts, Gives};
 ghost use Rattle.e_line.specs.Strict.{is_less, is_direct, are_direct};
 ghost use Rattle.e_line.specs.Strict.{is_strict_line, exact_line_of};
 
-use crate::fault::{FaultKind, LineError};
+use crate::fault::LineError;
 use crate::lines::put_raw_line;
 use crate::literal::{RawAtom, RawLit};
 use crate::raw_line::{RawLine, raw_line_of};
@@ -82,6 +82,6 @@ pub fn exact_line_of(alloc: Global, line: &[u8], words: &[&[u8]]) -> Result<RawL
         Ok(raw_line)
     } else {
         mem::drop(raw_line);
-        Err(LineError::Fault(FaultKind::Malformed))
+        Err(LineError::MALFORMED)
     }
 }

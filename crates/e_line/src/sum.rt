@@ -6,7 +6,7 @@ ghost use Rattle.e_line.specs.Sums.{counted_term, mono_of, is_plus, is_zero, sum
 ghost use Rattle.std.specs.List.{slice_split};
 ghost use Rattle.e_text.specs.Numerals.{is_numeral};
 
-use crate::fault::{FaultKind, LineError};
+use crate::fault::LineError;
 use crate::words::{Words, place_of, three_names, two_names};
 use e_literal::Items;
 use e_text::{Name, is, number, numeral};
@@ -58,7 +58,7 @@ fn term_named(word: &[u8], rest: &[&[u8]]) -> Result<RawTerm, LineError>
         Words::new(rest).end()?;
         return Ok(RawTerm::Right);
     }
-    Err(LineError::Fault(FaultKind::Malformed))
+    Err(LineError::MALFORMED)
 }
 
 /// A term, by all its words.
@@ -67,7 +67,7 @@ pub fn term_of(words: &[&[u8]]) -> Result<RawTerm, LineError>
     ensures { Gives (λ t. t) result (term_of (texts words.now)) }
 {
     match words {
-        [] => Err(LineError::Fault(FaultKind::Malformed)),
+        [] => Err(LineError::MALFORMED),
         [word, rest @ ..] => term_named(word, rest),
     }
 }
@@ -90,7 +90,7 @@ fn counted_term(word: &[u8], rest: &[&[u8]]) -> Result<RawMono, LineError>
     ensures { Gives (λ m. m) result (counted_term word.now (texts rest.now)) }
 {
     if is(word, b"0") {
-        return Err(LineError::Fault(FaultKind::Malformed));
+        return Err(LineError::MALFORMED);
     }
     let term = term_of(rest)?;
     let coeff = coefficient_of(word);
@@ -103,7 +103,7 @@ fn mono_of(words: &[&[u8]]) -> Result<RawMono, LineError>
     ensures { Gives (λ m. m) result (mono_of (texts words.now)) }
 {
     match words {
-        [] => Err(LineError::Fault(FaultKind::Malformed)),
+        [] => Err(LineError::MALFORMED),
         [word, rest @ ..] => {
             if numeral(word) {
                 return counted_term(word, rest);

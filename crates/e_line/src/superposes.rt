@@ -4,8 +4,8 @@ ghost use Rattle.e_construct.specs.Views.{piece_view};
 ghost use Rattle.e_line.specs.Reading.{texts, Gives};
 ghost use Rattle.e_line.specs.Superposes.{superpose_pieces, raw_superpose_of, superpose_of};
 
-use crate::fault::{FaultKind, LineError};
-use crate::lets::{are_words_of, names_at};
+use crate::fault::LineError;
+use crate::lets::{Place, are_words_of, names_at};
 use crate::literal::{RawLit, lits_of};
 use e_construct::Piece;
 use e_literal::Items;
@@ -65,10 +65,10 @@ fn head_of(alloc: Global, head: &[&[u8]], rest: &[&[u8]]) -> Result<RawSuperpose
     ensures { Gives (λ s. s) result (raw_superpose_of (texts head.now) (texts rest.now)) }
 {
     if !are_words_of(superposition_pieces(), head) {
-        return Err(LineError::Fault(FaultKind::Malformed));
+        return Err(LineError::MALFORMED);
     }
-    let new = names_at(alloc, true, superposition_pieces(), head)?;
-    let args = names_at(alloc, false, superposition_pieces(), head)?;
+    let new = names_at(alloc, Place::New, superposition_pieces(), head)?;
+    let args = names_at(alloc, Place::Argument, superposition_pieces(), head)?;
     let shown = lits_of(alloc, rest)?;
     Ok(RawSuperpose { args, new, shown })
 }

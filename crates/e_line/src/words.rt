@@ -1,16 +1,16 @@
 //! The words of a line that are still to be read.
-ghost use Rattle.std.specs.Prelude.{◌≡◌, ◌<◌, ◌≤◌, IsTrue, if◌then◌else◌};
+ghost use Rattle.std.specs.Prelude.{◌≡◌, ◌≤◌, is_some, if◌then◌else◌};
 ghost use Rattle.std.specs.Prelude.{List, length, IfOk, [], ◌∷◌, ◌==◌};
 ghost use Rattle.std.specs.Iterator.{YieldsFirst};
 ghost use Rattle.e_text.specs.Tokens.{tokens_of};
 ghost use Rattle.std.specs.List.{position_or_len};
 ghost use Rattle.std.specs.Str.{bytes_eq};
 ghost use Rattle.e_line.specs.Canonical.{sort_word};
-ghost use Rattle.e_line.specs.Reading.{cut_at, texts, Gives, Reads, word_at};
+ghost use Rattle.e_line.specs.Reading.{cut_at, texts, texts_after, Gives, Reads, word_at};
 ghost use Rattle.e_line.specs.Reading.{first_name, first_title, end_at, names_of};
 ghost use Rattle.e_line.specs.Reading.{some_names, two_names, three_names};
 
-use crate::fault::{FaultKind, LineError};
+use crate::fault::LineError;
 use e_literal::{Items, Sort};
 use e_text::{Name, Title, Tokens, is};
 use std::alloc::{AllocError, Global};
@@ -52,17 +52,19 @@ pub fn place_of(words: &[&[u8]], word: &[u8]) -> usize
     words.len()
 }
 
-/// The words before a word, those after it, and whether it is there.
-pub fn cut<'b, 'a>(words: &'b [&'a [u8]], word: &[u8]) -> (&'b [&'a [u8]], &'b [&'a [u8]], bool)
-    ensures cut { cut_at word.now (texts words.now)
-        ≡ (texts result.0.now, texts result.1.now, result.2) }
-    ensures shorter { IsTrue result.2 → length result.1.now < length words.now }
+/// The words before a word, and those after it where it is there.
+pub(crate) fn cut_at<'b, 'a>(
+    words: &'b [&'a [u8]],
+    word: &[u8],
+) -> (&'b [&'a [u8]], Option<&'b [&'a [u8]]>)
+    ensures { cut_at word.now (texts words.now)
+        ≡ (texts result.0.now, texts_after result.1, is_some result.1) }
 {
     let end = place_of(words, word);
     let (part, rest) = words.split_at(end);
     match rest {
-        [] => (part, rest, false),
-        [_, after @ ..] => (part, after, true),
+        [] => (part, None),
+        [_, after @ ..] => (part, Some(after)),
     }
 }
 
@@ -74,7 +76,7 @@ pub fn names_of(alloc: Global, words: &[&[u8]]) -> Result<Items<Name>, LineError
     for word in words {
         match Name::read(word) {
             Some(name) => names.push(name)?,
-            None => return Err(LineError::Fault(FaultKind::Malformed)),
+            None => return Err(LineError::MALFORMED),
         }
     }
     Ok(names)
@@ -87,7 +89,7 @@ pub(crate) fn some_names(alloc: Global, words: &[&[u8]]) -> Result<Items<Name>, 
 {
     let names = names_of(alloc, words)?;
     if names.is_empty() {
-        return Err(LineError::Fault(FaultKind::Malformed));
+        return Err(LineError::MALFORMED);
     }
     Ok(names)
 }
@@ -121,7 +123,7 @@ impl<'b, 'a> Words<'b, 'a> {
         ensures { Reads (λ w. w.now) result self.new (word_at self.old) }
     {
         match self.rest {
-            [] => Err(LineError::Fault(FaultKind::Malformed)),
+            [] => Err(LineError::MALFORMED),
             [word, rest @ ..] => {
                 self.rest = rest;
                 Ok(*word)
@@ -136,7 +138,7 @@ impl<'b, 'a> Words<'b, 'a> {
     {
         match Name::read(self.word()?) {
             Some(name) => Ok(name),
-            None => Err(LineError::Fault(FaultKind::Malformed)),
+            None => Err(LineError::MALFORMED),
         }
     }
 
@@ -147,7 +149,7 @@ impl<'b, 'a> Words<'b, 'a> {
     {
         match Title::read(self.word()?) {
             Some(title) => Ok(title),
-            None => Err(LineError::Fault(FaultKind::Malformed)),
+            None => Err(LineError::MALFORMED),
         }
     }
 
@@ -159,7 +161,7 @@ impl<'b, 'a> Words<'b, 'a> {
         if self.rest.is_empty() {
             Ok(())
         } else {
-            Err(LineError::Fault(FaultKind::Malformed))
+            Err(LineError::MALFORMED)
         }
     }
 }

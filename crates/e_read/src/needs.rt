@@ -22,7 +22,7 @@ ghost use Rattle.e_read.specs.inner.Needs.{open_goal, one_each, due_of};
 
 use e_book::{BlockKind, OpenBlock, TheoremParser};
 use e_cert::{Certs, Obligation};
-use e_line::{FaultKind, LineError, RawApply, RawLine};
+use e_line::{LineError, RawApply, RawLine};
 use e_literal::{Items, Lit, Map, NOTHING, Obj, Scope, Sort, grown, next_objects};
 use e_names::{Theorems, apply_in, let_in, lit_in, qed_in, scope_of_names, superpose_in};
 use e_text::Name;
@@ -56,7 +56,7 @@ fn args_without_blank(alloc: Global, pattern: &[Option<Obj>]) -> Result<Items<Ob
     for entry in pattern {
         match *entry {
             Some(object) => args.push(object)?,
-            None => return Err(LineError::Fault(FaultKind::Malformed)),
+            None => return Err(LineError::MALFORMED),
         }
     }
     Ok(args)
@@ -78,7 +78,7 @@ fn needs_in(
     let args = args_without_blank(alloc, pattern)?;
     match use_of(alloc, statement, args.items(), scope) {
         Ok(used) => Ok(used.needs),
-        Err(UseFault::BadArgs) => Err(LineError::Fault(FaultKind::Malformed)),
+        Err(UseFault::BadArgs) => Err(LineError::MALFORMED),
         Err(UseFault::NoMemory) => Err(LineError::NoMemory),
     }
 }

@@ -27,7 +27,7 @@ use crate::strict::is_apart;
 use e_book::{Section, Theorem, TheoremParser, no_names};
 use e_cert::{Obligation, Pending, cert_line_is_of, exact_cert_line};
 use e_clause::Version;
-use e_line::{FaultKind, LineError, RawLine, exact_line_of, words_of_line};
+use e_line::{LineError, RawLine, exact_line_of, words_of_line};
 use e_names::Theorems;
 use e_text::{Line, LineEnd, is, put_number};
 use std::alloc::{AllocError, Global};
@@ -121,7 +121,7 @@ fn take_next(
     ensures names { OnOk result (FewNames owed.new.names) }
 {
     if !is_apart(parser, raw_line) {
-        return Err(LineError::Fault(FaultKind::Malformed));
+        return Err(LineError::MALFORMED);
     }
     put_owed(alloc, known, parser, raw_line, owed)?;
     parser.take(alloc, known, raw_line)?;
@@ -159,7 +159,7 @@ impl BlockParser {
         let cert_line = exact_cert_line(alloc, line, words)?;
         if !cert_line_is_of(self.version, &cert_line) {
             mem::drop(cert_line);
-            return Err(LineError::Fault(FaultKind::Malformed));
+            return Err(LineError::MALFORMED);
         }
         let taken = self.owed.after_cert_line(alloc, &cert_line);
         mem::drop(cert_line);
@@ -255,7 +255,7 @@ impl BlockParser {
         ensures few { OnOk result (OnSome self.new.parser (length known.now ≤ most_theorems)) }
     {
         match words {
-            [] => Err(LineError::Fault(FaultKind::Malformed)),
+            [] => Err(LineError::MALFORMED),
             [word, rest @ ..] => {
                 if is(word, b"|") {
                     return self.take_certificate(alloc, line, rest);
@@ -297,7 +297,7 @@ impl BlockParser {
     {
         match line.end {
             LineEnd::Lf => self.take_bytes(alloc, known, line.bytes),
-            _ => Err(LineError::Fault(FaultKind::Malformed)),
+            _ => Err(LineError::MALFORMED),
         }
     }
 

@@ -5,17 +5,19 @@ use Rattle.e_commands.specs.declared.status.Status.{Status}
 use Rattle.e_run.specs.declared.command.Command.{Command}
 use Rattle.e_run.specs.declared.command.Command.TheVariants.{Check, Verify, Figure, Rewrite, Make}
 use Rattle.e_run.specs.declared.command.Command.TheVariants.{Suggest, Trial, Unknown}
-use Rattle.e_commands.specs.Answers.{Answers, AnswersUsage, ChecksBook, IsAccepted, IsDrawn}
-use Rattle.e_commands.specs.Answers.{IsReadFault, IsVerified}
-use Rattle.e_commands.specs.DrawerAnswers.{AnswersFigure, DrawsText}
+use Rattle.e_commands.specs.Answers.{Answers, IsAccepted, IsDrawn, IsReadFault, IsVerified, Outputs}
+use Rattle.e_commands.specs.Answers.{WroteOfText, UsageAnswer}
+use Rattle.e_commands.specs.DrawerAnswers.{AnswersFigure, FigureAnswer}
 use Rattle.e_commands.specs.Input.{IsAtEnd}
-use Rattle.e_commands.specs.MadeBooks.{Makes}
 use Rattle.e_run.specs.Proofs.{ReadProofs, RewroteProofs, WroteProofs}
-use Rattle.e_commands.specs.Rewrites.{AnswersRewrite, IsRewritten, RewritesText}
-use Rattle.e_commands.specs.SuggesterAnswers.{AnswersSuggest, SuggestsBook}
+use Rattle.e_commands.specs.Rewrites.{AnswersRewrite, IsRewritten, RewriteAnswer}
+use Rattle.e_commands.specs.SuggesterAnswers.{AnswersSuggest, SuggestAnswer}
 use Rattle.e_commands.specs.Taken.{HandledAll, TookFew}
 use Rattle.e_commands.specs.Trials.{AnswersTrial, HasCount, Tries}
-use Rattle.e_commands.specs.VerifierAnswers.{AnswersText, VerifiesText}
+use Rattle.e_commands.specs.VerifierAnswers.{AnswersText, TextAnswer}
+use Rattle.e_commands.specs.Wrote.{Wrote}
+use Rattle.e_commands.specs.MadeBooks.{MadeAnswer}
+use Rattle.e_commands.specs.Outcome.{lines_of_book}
 
 -- what was written of an accepted book, and of a text that is upgraded or trimmed, and a text that
 -- is verified, spell proofs
@@ -28,14 +30,16 @@ HasProofs _ left old new answer = Unit {0}
 
 -- what the answer means, and what was written
 abbrev pub Runs : Command → Option (List ℕ) → Option (List ℕ) → Option (List ℕ) → Status → Type 0
-Runs Check left old new answer = ChecksBook left old new answer
-Runs Verify left old new answer = VerifiesText left old new answer
-Runs Figure left old new answer = DrawsText left old new answer
-Runs (Rewrite job) left old new answer = RewritesText job left old new answer
-Runs (Make n) left old new answer = Makes n old new answer
+Runs Check left old new answer =
+    WroteOfText (λ text. Outputs (lines_of_book text)) left old new answer
+Runs Verify left old new answer = WroteOfText TextAnswer left old new answer
+Runs Figure left old new answer = WroteOfText FigureAnswer left old new answer
+Runs (Rewrite job) left old new answer = WroteOfText (RewriteAnswer job) left old new answer
+Runs (Make n) left old new answer = Wrote (MadeAnswer n) old new answer
 Runs (Trial n) left old new answer = Tries n old new answer × HasCount n answer
-Runs (Suggest title step) left old new answer = SuggestsBook title step left old new answer
-Runs Unknown left old new answer = AnswersUsage old new answer
+Runs (Suggest title step) left old new answer =
+    WroteOfText (λ text. SuggestAnswer (lines_of_book text) title step) left old new answer
+Runs Unknown left old new answer = Wrote UsageAnswer old new answer
 
 -- and the other way round: where a book has an outcome, and a text a judgement, that is the answer;
 -- and a figure text always has one; where the way to a step has an outcome, that is the answer

@@ -91,7 +91,11 @@ impl Wanted {
     {
         match term {
             Term::Seg(a, b) => self.need_all(&[point(a), point(b)]),
-            Term::Ang(a, b, c) | Term::Area(a, b, c) => self.need_all(&[point(a), point(b), point(c)]),
+            Term::Ang(a, b, c) | Term::Area(a, b, c) => self.need_all(&[
+                point(a),
+                point(b),
+                point(c),
+            ]),
             Term::Right => self.need_all(&[]),
         }
     }

@@ -1,5 +1,5 @@
 -- What is suggested theorem by theorem: the first applications, in order.
-use Rattle.std.proofs.Common.{◌≡◌, ◌⊎◌, ℕ, zero, suc, ◌+◌, ◌-◌, ◌<◌, ◌≤◌, List, [], ◌∷◌, ◌++◌, map, length, refl, sym, ap, ap₂, ◌∙◌, subst, arith, Bool, true, false, true≢false, eqb, ltb, ◌&&◌, inl, inr, Some, append-nil, length-append}
+use Rattle.std.proofs.Common.{◌≡◌, ◌⊎◌, ℕ, zero, suc, ◌+◌, ◌-◌, ◌<◌, ◌≤◌, List, [], ◌∷◌, ◌++◌, map, length, refl, sym, ap, ap₂, ◌∙◌, subst, arith, Bool, true, false, true≢false, eqb, ltb, ◌&&◌, inl, inr, Some, length-append}
 use Rattle.std.specs.Prelude.{Contains, slice_get}
 use Rattle.std.specs.List.{list_all}
 use Rattle.std.proofs.lemmas.Bool.{and_from, or_left, or_right, lt-ltb, cases_lt}
@@ -22,21 +22,21 @@ use Rattle.e_book.specs.Canonical.{text_of}
 use Rattle.e_suggest.specs.Suggestions.{AreFirstChoices, SomeArgsAreTooWide, blanks}
 use Rattle.e_commands.specs.declared.suggestions.Listed.{Listed}
 use Rattle.e_commands.specs.declared.suggestions.Listed.TheVariants as listed
-use Rattle.e_commands.specs.SuggesterAnswers.{apply_line, line_of, Application, MayApply, precedes, is_in_order, is_later, AreFirstApplications}
-use Rattle.e_commands.specs.inner.Suggesting.{apply_lines, AreAllChoices, IsListedOne, SomeIsTooWide, AreListed, IsListed, AreListedTo}
+use Rattle.e_commands.specs.SuggesterAnswers.{apply_line, line_of, Application, MayApply, precedes, is_in_order, is_later}
+use Rattle.e_commands.specs.inner.Suggesting.{apply_lines, AreChosen, IsListedOne, SomeIsTooWide, IsListed, AreListedTo}
 
 -- ---- elements of lists
 
-contains_none : {X : Type 0} (x : X) → Contains [] x → ⊥
+pub contains_none : {X : Type 0} (x : X) → Contains [] x → ⊥
 contains_none x h = omega (arith, h.1)
 
-contains_first : {X : Type 0} (c : X) (cs : List X) → Contains (c ∷ cs) c
+pub contains_first : {X : Type 0} (c : X) (cs : List X) → Contains (c ∷ cs) c
 contains_first c cs = (0, omega arith, refl)
 
-contains_more : {X : Type 0} (x c : X) (cs : List X) → Contains cs x → Contains (c ∷ cs) x
+pub contains_more : {X : Type 0} (x c : X) (cs : List X) → Contains cs x → Contains (c ∷ cs) x
 contains_more x c cs h = (suc h.0, omega (arith, h.1), h.2)
 
-contains_cases : {X : Type 0} (x c : X) (cs : List X) → Contains (c ∷ cs) x → (c ≡ x) ⊎ Contains cs x
+pub contains_cases : {X : Type 0} (x c : X) (cs : List X) → Contains (c ∷ cs) x → (c ≡ x) ⊎ Contains cs x
 contains_cases x c cs (zero, less, is) = inl is
 contains_cases x c cs (suc k, less, is) = inr (k, omega (arith, less), is)
 
@@ -145,17 +145,17 @@ is_own scope facts known k h a here m there =
       is = ap₂ (λ (p : ℕ) (x : TitledStatement). own p x a.args) (sym there) (sym same);
     }
 
-choices_good : (scope : Scope) (facts : List Lit) (known : List TitledStatement) (k : ℕ) (h : TitledStatement) (left : ℕ) (cs : List (List Obj)) → Some h ≡ slice_get known k → AreAllChoices (stated h.statement) scope facts left cs
+choices_good : (scope : Scope) (facts : List Lit) (known : List TitledStatement) (k : ℕ) (h : TitledStatement) (left : ℕ) (cs : List (List Obj)) → Some h ≡ slice_get known k → AreChosen (stated h.statement) scope facts left cs false
     → (c : List Obj) → Contains cs c → MayApply scope facts known (own k h c)
-choices_good scope facts known k h left cs here (inl (many, none)) c there = absurd (contains_none c (subst (λ (xs : List (List Obj)). Contains xs c) none there))
+choices_good scope facts known k h left cs here (inl (many, none, complete)) c there = absurd (contains_none c (subst (λ (xs : List (List Obj)). Contains xs c) none there))
 choices_good scope facts known k h left cs here (inr (few, first)) c there = record { is_known = here; is_asked_for = few; good = first.good c there }
 
-choices_ascend : (t : StatementView) (scope : Scope) (facts : List Lit) (left : ℕ) (cs : List (List Obj)) → AreAllChoices t scope facts left cs → is_ascending cs ≡ true
-choices_ascend t scope facts left cs (inl (many, none)) = ap is_ascending none
+choices_ascend : (t : StatementView) (scope : Scope) (facts : List Lit) (left : ℕ) (cs : List (List Obj)) → AreChosen t scope facts left cs false → is_ascending cs ≡ true
+choices_ascend t scope facts left cs (inl (many, none, complete)) = ap is_ascending none
 choices_ascend t scope facts left cs (inr (few, first)) = first.ascending
 
-choices_all : (scope : Scope) (facts : List Lit) (k : ℕ) (h : TitledStatement) (left : ℕ) (cs : List (List Obj)) (a : Application) → AreAllChoices (stated h.statement) scope facts left cs → IsOwn scope facts k h a → Contains (map (own k h) cs) a
-choices_all scope facts k h left cs a (inl (many, none)) o = absurd (let few = o.few in omega (arith, many, few))
+choices_all : (scope : Scope) (facts : List Lit) (k : ℕ) (h : TitledStatement) (left : ℕ) (cs : List (List Obj)) (a : Application) → AreChosen (stated h.statement) scope facts left cs false → IsOwn scope facts k h a → Contains (map (own k h) cs) a
+choices_all scope facts k h left cs a (inl (many, none, complete)) o = absurd (let few = o.few in omega (arith, many, few))
 choices_all scope facts k h left cs a (inr (few, first)) o =
     elim (first.none_missing a.args o.good) [
       | inl there ↦ subst (λ (b : Application). Contains (map (own k h) cs) b) o.is (contains_map (own k h) cs a.args there)
@@ -184,15 +184,15 @@ added_in_order scope facts known k h xs cs good e f =
     (λ x y here there. let c = of_map (own k h) cs y there in subst (λ (b : Application). precedes x b ≡ true) c.2 (earlier_precedes x (own k h c.0) (good x here).1))
 
 pub listed_more : (names : Names) (scope : Scope) (facts : List Lit) (known : List TitledStatement) (k : ℕ) (title : List ℕ) (t : StatementView) (old new : List ℕ) (count n : ℕ) (l : Listed) → IsHeadedAt known k title t
-    → AreListedTo names scope facts known k old count → l ≡ listed.All n → IsListedOne names scope facts title t (1000 - count) old new l → AreListedTo names scope facts known (k + 1) new (count + n)
+    → AreListedTo names scope facts known k old count → l ≡ listed.Found n false → IsListedOne names scope facts title t (1000 - count) old new l → AreListedTo names scope facts known (k + 1) new (count + n)
 listed_more names scope facts known k title t old new count n l at s is one = more (subst (λ (x : Listed). IsListedOne names scope facts title t (1000 - count) old new x) is one)
   where
     h : TitledStatement
     h = at.headed
 
-    more : IsListedOne names scope facts title t (1000 - count) old new (listed.All n) → AreListedTo names scope facts known (k + 1) new (count + n)
+    more : IsListedOne names scope facts title t (1000 - count) old new (listed.Found n false) → AreListedTo names scope facts known (k + 1) new (count + n)
     more (cs, bytes, many, few, all) =
-        let own_all : AreAllChoices (stated h.statement) scope facts (1000 - count) cs = subst (λ (u : StatementView). AreAllChoices u scope facts (1000 - count) cs) (sym at.states) all in
+        let own_all : AreChosen (stated h.statement) scope facts (1000 - count) cs false = subst (λ (u : StatementView). AreChosen u scope facts (1000 - count) cs false) (sym at.states) all in
         record {
           applications = s.applications ++ map (own k h) cs;
           bytes = bytes ∙ ap₂ (λ (x : List ℕ) (p : List ℕ). x ++ text_of (apply_lines p names cs)) s.bytes (sym at.titled) ∙ sym (lines_both names k h s.applications cs);
@@ -210,16 +210,17 @@ listed_more names scope facts known k title t old new count n l at s is one = mo
         }
 
 pub listed_full : (names : Names) (scope : Scope) (facts : List Lit) (known : List TitledStatement) (k : ℕ) (title : List ℕ) (t : StatementView) (old new : List ℕ) (count n : ℕ) (l : Listed) → IsHeadedAt known k title t
-    → AreListedTo names scope facts known k old count → l ≡ listed.Full n → IsListedOne names scope facts title t (1000 - count) old new l → IsListed names scope facts known new (listed.Full (count + n))
+    → AreListedTo names scope facts known k old count → l ≡ listed.Found n true → IsListedOne names scope facts title t (1000 - count) old new l → IsListed names scope facts known new (listed.Found (count + n) true)
 listed_full names scope facts known k title t old new count n l at s is one = full (subst (λ (x : Listed). IsListedOne names scope facts title t (1000 - count) old new x) is one)
   where
     h : TitledStatement
     h = at.headed
 
-    full : IsListedOne names scope facts title t (1000 - count) old new (listed.Full n) → IsListed names scope facts known new (listed.Full (count + n))
-    full (cs, bytes, many, few, some) =
+    full : IsListedOne names scope facts title t (1000 - count) old new (listed.Found n true) → IsListed names scope facts known new (listed.Found (count + n) true)
+    full (cs, bytes, many, few, inl (none, nothing, complete)) = absurd (true≢false complete)
+    full (cs, bytes, many, few, inr (fits, some)) =
         let first : AreFirstChoices (stated h.statement) scope facts (1000 - count) cs true = subst (λ (u : StatementView). AreFirstChoices u scope facts (1000 - count) cs true) (sym at.states) some in
-        let asked : length h.statement.declared ≤ 6 = subst (λ (u : StatementView). length u.declared ≤ 6) (sym at.states) few in
+        let asked : length h.statement.declared ≤ 6 = subst (λ (u : StatementView). length u.declared ≤ 6) (sym at.states) fits in
         let mine = map (own k h) cs in
         let long = length-append s.applications mine in
         let same = length-map cs (own k h) in
@@ -265,7 +266,7 @@ listed_wide names scope facts known k title t left w old new l at is one =
       too_wide = subst (λ (u : StatementView). SomeArgsAreTooWide u scope facts w) (sym at.states) wide.1;
     }
 
-pub listed_all : (names : Names) (scope : Scope) (facts : List Lit) (known : List TitledStatement) (k : ℕ) (out : List ℕ) (count : ℕ) → length known ≤ k → AreListedTo names scope facts known k out count → IsListed names scope facts known out (listed.All count)
+pub listed_all : (names : Names) (scope : Scope) (facts : List Lit) (known : List TitledStatement) (k : ℕ) (out : List ℕ) (count : ℕ) → length known ≤ k → AreListedTo names scope facts known k out count → IsListed names scope facts known out (listed.Found count false)
 listed_all names scope facts known k out count past s =
     record {
       applications = s.applications;

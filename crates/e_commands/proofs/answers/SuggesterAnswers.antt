@@ -1,5 +1,5 @@
 -- What is due with an answer to `suggest`, and which answer a book can have.
-use Rattle.std.proofs.Common.{◌≡◌, ◌⊎◌, inl, inr, ℕ, ◌<◌, ◌≤◌, List, [], ◌∷◌, ◌++◌, length, Bool, ◌||◌, true, false, true≢false, Option, Some, None, Result, Ok, Err, refl, sym, ap, subst, ◌∙◌, arith}
+use Rattle.std.proofs.Common.{◌≡◌, ◌⊎◌, inl, inr, ℕ, ◌<◌, ◌≤◌, List, [], ◌∷◌, ◌++◌, length, map, Bool, ◌||◌, true, false, true≢false, Option, Some, None, Result, Ok, Err, refl, sym, ap, subst, ◌∙◌, arith}
 use Rattle.std.specs.Prelude.{MatchBool, IfOk}
 use Rattle.std.specs.Str.{bytes_eq}
 use Rattle.std.proofs.lemmas.Bool.{cases_Bool}
@@ -24,7 +24,6 @@ use Rattle.e_line.specs.declared.fault.BookFault.{BookFault}
 use Rattle.e_names.specs.TitledStatements.{TitledStatement, is_known, stated_by}
 use Rattle.e_book.specs.TheoremViews.{TheoremView}
 use Rattle.e_line.specs.declared.fault.BookFault.TheVariants as faults
-use Rattle.e_book.specs.Canonical.{text_of}
 use Rattle.e_names.specs.declared.known.Known.{Known}
 use Rattle.e_names.specs.Titled.{Titled, is_notion}
 use Rattle.e_names.specs.Taken.{nothing_known}
@@ -38,24 +37,27 @@ use Rattle.e_prove.specs.Places.{IsStepPlace}
 use Rattle.e_prove.specs.Stops.{StopIs, HasNames, IsStopBefore}
 use Rattle.e_prove.specs.declared.place.Place.{Place}
 use Rattle.e_spell.specs.Spelling.{stop_text, too_wide_text, IsStop}
-use Rattle.e_commands.specs.declared.trier.Answer.{Answer}
+use Rattle.e_book.specs.Canonical.{text_of}
+use Rattle.e_commands.specs.declared.output.Answer.{Answer}
+use Rattle.e_commands.specs.declared.output.Failure.{Failure}
+use Rattle.e_commands.specs.inner.Finished.{HasDue, HasDueOfText}
 use Rattle.e_commands.specs.declared.status.Status.{Status}
 use Rattle.e_commands.specs.declared.status.Status.TheVariants as status
-use Rattle.e_commands.specs.Answers.{IsReadFault, IsWriteFault}
+use Rattle.e_commands.specs.Answers.{IsReadFault, WroteOfText}
 use Rattle.e_commands.specs.DrawerAnswers.{lacks_memory}
 use Rattle.e_commands.specs.Input.{IsTextOf}
 use Rattle.e_commands.specs.LastLines.{fault_line, no_step_line, suggested_line}
 use Rattle.e_commands.specs.Outcome as outcome
 use Rattle.e_commands.specs.Outcome.{BookOutcome, NextIs, Takes, AreDefined, IsLicensed, StopsAt, RefusedAt, and_theorem, and_notion, end_line_number, lines_of_book}
-use Rattle.e_commands.specs.SuggesterAnswers.{AreFirstApplications, line_of, UpToTheorem, NextUpTo, IsEarlier, IsAsked, HasTooFewSteps, WayOutcome, AtStep, NoStep, Unlicensed, Faulty, IsWayOf, Suggests, Widens, SuggestAnswer, SuggestsBook, HasWideOnWay, IsWayAnswer, AnswersSuggest}
-use Rattle.e_commands.specs.Wrote.{ClosesWith, Wrote}
+use Rattle.e_commands.specs.SuggesterAnswers.{Application, line_of, AreFirstApplications, UpToTheorem, NextUpTo, IsEarlier, IsAsked, HasTooFewSteps, WayOutcome, AtStep, NoStep, Unlicensed, Faulty, IsWayOf, Suggests, Widens, SuggestAnswer, HasWideOnWay, IsWayAnswer, AnswersSuggest}
+use Rattle.e_commands.specs.Wrote.{Wrote}
 use Rattle.e_commands.specs.inner.BookResults.{stop_answer}
 use Rattle.e_commands.specs.inner.Suggesting.{AreListed, AnswersAt, IsBookAnswer, IsNextTitled, AnswersNext, PassesNext, IsStopAnswer, IsOnWay, SomeIsTooWide, is_out_of_memory}
+use Rattle.e_commands.proofs.answers.OneSuggestion.{one_list}
 use Rattle.e_commands.proofs.outcomes.Completeness.{wide_line, stop_of_refusal}
 use Rattle.e_commands.proofs.progress.History.{takes_more, takes_notion, defined_same}
 use Rattle.e_commands.proofs.outcomes.OneOutcome.{found, none_left, found_not_none, found_not_faulty, none_not_faulty, same_faulty, one_stop_at, stop_of_same, same_first, takes_at, same_rest, NoNotion, theorem_here, spot_of}
 use Rattle.e_commands.proofs.answers.Trials.{book_lines}
-use Rattle.e_commands.proofs.answers.Wrote.{closed_wrote}
 use Rattle.e_judgement.specs.Judged.{with_theorem}
 
 -- ---- titles
@@ -408,27 +410,68 @@ last_differs : (known : List TitledStatement) (t : TheoremView) (title : List �
 last_differs [] t title h = turned title t.title (or_not_left (bytes_eq title t.title) false h)
 last_differs (x ∷ xs) t title h = last_differs xs t title (or_not_right (bytes_eq title x.title) _ h)
 
-one_way : (last : ℕ) (known : Known) (lines : Rest) (title : List ℕ) (step : ℕ) (ts us : List TheoremView) (k1 k2 : Known) (r1 r2 : Rest) (a b : WayOutcome) → Takes last known lines ts k1 r1 → Takes last known lines us k2 r2
-    → is_known k1.theorems title ≡ false → is_known k2.theorems title ≡ false → WayAt last k1 r1 title step a → WayAt last k2 r2 title step b → a ≡ b
-one_way last known lines title step [] [] k1 k2 r1 r2 a b p q m n h k =
-    let spot = spot_of last known lines k1 k2 r1 r2 p q (end_here last k1 r1 title step a h) (end_here last k2 r2 title step b k) in
-    one_way_at last k1 r1 title step a b h (ends_at last k1 k2 r1 r2 title step b spot.0 spot.1 k)
-one_way last known lines title step [] (u ∷ us) k1 k2 r1 r2 a b p q m n h k =
+-- two ways to where the way ends are one
+one_spot : (last : ℕ) (known : Known) (lines : Rest) (title : List ℕ) (step : ℕ) (ts us : List TheoremView) (k1 k2 : Known) (r1 r2 : Rest) (a b : WayOutcome) → Takes last known lines ts k1 r1 → Takes last known lines us k2 r2
+    → is_known k1.theorems title ≡ false → is_known k2.theorems title ≡ false → WayAt last k1 r1 title step a → WayAt last k2 r2 title step b → (k1 ≡ k2) × (r1 ≡ r2)
+one_spot last known lines title step [] [] k1 k2 r1 r2 a b p q m n h k =
+    spot_of last known lines k1 k2 r1 r2 p q (end_here last k1 r1 title step a h) (end_here last k2 r2 title step b k)
+one_spot last known lines title step [] (u ∷ us) k1 k2 r1 r2 a b p q m n h k =
     absurd (ends_before last known lines k1 q.0 r1 q.1 q.3 u title step a p h q.2 q.4 q.5 (last_differs q.0.theorems u title (not_known last (and_theorem q.0 u) q.3 us k2 r2 title q.6 n)))
-one_way last known lines title step (t ∷ ts) [] k1 k2 r1 r2 a b p q m n h k =
+one_spot last known lines title step (t ∷ ts) [] k1 k2 r1 r2 a b p q m n h k =
     absurd (ends_before last known lines k2 p.0 r2 p.1 p.3 t title step b q k p.2 p.4 p.5 (last_differs p.0.theorems t title (not_known last (and_theorem p.0 t) p.3 ts k1 r1 title p.6 m)))
-one_way last known lines title step (t ∷ ts) (u ∷ us) k1 k2 r1 r2 a b p q m n h k =
+one_spot last known lines title step (t ∷ ts) (u ∷ us) k1 k2 r1 r2 a b p q m n h k =
     let spot = spot_of last known lines p.0 q.0 p.1 q.1 p.2 q.2 (theorem_here last p.0 p.1 t p.3 p.4) (theorem_here last q.0 q.1 u q.3 q.4) in
     let there : item_from p.0 last None p.1 ≡ item_from q.0 last None q.1 = ap (λ (x : Known). item_from x last None p.1) spot.0 ∙ ap (λ (l : Rest). item_from q.0 last None l) spot.1 in
     let e = sym q.4 ∙ sym there ∙ p.4 in
-    one_way last (and_theorem p.0 t) p.3 title step ts us k1 k2 r1 r2 a b p.6
+    one_spot last (and_theorem p.0 t) p.3 title step ts us k1 k2 r1 r2 a b p.6
     (takes_at last p.0 q.0 k2 p.3 q.3 r2 us t u (sym spot.0) (same_first u t q.3 p.3 e) (same_rest (OfTheorem u) (OfTheorem t) q.3 p.3 e) q.6) m n h k
 
 pub way_is_one : (lines : Rest) (title : List ℕ) (step : ℕ) (a b : WayOutcome) → IsWayOf lines title step a → IsWayOf lines title step b → a ≡ b
 way_is_one lines title step a b h k =
+    let last = end_line_number lines in
     let p = way_at lines title step a h in
     let q = way_at lines title step b k in
-    one_way (end_line_number lines) nothing_known lines title step p.theorems q.theorems p.known q.known p.rest q.rest a b p.begins q.begins p.untitled q.untitled p.holds q.holds
+    let spot = one_spot last nothing_known lines title step p.theorems q.theorems p.known q.known p.rest q.rest a b p.begins q.begins p.untitled q.untitled p.holds q.holds in
+    one_way_at last p.known p.rest title step a b p.holds (ends_at last p.known q.known p.rest q.rest title step b spot.0 spot.1 q.holds)
+
+-- ---- what is suggested is one
+
+abbrev AreSame : ℕ → ℕ → Bool → Bool → List ℕ → List ℕ → Type 0
+AreSame n m more other out text = (n ≡ m) × (more ≡ other) × (out ≡ text)
+
+same_names : (x y : Names) → Some x ≡ Some y → x ≡ y
+same_names x y e = cc
+
+one_suggestion : (title : List ℕ) (step : ℕ) (known : List TitledStatement) (t : TheoremView) (n m : ℕ) (more other : Bool) (out text : List ℕ) → Suggests title step n more out known t → Suggests title step m other text known t → AreSame n m more other out text
+one_suggestion title step known t n m more other out text s u =
+    let place = one_context (stated_by known) (stated t.statement) t.script step s.placed u.placed s.asked.context u.asked.context in
+    let names : s.names ≡ u.names = same_names s.names u.names (s.named ∙ sym u.named) in
+    let first : AreFirstApplications s.placed.scope s.placed.facts known u.applications other =
+    subst (λ (c : Scope). AreFirstApplications c s.placed.facts known u.applications other) (sym place.scope) (subst (λ (fs : List Lit). AreFirstApplications u.placed.scope fs known u.applications other) (sym place.facts) u.first) in
+    let list = one_list s.placed.scope s.placed.facts known s.applications u.applications more other s.first first in
+    let count : n ≡ m = s.count ∙ ap length list.0 ∙ sym u.count in (
+      count,
+      list.1,
+      s.bytes ∙ ap (λ (x : Names). text_of (map (line_of x) s.applications) ++ suggested_line n more) names
+          ∙ ap (λ (xs : List Application). text_of (map (line_of u.names) xs) ++ suggested_line n more) list.0
+          ∙ ap (λ (i : ℕ). text_of (map (line_of u.names) u.applications) ++ suggested_line i more) count
+          ∙ ap (λ (b : Bool). text_of (map (line_of u.names) u.applications) ++ suggested_line m b) list.1 ∙ sym u.bytes,
+    )
+
+one_next : (last : ℕ) (known : Known) (rest : Rest) (title : List ℕ) (step n m : ℕ) (more other : Bool) (out text : List ℕ) → NextIs last known rest (Suggests title step n more out known.theorems) → NextIs last known rest (Suggests title step m other text known.theorems)
+    → AreSame n m more other out text
+one_next last known rest title step n m more other out text h k =
+    one_suggestion title step known.theorems h.0 n m more other out text h.3
+    (subst (λ (u : TheoremView). Suggests title step m other text known.theorems u) (same_first k.0 h.0 k.1 h.1 (sym k.2 ∙ h.2)) k.3)
+
+pub suggestion_is_one : (lines : Rest) (title : List ℕ) (step n m : ℕ) (more other : Bool) (out text : List ℕ) → NextUpTo lines title (Suggests title step n more out) → NextUpTo lines title (Suggests title step m other text) → AreSame n m more other out text
+suggestion_is_one lines title step n m more other out text p q =
+    let last = end_line_number lines in
+    let spot = one_spot last nothing_known lines title step p.theorems q.theorems p.known q.known p.rest q.rest AtStep AtStep p.begins q.begins p.untitled q.untitled
+    (p.holds.0, p.holds.1, p.holds.2, (p.holds.3.placed, p.holds.3.asked)) (q.holds.0, q.holds.1, q.holds.2, (q.holds.3.placed, q.holds.3.asked)) in
+    one_next last p.known p.rest title step n m more other out text p.holds
+    (subst (λ (r : Rest). NextIs last p.known r (Suggests title step m other text p.known.theorems)) (sym spot.1)
+    (subst (λ (k : Known). NextIs last k q.rest (Suggests title step m other text k.theorems)) (sym spot.0) q.holds))
 
 -- ---- the answer is that of the way
 
@@ -492,25 +535,17 @@ answered lines title step way old new answer h (inl w) = due_answers lines title
 answered lines title step way old new answer h (inr w) = subst (λ (a : Status). IsWayAnswer lines title step way a) (sym w.0) (failed lines title step way).1
 
 -- where the source exposes its bytes
-pub answers_suggest : (title : List ℕ) (step : ℕ) (left old new : Option (List ℕ)) (answer : Status) → SuggestsBook title step left old new answer → AnswersSuggest title step left answer
+pub answers_suggest : (title : List ℕ) (step : ℕ) (left old new : Option (List ℕ)) (answer : Status) → WroteOfText (λ text. SuggestAnswer (lines_of_book text) title step) left old new answer → AnswersSuggest title step left answer
 answers_suggest title step left old new answer c text way is_answer h =
-    let all = subst (λ (l : Option (List ℕ)). SuggestsBook title step l old new answer) is_answer c in
+    let all = subst (λ (l : Option (List ℕ)). WroteOfText (λ text. SuggestAnswer (lines_of_book text) title step) l old new answer) is_answer c in
     answered (lines_of_book text) title step way old new answer h (subst (λ (t : List ℕ). Wrote (SuggestAnswer (lines_of_book t) title step) old new answer) all.1 all.2)
 
--- ---- what was read and written
+-- ---- what was read
 
-pub any_book : (title : List ℕ) (step : ℕ) (left old new : Option (List ℕ)) (answer : Status) → ((text : List ℕ) → Wrote (SuggestAnswer (lines_of_book text) title step) old new answer) → SuggestsBook title step left old new answer
-any_book title step None old new answer h = ([], tt, h [])
-any_book title step (Some text) old new answer h = (text, refl, h text)
-
-pub suggested_closed : (lines : Rest) (title : List ℕ) (step : ℕ) (old new : Option (List ℕ)) (last : List ℕ) (answer result : Status) → SuggestAnswer lines title step answer last → ClosesWith old new last answer result
-    → Wrote (SuggestAnswer lines title step) old new result
-suggested_closed lines title step old new last answer result d c = closed_wrote (SuggestAnswer lines title step) old new last answer result d c
-
-pub read_book : (title : List ℕ) (step : ℕ) (left : Option (List ℕ)) (read : List ℕ) (old new : Option (List ℕ)) (answer : Status) → IsTextOf 4194305 left read → Wrote (SuggestAnswer (lines_of_book read) title step) old new answer
-    → SuggestsBook title step left old new answer
-read_book title step None read old new answer e h = (read, tt, h)
-read_book title step (Some text) read old new answer e h = (text, refl, subst (λ (l : Rest). Wrote (SuggestAnswer l title step) old new answer) (book_lines read text e) h)
+pub read_book : (title : List ℕ) (step : ℕ) (left : Option (List ℕ)) (read : List ℕ) (answer : Result Answer Failure) → IsTextOf 4194305 left read → HasDue (SuggestAnswer (lines_of_book read) title step) answer
+    → HasDueOfText (λ text. SuggestAnswer (lines_of_book text) title step) left answer
+read_book title step None read answer e d = (read, tt, d)
+read_book title step (Some text) read answer e d = (text, refl, subst (λ (l : Rest). HasDue (SuggestAnswer l title step) answer) (book_lines read text e) d)
 
 -- ---- what the code answers
 
@@ -591,7 +626,12 @@ is_stop stops.NoMemory h = absurd (true≢false h)
 pub stop_answered : (title : List ℕ) (stop : Stop) (answer : Status) (out : List ℕ) → IsStop stop → answer ≡ stop_answer title stop → out ≡ stop_text title stop → IsStopAnswer title stop answer out
 stop_answered title stop answer out s e f = record { stops = s; is_answer = e; bytes = f }
 
--- no answer on a book is a fault of the sink
-pub no_write_of : (lines : Rest) (title : List ℕ) (step : ℕ) (answer : Status) (out : List ℕ) → SuggestAnswer lines title step answer out → IsWriteFault answer → ⊥
-no_write_of lines title step status.WriteFault out d h = d
-no_write_of lines title step answer out d h = h
+-- ---- the answer on a book
+
+pub book_due : {E : Type 0} (r : Result Answer E) (bytes read title : List ℕ) (step : ℕ) → bytes ≡ read → AnswersIf r (IsBookAnswer (lines_of_book bytes) title step) → AnswersIf r (SuggestAnswer (lines_of_book read) title step)
+book_due (Err e) bytes read title step same h = tt
+book_due (Ok a) bytes read title step same h = subst (λ (t : List ℕ). SuggestAnswer (lines_of_book t) title step a.status a.line.items) same h.due
+
+pub book_unread : {E : Type 0} (r : Result Answer E) (lines : Rest) (title : List ℕ) (step : ℕ) → AnswersIf r (IsBookAnswer lines title step) → IfOk r (λ a. IsReadFault a.status → ⊥)
+book_unread (Err e) lines title step h = tt
+book_unread (Ok a) lines title step h = h.no_read

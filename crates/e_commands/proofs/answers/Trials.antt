@@ -1,5 +1,5 @@
 -- What is answered on a generated book.
-use Rattle.std.proofs.Common.{◌≡◌, inl, inr, ℕ, ◌≤◌, List, [], Option, Some, refl, sym, ap, subst, ◌∙◌, arith}
+use Rattle.std.proofs.Common.{◌≡◌, inl, inr, ℕ, ◌≤◌, List, [], Option, Some, Result, Ok, Err, refl, sym, ap, subst, ◌∙◌, arith}
 use Rattle.e_io.specs.Bytes.{Grew}
 use Rattle.e_text.proofs.LinesOfTexts.{lines_of-take}
 use Rattle.e_deriv.specs.declared.stop.Stop.TheVariants as stops
@@ -10,17 +10,19 @@ use Rattle.e_judgement.specs.Judged.{JudgesText}
 use Rattle.e_commands.specs.declared.status.Status.{Status}
 use Rattle.e_commands.specs.declared.status.Status.TheVariants as status
 use Rattle.e_commands.specs.declared.blocks.BookResult.{BookResult}
+use Rattle.e_commands.specs.declared.output.Answer.{Answer}
+use Rattle.e_commands.specs.declared.output.Failure.{Failure}
+use Rattle.e_commands.specs.declared.output.Failure.TheVariants.{NoMemory, ReadFault, WriteFault}
+use Rattle.e_commands.specs.inner.Finished.{HasDue, HasReadFault}
 use Rattle.e_commands.specs.declared.blocks.BookResult.TheVariants.{All, Stopped, Faulty}
 use Rattle.e_commands.specs.Input.{IsTextOf}
-use Rattle.e_commands.specs.LastLines.{head_line, accepted_line, tried_line}
+use Rattle.e_commands.specs.LastLines.{tried_line}
 use Rattle.e_commands.specs.Outcome.{BookOutcome, IsOutcome, IsOutcomeOf, lines_of_book}
 use Rattle.e_commands.specs.Outcome as outcome
-use Rattle.e_commands.specs.Answers.{IsAnswer, theorems_of, written_with}
-use Rattle.e_commands.specs.Wrote.{ClosesWith}
+use Rattle.e_commands.specs.Answers.{IsAnswer, IsReadFault, theorems_of, written_with}
 use Rattle.e_commands.specs.inner.BookResults.{BlocksUpTo, BookResultIs, answer_of, last_lines}
-use Rattle.e_commands.specs.Trials.{IsStopped, IsTrial, TrialAnswer, TriesLines, Tries, HasCount, IsTrialAnswer, AnswersTrial}
+use Rattle.e_commands.specs.Trials.{IsStopped, IsTrial, TrialAnswer, Tries, HasCount, IsTrialAnswer, AnswersTrial}
 use Rattle.e_commands.proofs.outcomes.Completeness.{answered_so, stops_so, widens_so, is_answer_wide, write_fault_answers, no_memory_answers}
-use Rattle.e_commands.proofs.answers.Wrote.{closed_wrote}
 use Rattle.e_commands.proofs.written_texts.LastLinesWritten.{grew_all}
 use Rattle.e_commands.proofs.written_texts.VerifiedText.{verified_text}
 use Rattle.e_commands.proofs.outcomes.OneOutcome.{outcome_is_one}
@@ -28,11 +30,21 @@ use Rattle.e_commands.proofs.outcomes.AcceptedBooks.{good_accepted}
 use Rattle.e_commands.proofs.title_counts.Titles.{accepted_titles}
 use Rattle.e_commands.proofs.title_counts.GeneratedTitles.{generated_titles}
 use Rattle.e_book.specs.Grammar.{Rest}
+use Rattle.e_roundtrip.specs.Written.{accepted_blocks_line, version_line}
+use Rattle.e_clause.specs.declared.cert.Version.TheVariants.{One}
 
--- ---- the line of an answer
+-- ---- the source
 
-pub closed_answered : (lines : Rest) (old new : Option (List ℕ)) (last line : List ℕ) (answer result : Status) → TrialAnswer lines answer line → last ≡ line → ClosesWith old new last answer result → TriesLines lines old new result
-closed_answered lines old new last line answer result t e c = closed_wrote (TrialAnswer lines) old new line answer result t (subst (λ (l : List ℕ). ClosesWith old new l answer result) e c)
+-- no answer to a book in memory is a fault of the source
+unread_as : (lines : Rest) (answer : Status) (line : List ℕ) → TrialAnswer lines answer line → IsReadFault answer → ⊥
+unread_as lines status.ReadFault line t h = t
+unread_as lines answer line t h = h
+
+pub trial_unread : (lines : Rest) (answer : Result Answer Failure) → HasDue (TrialAnswer lines) answer → HasReadFault answer → ⊥
+trial_unread lines (Ok a) d h = unread_as lines a.status a.line.items d h
+trial_unread lines (Err NoMemory) d h = h
+trial_unread lines (Err ReadFault) d h = d
+trial_unread lines (Err WriteFault) d h = d
 
 -- ---- the answer to an accepted book
 
@@ -41,28 +53,26 @@ inside a b e = cc
 
 -- the head line, the blocks and the line of an accepted book were written: then what was written is that of an accepted book, and is verified
 -- verified
-pub accepted_tried : (lines : Rest) (b c d : Option (List ℕ)) (n s : ℕ) (out last : List ℕ) → Grew (Some []) b head_line → BookResultIs lines b c (All n s) → Grew c d last → last ≡ accepted_line n → d ≡ Some out
+pub accepted_tried : (lines : Rest) (b c d : Option (List ℕ)) (n s : ℕ) (out last : List ℕ) → Grew (Some []) b (version_line One) → BookResultIs lines b c (All n s) → Grew c d last → last ≡ accepted_blocks_line n → d ≡ Some out
     → IsTrial lines n s
 accepted_tried lines b c d n s out last h e g is whole =
-    let all : Grew (Some []) d (written_with e.0.derived (accepted_line n)) =
-    grew_all (Some []) b c d e.0.derived (accepted_line n) h e.0.grew (subst (Grew c d) is g) in
-    let bytes : out ≡ written_with e.0.derived (accepted_line n) = inside _ _ (sym whole ∙ all) in
+    let all : Grew (Some []) d (written_with e.0.derived (accepted_blocks_line n)) =
+    grew_all (Some []) b c d e.0.derived (accepted_blocks_line n) h e.0.grew (subst (Grew c d) is g) in
+    let bytes : out ≡ written_with e.0.derived (accepted_blocks_line n) = inside _ _ (sym whole ∙ all) in
     record {
       out = out;
-      accepted = record {
-        ended = record { derived = e.0.derived; sound = e.0.sound; known = e.0.known; rest = e.0.rest; begins = e.0.begins; holds = e.0.holds; bytes = bytes };
-        steps_are = e.1;
-      };
+      ended = record { derived = e.0.derived; sound = e.0.sound; known = e.0.known; rest = e.0.rest; begins = e.0.begins; holds = e.0.holds; bytes = bytes };
+      steps_are = e.1;
       verified = subst (λ (x : List ℕ). JudgesText x (judgements.Verified n)) (sym bytes) (verified_text lines n e.0.derived e.0.known e.0.rest e.0.sound e.0.begins e.0.holds);
     }
 
 -- what was written of an accepted book is verified
-pub accepted_verified : (lines : Rest) (b c d : Option (List ℕ)) (n s : ℕ) (out last : List ℕ) → Grew (Some []) b head_line → BookResultIs lines b c (All n s) → Grew c d last → last ≡ accepted_line n → d ≡ Some out
+pub accepted_verified : (lines : Rest) (b c d : Option (List ℕ)) (n s : ℕ) (out last : List ℕ) → Grew (Some []) b (version_line One) → BookResultIs lines b c (All n s) → Grew c d last → last ≡ accepted_blocks_line n → d ≡ Some out
     → JudgesText out (judgements.Verified n)
 accepted_verified lines b c d n s out last h e g is whole =
-    let all : Grew (Some []) d (written_with e.0.derived (accepted_line n)) =
-    grew_all (Some []) b c d e.0.derived (accepted_line n) h e.0.grew (subst (Grew c d) is g) in
-    let bytes : out ≡ written_with e.0.derived (accepted_line n) = inside _ _ (sym whole ∙ all) in
+    let all : Grew (Some []) d (written_with e.0.derived (accepted_blocks_line n)) =
+    grew_all (Some []) b c d e.0.derived (accepted_blocks_line n) h e.0.grew (subst (Grew c d) is g) in
+    let bytes : out ≡ written_with e.0.derived (accepted_blocks_line n) = inside _ _ (sym whole ∙ all) in
     subst (λ (x : List ℕ). JudgesText x (judgements.Verified n)) (sym bytes) (verified_text lines n e.0.derived e.0.known e.0.rest e.0.sound e.0.begins e.0.holds)
 
 pub tried_answered : (lines : Rest) (n s : ℕ) (answer : Status) (line : List ℕ) → IsTrial lines n s → answer ≡ status.Tried n s → line ≡ tried_line n s → TrialAnswer lines answer line
@@ -116,7 +126,7 @@ IsOtherAnswer _ = ⊥
 -- where a book was tried, its outcome is that it is accepted
 tried_answers : (text : List ℕ) (n s : ℕ) (end : BookOutcome) → IsTrial (lines_of_book text) n s → IsOutcomeOf text end → IsTrialAnswer (lines_of_book text) end (status.Tried n s)
 tried_answers text n s end h k =
-    let e = h.accepted.ended in
+    let e = h.ended in
     let is : outcome.Accepted n ≡ end =
     outcome_is_one (lines_of_book text) (theorems_of e.derived) k.theorems (outcome.Accepted n) end (record { known = e.known; rest = e.rest; begins = e.begins; ends = e.holds }) k.outcome in
     subst (λ (x : BookOutcome). IsTrialAnswer (lines_of_book text) x (status.Tried n s)) is refl
@@ -171,7 +181,7 @@ answers_trial n old new answer (inr w) end k =
 -- an accepted book that was generated has as many theorems as it was asked for
 count_is : (n m s : ℕ) → n ≤ 500 → IsTrial (lines_of_book (generated_text n)) m s → m ≡ n
 count_is n m s few h =
-    let e = h.accepted.ended in
+    let e = h.ended in
     let lines = lines_of_book (generated_text n) in
     let outcome : IsOutcome lines (theorems_of e.derived) (outcome.Accepted m) = record { known = e.known; rest = e.rest; begins = e.begins; ends = e.holds } in
     sym (accepted_titles lines (theorems_of e.derived) m outcome) ∙ generated_titles n few (good_accepted lines (theorems_of e.derived) m outcome)

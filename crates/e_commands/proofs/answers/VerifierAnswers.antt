@@ -1,5 +1,6 @@
 -- What is written of a judgement, and which answer a text can have.
-use Rattle.std.proofs.Common.{◌≡◌, ◌⊎◌, inl, inr, ℕ, ◌+◌, ◌<◌, ◌≤◌, ◌^◌, List, [], length, Option, Some, None, refl, sym, ap, subst, ◌∙◌, arith, take, length-take-le}
+use Rattle.std.proofs.Common.{◌≡◌, ◌⊎◌, inl, inr, ℕ, ◌+◌, ◌<◌, ◌≤◌, ◌^◌, List, [], length, Option, Some, None, Result, Ok, Err, refl, sym, ap, subst, ◌∙◌, arith, take, length-take-le}
+use Rattle.std.specs.Prelude.{IfOk}
 use Rattle.std.proofs.lemmas.List.{take_all}
 use Rattle.std.proofs.lemmas.Bool.{cases_lt}
 use Rattle.e_judgement.specs.declared.judgement.Judgement.{Judgement}
@@ -8,15 +9,12 @@ use Rattle.e_judgement.specs.Judged.{JudgesText}
 use Rattle.e_judgement.proofs.OneJudgement.{one_judgement}
 use Rattle.e_commands.specs.declared.status.Status.{Status}
 use Rattle.e_commands.specs.declared.status.Status.TheVariants as status
-use Rattle.e_commands.specs.Answers.{IsAllOf, IsReadFault, IsWriteFault}
+use Rattle.e_commands.specs.Answers.{IsAllOf, IsReadFault, IsVerified, IsFailure, WroteOfText}
+use Rattle.e_commands.specs.LastLines.{text_limit_line}
+use Rattle.e_commands.specs.declared.output.Answer.{Answer}
 use Rattle.e_commands.specs.Input.{IsTextOf}
-use Rattle.e_commands.specs.Wrote.{ClosesWith}
-use Rattle.e_commands.specs.VerifierAnswers.{answer_of, judgement_line, TextAnswer, Verifies, VerifiesText, IsFailure, AnswersText}
-use Rattle.e_commands.proofs.answers.Wrote.{closed_wrote}
-
--- the line of an answer is the last that is written
-pub answered_closed : (text : List ℕ) (old new : Option (List ℕ)) (last : List ℕ) (answer result : Status) → TextAnswer text answer last → ClosesWith old new last answer result → Verifies text old new result
-answered_closed text old new last answer result t c = closed_wrote (TextAnswer text) old new last answer result t c
+use Rattle.e_commands.specs.VerifierAnswers.{answer_of, judgement_line, TextAnswer, AnswersText}
+use Rattle.e_commands.specs.Wrote.{Wrote}
 
 judgement_answers : (text : List ℕ) (j : Judgement) → JudgesText text j → TextAnswer text (answer_of j) (judgement_line j)
 judgement_answers text (judgements.Verified n) h = (h, refl)
@@ -24,22 +22,34 @@ judgement_answers text (judgements.Bad title step) h = (h, refl)
 judgement_answers text (judgements.Garbled line) h = (h, refl)
 
 -- a judgement is answered
-pub judgement_closed : (text : List ℕ) (old new : Option (List ℕ)) (last : List ℕ) (j : Judgement) (answer result : Status)
-    → JudgesText text j → last ≡ judgement_line j → answer ≡ answer_of j → ClosesWith old new last answer result → Verifies text old new result
-judgement_closed text old new last j answer result h e a c =
-    answered_closed text old new (judgement_line j) (answer_of j) result (judgement_answers text j h)
-    (subst (λ (l : List ℕ). ClosesWith old new l (answer_of j) result) e (subst (λ (x : Status). ClosesWith old new last x result) a c))
+pub judged_due : (text : List ℕ) (j : Judgement) (answer : Status) (line : List ℕ) → JudgesText text j → answer ≡ answer_of j → line ≡ judgement_line j → TextAnswer text answer line
+judged_due text j answer line h a e = subst (λ (x : Status). TextAnswer text x line) (sym a) (subst (λ (l : List ℕ). TextAnswer text (answer_of j) l) (sym e) (judgement_answers text j h))
+
+-- a text that is too long is answered
+abbrev IsLimited : {E : Type 0} → Result Answer E → Type 0
+IsLimited r = IfOk r (λ a. (a.status ≡ status.TextLimit) × (a.line.items ≡ text_limit_line))
+
+pub limited_due : {E : Type 0} (r : Result Answer E) (text : List ℕ) → 2 ^ 60 < length text → IsLimited r → IfOk r (λ a. TextAnswer text a.status a.line.items)
+limited_due (Ok a) text far h = subst (λ (x : Status). TextAnswer text x a.line.items) (sym h.0) (far, h.1)
+limited_due (Err e) text far h = tt
+
+pub limited_unverified : {E : Type 0} (r : Result Answer E) (Q : Type 0) → IsLimited r → IfOk r (λ a. IsVerified a.status → Q)
+limited_unverified (Ok a) Q h = λ v. absurd (subst IsVerified h.0 v)
+limited_unverified (Err e) Q h = tt
+
+pub limited_unread : {E : Type 0} (r : Result Answer E) → IsLimited r → IfOk r (λ a. IsReadFault a.status → ⊥)
+limited_unread (Ok a) h = λ f. subst IsReadFault h.0 f
+limited_unread (Err e) h = tt
+
+pub always_ended : {E : Type 0} (r : Result Answer E) (P : Status → Type 0) (Q : Type 0) → Q → IfOk r (λ a. P a.status → Q)
+always_ended (Ok a) P Q q = λ p. q
+always_ended (Err e) P Q q = tt
 
 -- the answer of a judgement is no fault of the source or the sink
 pub no_read_fault : (j : Judgement) (answer : Status) → answer ≡ answer_of j → IsReadFault answer → ⊥
 no_read_fault (judgements.Verified n) answer e h = subst IsReadFault e h
 no_read_fault (judgements.Bad title step) answer e h = subst IsReadFault e h
 no_read_fault (judgements.Garbled line) answer e h = subst IsReadFault e h
-
-pub no_write_fault : (j : Judgement) (answer : Status) → answer ≡ answer_of j → IsWriteFault answer → ⊥
-no_write_fault (judgements.Verified n) answer e h = subst IsWriteFault e h
-no_write_fault (judgements.Bad title step) answer e h = subst IsWriteFault e h
-no_write_fault (judgements.Garbled line) answer e h = subst IsWriteFault e h
 
 -- some text is the source's, of which this holds
 pub any_of : (left : Option (List ℕ)) (Holds : List ℕ → Type 0) → ((text : List ℕ) → Holds text) → (text : List ℕ) × IsAllOf left text × Holds text
@@ -72,18 +82,6 @@ long_of (Some text) read Holds e far h = (text, refl, h text (farther text read 
           | inr le ↦ subst (λ (t : List ℕ). 2 ^ 60 < length t) (e ∙ take_all (2 ^ 60 + 1) text (omega (arith, le))) far
         ]
 
--- the same of what `verify` answers
-pub any_text : (left old new : Option (List ℕ)) (answer : Status) → ((text : List ℕ) → Verifies text old new answer) → VerifiesText left old new answer
-any_text left old new answer h = any_of left (λ text. Verifies text old new answer) h
-
-pub short_text : (left : Option (List ℕ)) (read : List ℕ) (old new : Option (List ℕ)) (answer : Status)
-    → IsTextOf (2 ^ 60 + 1) left read → length read ≤ 2 ^ 60 → Verifies read old new answer → VerifiesText left old new answer
-short_text left read old new answer e few h = short_of left read (λ text. Verifies text old new answer) e few h
-
-pub long_text : (left : Option (List ℕ)) (read : List ℕ) (old new : Option (List ℕ)) (answer : Status)
-    → IsTextOf (2 ^ 60 + 1) left read → 2 ^ 60 < length read → ((text : List ℕ) → 2 ^ 60 < length text → Verifies text old new answer) → VerifiesText left old new answer
-long_text left read old new answer e far h = long_of left read (λ text. Verifies text old new answer) e far h
-
 -- where a text has a judgement, the answer is that
 due_judged : (text : List ℕ) (j : Judgement) (answer : Status) (out : List ℕ) → length text ≤ 2 ^ 60 → JudgesText text j → TextAnswer text answer out → (answer ≡ answer_of j) ⊎ IsFailure answer
 due_judged text j (status.Verified n) out few h t = inl (ap answer_of (one_judgement text (judgements.Verified n) j t.0 h))
@@ -94,12 +92,12 @@ due_judged text j status.ReadFault out few h t = inr tt
 due_judged text j status.NoMemory out few h t = inr tt
 due_judged text j answer out few h t = absurd t
 
-answered : (text : List ℕ) (j : Judgement) (old new : Option (List ℕ)) (answer : Status) → length text ≤ 2 ^ 60 → JudgesText text j → Verifies text old new answer → (answer ≡ answer_of j) ⊎ IsFailure answer
+answered : (text : List ℕ) (j : Judgement) (old new : Option (List ℕ)) (answer : Status) → length text ≤ 2 ^ 60 → JudgesText text j → Wrote (TextAnswer text) old new answer → (answer ≡ answer_of j) ⊎ IsFailure answer
 answered text j old new answer few h (inl w) = due_judged text j answer w.out few h w.due
 answered text j old new answer few h (inr w) = inr (subst IsFailure (sym w.0) tt)
 
 -- where the source exposes its bytes
-pub answers_text : (left old new : Option (List ℕ)) (answer : Status) → VerifiesText left old new answer → AnswersText left answer
+pub answers_text : (left old new : Option (List ℕ)) (answer : Status) → WroteOfText TextAnswer left old new answer → AnswersText left answer
 answers_text left old new answer c text j is_answer few h =
-    let all = subst (λ (l : Option (List ℕ)). VerifiesText l old new answer) is_answer c in
-    answered text j old new answer few h (subst (λ (t : List ℕ). Verifies t old new answer) all.1 all.2)
+    let all = subst (λ (l : Option (List ℕ)). WroteOfText TextAnswer l old new answer) is_answer c in
+    answered text j old new answer few h (subst (λ (t : List ℕ). Wrote (TextAnswer t) old new answer) all.1 all.2)

@@ -22,8 +22,8 @@ use Rattle.e_book.specs.TheoremViews.{TheoremView}
 use Rattle.e_book.specs.Grammar.{Rest}
 use Rattle.e_commands.specs.Outcome.{BookOutcome, IsOutcomeOf, Begins, StopsAt, RefusedAt, HasWide, lines_of_book}
 use Rattle.e_commands.specs.Outcome as outcome
-use Rattle.e_commands.specs.Answers.{Outputs, Checks, ChecksBook, OutcomeAfter, Refuses, Widens, IsAnswer, Answers, UsageAnswer, AnswersUsage, theorems_of}
-use Rattle.e_commands.specs.Wrote.{ClosesWith}
+use Rattle.e_commands.specs.Answers.{Outputs, OutcomeAfter, Refuses, Widens, IsAnswer, Answers, UsageAnswer, theorems_of, WroteOfText}
+use Rattle.e_commands.specs.Wrote.{ClosesWith, Wrote}
 use Rattle.e_commands.specs.LastLines.{usage_line}
 use Rattle.e_commands.proofs.answers.Wrote.{closed_wrote}
 use Rattle.e_commands.proofs.outcomes.OneOutcome.{outcome_is_one}
@@ -133,17 +133,17 @@ due_answers text end status.ReadFault out h d = read_fault_answers (lines_of_boo
 due_answers text end status.NoMemory out h d = no_memory_answers (lines_of_book text) end
 due_answers text end answer out h d = absurd d
 
-pub answered : (text : List ℕ) (end : BookOutcome) (old new : Option (List ℕ)) (answer : Status) → IsOutcomeOf text end → Checks (lines_of_book text) old new answer → IsAnswer (lines_of_book text) end answer
+pub answered : (text : List ℕ) (end : BookOutcome) (old new : Option (List ℕ)) (answer : Status) → IsOutcomeOf text end → Wrote (Outputs (lines_of_book text)) old new answer → IsAnswer (lines_of_book text) end answer
 answered text end old new answer h (inl w) = due_answers text end answer w.out h w.due
 answered text end old new answer h (inr w) =
     subst (λ (a : Status). IsAnswer (lines_of_book text) end a) (sym w.0) (write_fault_answers (lines_of_book text) end)
 
 -- where the source exposes its bytes
-pub answers : (left old new : Option (List ℕ)) (answer : Status) → ChecksBook left old new answer → Answers left answer
+pub answers : (left old new : Option (List ℕ)) (answer : Status) → WroteOfText (λ text. Outputs (lines_of_book text)) left old new answer → Answers left answer
 answers left old new answer c text end is_answer h =
-    let all = subst (λ (l : Option (List ℕ)). ChecksBook l old new answer) is_answer c in
-    answered text end old new answer h (subst (λ (t : List ℕ). Checks (lines_of_book t) old new answer) all.1 all.2)
+    let all = subst (λ (l : Option (List ℕ)). WroteOfText (λ text. Outputs (lines_of_book text)) l old new answer) is_answer c in
+    answered text end old new answer h (subst (λ (t : List ℕ). Wrote (Outputs (lines_of_book t)) old new answer) all.1 all.2)
 
 -- the usage line was written, or a front of it
-pub answers_usage : (old new : Option (List ℕ)) (answer : Status) → ClosesWith old new usage_line status.Usage answer → AnswersUsage old new answer
+pub answers_usage : (old new : Option (List ℕ)) (answer : Status) → ClosesWith old new usage_line status.Usage answer → Wrote UsageAnswer old new answer
 answers_usage old new answer c = closed_wrote UsageAnswer old new usage_line status.Usage answer refl c

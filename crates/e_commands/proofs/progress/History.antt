@@ -17,13 +17,14 @@ use Rattle.e_deriv.specs.Naming.{names_of_steps, declared_names}
 use Rattle.std.specs.Prelude.{slice_get}
 use Rattle.e_commands.specs.Outcome.{and_theorem, and_notion, IsLicensed, Defines, AreDefined, Takes, Begins, end_line_number}
 use Rattle.e_commands.specs.Outcome as outcome
-use Rattle.e_commands.specs.Answers.{Derived, IsDerived, AllDerived, OutcomeAfter, Refuses, Widens, theorems_of, steps_of, block_of, blocks_of}
+use Rattle.e_spell.specs.Spelling.{spelled}
+use Rattle.e_commands.specs.Answers.{Derived, IsDerived, AllDerived, OutcomeAfter, Refuses, Widens, theorems_of, steps_of, blocks_of}
 use Rattle.e_commands.specs.inner.BookResults.{BlocksUpTo, BookResultIs, BreaksOff, BreaksInside, result_of_stop}
 use Rattle.e_commands.specs.inner.Progress.{History, Handles}
 use Rattle.e_commands.specs.declared.book.Book.{Book}
 use Rattle.e_commands.specs.declared.blocks.BookResult.{BookResult}
 use Rattle.e_commands.specs.declared.blocks.BookResult.TheVariants.{All}
-use Rattle.e_commands.specs.declared.blocks.RunError.{RunError}
+use Rattle.e_commands.specs.declared.output.Failure.{Failure}
 use Rattle.e_deriv.specs.declared.stop.Stop.{Stop}
 use Rattle.e_deriv.specs.declared.stop.Stop.TheVariants as stops
 use Rattle.e_prove.specs.Stops.{StopIs, HasNames}
@@ -88,6 +89,10 @@ theorems_more (e ∷ es) d = ap (λ (ts : List TheoremView). e.theorem ∷ ts) (
 steps_more : (ds : List Derived) (d : Derived) → steps_of (ds ++ d ∷ []) ≡ steps_of ds + size d.theorem.script
 steps_more [] d = refl
 steps_more (e ∷ es) d = omega (arith, steps_more es d)
+
+-- the block of a derivation
+abbrev block_of : List TitledStatement → Derived → List ℕ
+block_of known d = spelled known d.theorem d.derivation
 
 blocks_more : (last : ℕ) (known : Known) (lines : Rest) (ds : List Derived) (now : Known) (rest : Rest) (d : Derived)
     → Takes last known lines (theorems_of ds) now rest → blocks_of known.theorems (ds ++ d ∷ []) ≡ blocks_of known.theorems ds ++ block_of now.theorems d
@@ -203,12 +208,12 @@ pub front_spelled_as : (old new : Option (List ℕ)) (xs ys : List ℕ) (known :
 front_spelled_as old new xs ys known d e f g = subst (λ (l : List ℕ). GrewByFront old new l) (e ∙ f) g
 
 -- the next theorem stops, or memory ran out
-pub stopped : (lines : Rest) (old new : Option (List ℕ)) (known : Known) (rest after any : Rest) (steps : ℕ) (t : TheoremView) (stop : Stop) (b : Book) (r : Result (Option BookResult) RunError)
+pub stopped : (lines : Rest) (old new : Option (List ℕ)) (known : Known) (rest after any : Rest) (steps : ℕ) (t : TheoremView) (stop : Stop) (b : Book) (r : Result (Option BookResult) Failure)
     → r ≡ result_of_stop t.title stop → History lines old known rest new steps → item_from known (end_line_number lines) None rest ≡ Ok (Some (OfTheorem t, after))
     → StopIs (stated_by known.theorems) (stated t.statement) t.script stop → HasNames (stated_by known.theorems) (stated t.statement) t.names t.script stop → Handles lines old any r b new
 stopped lines old new known rest after any steps t (stops.Unlicensed step wanted values names) b r e h read s k =
-    subst (λ (x : Result (Option BookResult) RunError). Handles lines old any x b new) (sym e) (stops_with lines old new known rest after steps t step wanted values names h read s k)
+    subst (λ (x : Result (Option BookResult) Failure). Handles lines old any x b new) (sym e) (stops_with lines old new known rest after steps t step wanted values names h read s k)
 stopped lines old new known rest after any steps t (stops.TooWide step wanted width names) b r e h read s k =
-    subst (λ (x : Result (Option BookResult) RunError). Handles lines old any x b new) (sym e) (widens_with lines old new known rest after steps t step wanted width names h read s k)
+    subst (λ (x : Result (Option BookResult) Failure). Handles lines old any x b new) (sym e) (widens_with lines old new known rest after steps t step wanted width names h read s k)
 stopped lines old new known rest after any steps t stops.NoMemory b r e h read s k =
-    subst (λ (x : Result (Option BookResult) RunError). Handles lines old any x b new) (sym e) (breaks_off lines old new known rest steps h)
+    subst (λ (x : Result (Option BookResult) Failure). Handles lines old any x b new) (sym e) (breaks_off lines old new known rest steps h)

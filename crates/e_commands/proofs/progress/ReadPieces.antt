@@ -15,23 +15,26 @@ use Rattle.e_book.specs.Grammar.{Rest}
 use Rattle.e_commands.specs.declared.book.Book.{Book}
 use Rattle.e_commands.specs.declared.pieces.Untaken.{Untaken}
 use Rattle.e_commands.specs.declared.blocks.BookResult.{BookResult}
-use Rattle.e_commands.specs.declared.blocks.RunError.{RunError}
-use Rattle.e_commands.specs.declared.blocks.RunError.TheVariants.{NoMemory, ReadFault, WriteFault}
+use Rattle.e_commands.specs.declared.output.Failure.{Failure}
+use Rattle.e_commands.specs.declared.output.Failure.TheVariants.{NoMemory, ReadFault, WriteFault}
 use Rattle.e_commands.specs.declared.status.Status.{Status}
+use Rattle.e_commands.specs.inner.Finished.{Finishes}
 use Rattle.e_commands.specs.declared.status.Status.TheVariants as status
 use Rattle.e_commands.specs.Input.{IsTextOf}
-use Rattle.e_commands.specs.LastLines.{head_line, read_fault_line}
+use Rattle.e_commands.specs.LastLines.{read_fault_line}
 use Rattle.e_commands.specs.Outcome.{end_line_number, lines_of_book}
-use Rattle.e_commands.specs.Answers.{IsReadFault, written_with}
+use Rattle.e_commands.specs.Answers.{IsReadFault, written_with, OutputUpTo}
 use Rattle.e_commands.specs.Wrote.{ClosesWith}
 use Rattle.e_commands.specs.inner.BookResults.{BreaksOff, BlocksAre, SourceResultIs, IsAll}
 use Rattle.e_commands.specs.inner.Progress.{History, IsBook, Reaches, IsReadUpTo, PieceTakes, first_book}
-use Rattle.e_commands.specs.Taken.{TookFew, AllTaken, OfWholeLines, HandledAll}
+use Rattle.e_commands.specs.Taken.{TookFew, OfWholeLines, HandledAll, HaveNone}
 use Rattle.e_commands.specs.inner.Handled.{AllBlocks, HandledBlocks, TextResultIs}
 use Rattle.e_commands.proofs.progress.TakenBooks.{tied, reaches_first, reaches_as, off_here}
 use Rattle.e_commands.proofs.progress.TakenBytes.{TakenSoFar, taken_more, taken_of, taken_map, all_of}
 use Rattle.e_commands.proofs.outcomes.AcceptedBooks.{all_is_short}
 use Rattle.e_commands.proofs.written_texts.LastLinesWritten.{grew_all}
+use Rattle.e_roundtrip.specs.Written.{version_line}
+use Rattle.e_clause.specs.declared.cert.Version.TheVariants.{One}
 
 abbrev bounds : Bounds
 bounds = record { longest = 1600; most = 4194304 }
@@ -185,14 +188,14 @@ pub read_state_more : (E : Type 0) (left0 left next old : Option (List ℕ)) (b 
 read_state_more E left0 left next old b c u v new newer to piece n s is r h =
     record { read = s.read ++ piece; so_far = subst (λ (xs : List ℕ). TakenSoFar left0 next (s.read ++ xs)) (sym is) (taken_more E left0 left next s.read to n s.so_far r); is_read = h }
 
-pub book_ends : (lines : Rest) (old new : Option (List ℕ)) (r : Result BookResult RunError) → BlocksAre lines old new r → SourceResultIs lines old new r
+pub book_ends : (lines : Rest) (old new : Option (List ℕ)) (r : Result BookResult Failure) → BlocksAre lines old new r → SourceResultIs lines old new r
 book_ends lines old new (Ok book_result) h = h
 book_ends lines old new (Err NoMemory) h = h
 book_ends lines old new (Err ReadFault) h = absurd h
 book_ends lines old new (Err WriteFault) h = h
 
 -- what was read is all that counts
-pub text_ends : (left : Option (List ℕ)) (read : List ℕ) (old new : Option (List ℕ)) (r : Result BookResult RunError) → IsTextOf 4194305 left read → BlocksAre (lines_of_book read) old new r → TextResultIs left old new r
+pub text_ends : (left : Option (List ℕ)) (read : List ℕ) (old new : Option (List ℕ)) (r : Result BookResult Failure) → IsTextOf 4194305 left read → BlocksAre (lines_of_book read) old new r → TextResultIs left old new r
 text_ends None read old new r is h = (read, tt, book_ends (lines_of_book read) old new r h)
 text_ends (Some text) read old new r is h = (
   text,
@@ -201,15 +204,15 @@ text_ends (Some text) read old new r is h = (
 )
 
 -- memory gave out, and says nothing else
-pub out_of_memory : (read : List ℕ) (old : Option (List ℕ)) (r : Result (Option BookResult) RunError) (b : Book) (u : Untaken) (new : Option (List ℕ)) → r ≡ Err NoMemory → ((left : List ℕ) → BreaksOff (lines_of_book (read ++ left)) old new) → PieceTakes read old r b u new
-out_of_memory read old r b u new e h = subst (λ (x : Result (Option BookResult) RunError). PieceTakes read old x b u new) (sym e) h
+pub out_of_memory : (read : List ℕ) (old : Option (List ℕ)) (r : Result (Option BookResult) Failure) (b : Book) (u : Untaken) (new : Option (List ℕ)) → r ≡ Err NoMemory → ((left : List ℕ) → BreaksOff (lines_of_book (read ++ left)) old new) → PieceTakes read old r b u new
+out_of_memory read old r b u new e h = subst (λ (x : Result (Option BookResult) Failure). PieceTakes read old x b u new) (sym e) h
 
 -- no source was read there
-pub no_read : (lines : Rest) (old new : Option (List ℕ)) (r : Result BookResult RunError) → BlocksAre lines old new r → r ≡ Err ReadFault → ⊥
+pub no_read : (lines : Rest) (old new : Option (List ℕ)) (r : Result BookResult Failure) → BlocksAre lines old new r → r ≡ Err ReadFault → ⊥
 no_read lines old new r h e = subst (BlocksAre lines old new) e h
 
 -- the blocks end or break off in a piece
-pub ends_in_piece : (E : Type 0) (left0 left next old : Option (List ℕ)) (b : Book) (u : Untaken) (new newer : Option (List ℕ)) (to piece : List ℕ) (n : ℕ) (s : ReadState left0 left old b u new) (r : Result BookResult RunError) → piece ≡ take n to → ReadsBytes {E = E} left next (Ok n) to
+pub ends_in_piece : (E : Type 0) (left0 left next old : Option (List ℕ)) (b : Book) (u : Untaken) (new newer : Option (List ℕ)) (to piece : List ℕ) (n : ℕ) (s : ReadState left0 left old b u new) (r : Result BookResult Failure) → piece ≡ take n to → ReadsBytes {E = E} left next (Ok n) to
     → ((more : List ℕ) → BlocksAre (lines_of_book ((s.read ++ piece) ++ more)) old newer r) → TextResultIs left0 old newer r
 ends_in_piece E left0 left next old b u new newer to piece n s r is reads h =
     all_of left0 next (s.read ++ piece) (λ text. SourceResultIs (lines_of_book text) old newer r) (subst (λ (xs : List ℕ). TakenSoFar left0 next (s.read ++ xs)) (sym is) (taken_more E left0 left next s.read to n s.so_far reads))
@@ -222,16 +225,16 @@ took_in_piece E left0 left next old b u new to piece n s is reads few =
     (omega (arith, count_is s.read old b u new s.is_read, length-append s.read piece, few))
 
 -- what was read is too long for a book whose theorems are all taken
-pub all_too_long : (old new : Option (List ℕ)) (read : List ℕ) (P : Type 0) (r : Result BookResult RunError) → BlocksAre (lines_of_book read) old new r → 4194304 < length read → IfOk r (λ e. IsAll e → P)
+pub all_too_long : (old new : Option (List ℕ)) (read : List ℕ) (P : Type 0) (r : Result BookResult Failure) → BlocksAre (lines_of_book read) old new r → 4194304 < length read → IfOk r (λ e. IsAll e → P)
 all_too_long old new read P (Ok book_result) h long = λ a. absurd (omega (arith, all_is_short old new read book_result a h, long))
 all_too_long old new read P (Err error) h long = tt
 
-pub if_all : (P : Type 0) (r : Result BookResult RunError) → P → IfOk r (λ e. IsAll e → P)
+pub if_all : (P : Type 0) (r : Result BookResult Failure) → P → IfOk r (λ e. IsAll e → P)
 if_all P (Ok book_result) p = λ a. p
 if_all P (Err error) p = tt
 
 -- the last line comes where the answer is the read fault
-pub last_grew : (old new : Option (List ℕ)) (last : List ℕ) (result : Status) → ClosesWith old new last status.ReadFault result → result ≡ status.ReadFault → Grew old new last
+last_grew : (old new : Option (List ℕ)) (last : List ℕ) (result : Status) → ClosesWith old new last status.ReadFault result → result ≡ status.ReadFault → Grew old new last
 last_grew old new last result (inl c) e = c.1
 last_grew old new last result (inr c) e = absurd (let f : status.WriteFault ≡ status.ReadFault = sym c.0 ∙ e in cc)
 
@@ -263,8 +266,8 @@ handled_now read old b u new book s unended =
     )
 
 -- with the head line and the last one
-with_lines : (old s0 s1 s2 : Option (List ℕ)) (read : List ℕ) → Grew old s0 head_line → Grew s1 s2 read_fault_line → OfWholeLines (λ lines. AllBlocks lines s0 s1) read
-    → OfWholeLines (λ lines. (out : List ℕ) × Grew old s2 out × AllTaken lines read_fault_line out) read
+with_lines : (old s0 s1 s2 : Option (List ℕ)) (read : List ℕ) → Grew old s0 (version_line One) → Grew s1 s2 read_fault_line → OfWholeLines (λ lines. AllBlocks lines s0 s1) read
+    → OfWholeLines (λ lines. (out : List ℕ) × Grew old s2 out × OutputUpTo lines (HaveNone (end_line_number lines)) read_fault_line out) read
 with_lines old s0 s1 s2 read head last h =
     let a = h.5 in (
       h.0,
@@ -275,11 +278,15 @@ with_lines old s0 s1 s2 read head last h =
       (
         written_with a.derived read_fault_line,
         grew_all old s0 s1 s2 a.derived read_fault_line head a.grew last,
-        record { derived = a.derived; sound = a.sound; known = a.known; rest = a.rest; begins = a.begins; none = a.none; bytes = refl },
+        record { derived = a.derived; sound = a.sound; known = a.known; rest = a.rest; begins = a.begins; holds = a.none; bytes = refl },
       ),
     )
 
-pub handled_closed : (left0 left1 old s0 s1 s2 : Option (List ℕ)) (result : Status) → Grew old s0 head_line → HandledBlocks left0 left1 s0 s1 → (result ≡ status.ReadFault → Grew s1 s2 read_fault_line) → IsReadFault result → HandledAll left0 left1 old s2
+handled_closed : (left0 left1 old s0 s1 s2 : Option (List ℕ)) (result : Status) → Grew old s0 (version_line One) → HandledBlocks left0 left1 s0 s1 → (result ≡ status.ReadFault → Grew s1 s2 read_fault_line) → IsReadFault result → HandledAll left0 left1 old s2
 handled_closed left0 left1 old s0 s1 s2 status.ReadFault head h last a =
-    taken_map left0 left1 (OfWholeLines (λ lines. AllBlocks lines s0 s1)) (OfWholeLines (λ lines. (out : List ℕ) × Grew old s2 out × AllTaken lines read_fault_line out)) (λ read. with_lines old s0 s1 s2 read head (last refl)) h
+    taken_map left0 left1 (OfWholeLines (λ lines. AllBlocks lines s0 s1)) (OfWholeLines (λ lines. (out : List ℕ) × Grew old s2 out × OutputUpTo lines (HaveNone (end_line_number lines)) read_fault_line out)) (λ read. with_lines old s0 s1 s2 read head (last refl)) h
 handled_closed left0 left1 old s0 s1 s2 result head h last a = absurd a
+
+pub handled_finished : (left0 left1 old s0 s1 s2 : Option (List ℕ)) (f : Failure) (result : Status) → f ≡ ReadFault → Grew old s0 (version_line One) → HandledBlocks left0 left1 s0 s1 → Finishes s1 s2 (Err f) result → IsReadFault result → HandledAll left0 left1 old s2
+handled_finished left0 left1 old s0 s1 s2 f result is head h c r =
+    handled_closed left0 left1 old s0 s1 s2 result head h (last_grew s1 s2 read_fault_line result (subst (λ (x : Failure). Finishes s1 s2 (Err x) result) is c)) r

@@ -19,8 +19,8 @@ use Rattle.e_names.proofs.titles.NotionsBeside.{one_more_notion}
 use Rattle.e_commands.specs.declared.book.Book.{Book}
 use Rattle.e_commands.specs.declared.blocks.BookResult.TheVariants.{Faulty}
 use Rattle.e_commands.specs.declared.blocks.BookResult.{BookResult}
-use Rattle.e_commands.specs.declared.blocks.RunError.{RunError}
-use Rattle.e_commands.specs.declared.blocks.RunError.TheVariants.{WriteFault}
+use Rattle.e_commands.specs.declared.output.Failure.{Failure}
+use Rattle.e_commands.specs.declared.output.Failure.TheVariants.{WriteFault}
 use Rattle.e_deriv.specs.declared.stop.Stop.{Stop}
 use Rattle.e_deriv.specs.declared.stop.Stop.TheVariants as stops
 use Rattle.e_commands.specs.Outcome.{and_notion, end_line_number}
@@ -104,19 +104,19 @@ all_reached all old b reading new lines left r h = record {
 -- ---- the blocks end, or break off
 
 -- then the book does not go on, and the sink did not fail
-pub stop_none : (title : List ℕ) (stop : Stop) (r : Result (Option BookResult) RunError) (P : Type 0) → r ≡ result_of_stop title stop → IfOk r (λ e. IfNone e P)
-stop_none title (stops.Unlicensed step wanted values names) r P e = subst (λ (x : Result (Option BookResult) RunError). IfOk x (λ o. IfNone o P)) (sym e) tt
-stop_none title (stops.TooWide step wanted width names) r P e = subst (λ (x : Result (Option BookResult) RunError). IfOk x (λ o. IfNone o P)) (sym e) tt
-stop_none title stops.NoMemory r P e = subst (λ (x : Result (Option BookResult) RunError). IfOk x (λ o. IfNone o P)) (sym e) tt
+pub stop_none : (title : List ℕ) (stop : Stop) (r : Result (Option BookResult) Failure) (P : Type 0) → r ≡ result_of_stop title stop → IfOk r (λ e. IfNone e P)
+stop_none title (stops.Unlicensed step wanted values names) r P e = subst (λ (x : Result (Option BookResult) Failure). IfOk x (λ o. IfNone o P)) (sym e) tt
+stop_none title (stops.TooWide step wanted width names) r P e = subst (λ (x : Result (Option BookResult) Failure). IfOk x (λ o. IfNone o P)) (sym e) tt
+stop_none title stops.NoMemory r P e = subst (λ (x : Result (Option BookResult) Failure). IfOk x (λ o. IfNone o P)) (sym e) tt
 
-pub fault_none : (f : BookFault) (r : Result (Option BookResult) RunError) (P : Type 0) → r ≡ result_of_fault f → IfOk r (λ e. IfNone e P)
-fault_none faults.NoMemory r P e = subst (λ (x : Result (Option BookResult) RunError). IfOk x (λ o. IfNone o P)) (sym e) tt
-fault_none (faults.Malformed line) r P e = subst (λ (x : Result (Option BookResult) RunError). IfOk x (λ o. IfNone o P)) (sym e) tt
-fault_none (faults.UnknownName line) r P e = subst (λ (x : Result (Option BookResult) RunError). IfOk x (λ o. IfNone o P)) (sym e) tt
-fault_none (faults.NameTaken line) r P e = subst (λ (x : Result (Option BookResult) RunError). IfOk x (λ o. IfNone o P)) (sym e) tt
-fault_none (faults.WrongSort line) r P e = subst (λ (x : Result (Option BookResult) RunError). IfOk x (λ o. IfNone o P)) (sym e) tt
-fault_none (faults.Limit line what) r P e = subst (λ (x : Result (Option BookResult) RunError). IfOk x (λ o. IfNone o P)) (sym e) tt
-fault_none (faults.Unended line) r P e = subst (λ (x : Result (Option BookResult) RunError). IfOk x (λ o. IfNone o P)) (sym e) tt
+pub fault_none : (f : BookFault) (r : Result (Option BookResult) Failure) (P : Type 0) → r ≡ result_of_fault f → IfOk r (λ e. IfNone e P)
+fault_none faults.NoMemory r P e = subst (λ (x : Result (Option BookResult) Failure). IfOk x (λ o. IfNone o P)) (sym e) tt
+fault_none (faults.Malformed line) r P e = subst (λ (x : Result (Option BookResult) Failure). IfOk x (λ o. IfNone o P)) (sym e) tt
+fault_none (faults.UnknownName line) r P e = subst (λ (x : Result (Option BookResult) Failure). IfOk x (λ o. IfNone o P)) (sym e) tt
+fault_none (faults.NameTaken line) r P e = subst (λ (x : Result (Option BookResult) Failure). IfOk x (λ o. IfNone o P)) (sym e) tt
+fault_none (faults.WrongSort line) r P e = subst (λ (x : Result (Option BookResult) Failure). IfOk x (λ o. IfNone o P)) (sym e) tt
+fault_none (faults.Limit line what) r P e = subst (λ (x : Result (Option BookResult) Failure). IfOk x (λ o. IfNone o P)) (sym e) tt
+fault_none (faults.Unended line) r P e = subst (λ (x : Result (Option BookResult) Failure). IfOk x (λ o. IfNone o P)) (sym e) tt
 
 fault_writes : (f : BookFault) → result_of_fault f ≡ Err WriteFault → ⊥
 fault_writes faults.NoMemory e = absurd cc
@@ -127,7 +127,7 @@ fault_writes (faults.WrongSort line) e = absurd cc
 fault_writes (faults.Limit line what) e = absurd cc
 fault_writes (faults.Unended line) e = absurd cc
 
-pub fault_unwritten : (f : BookFault) (r : Result (Option BookResult) RunError) → r ≡ result_of_fault f → r ≡ Err WriteFault → ⊥
+pub fault_unwritten : (f : BookFault) (r : Result (Option BookResult) Failure) → r ≡ result_of_fault f → r ≡ Err WriteFault → ⊥
 fault_unwritten f r e h = fault_writes f (sym e ∙ h)
 
 pub off_here : (all remaining : Rest → Rest) (old : Option (List ℕ)) (b : Book) (new : Option (List ℕ)) → Reaches all remaining old b new → (more : Rest) → BreaksOff (all more) old new

@@ -1,5 +1,6 @@
 -- What is written of a derivation text, theorem by theorem, and with its last line.
 use Rattle.std.proofs.Common.{◌≡◌, ◌⊎◌, inl, inr, ℕ, ◌+◌, ◌≤◌, ◌^◌, List, [], ◌∷◌, ◌++◌, length, take, Option, Some, None, Result, Ok, Err, true, refl, sym, ap, subst, ◌∙◌, arith, append_assoc, length-append}
+use Rattle.std.specs.Prelude.{IfOk}
 use Rattle.std.proofs.lemmas.List.{append-nil}
 use Rattle.std.proofs.Math.Seq.{take-append-add, take-append-le}
 use Rattle.e_io.specs.Bytes.{Grew, GrewByFront}
@@ -25,13 +26,16 @@ use Rattle.e_commands.specs.declared.rewriting.Job.{Job}
 use Rattle.e_commands.specs.declared.rewriting.Job.TheVariants.{Upgrade, Trim, Uses}
 use Rattle.e_commands.specs.declared.status.Status.{Status}
 use Rattle.e_commands.specs.declared.status.Status.TheVariants as status
-use Rattle.e_commands.specs.LastLines.{no_memory_line}
-use Rattle.e_commands.specs.Answers.{IsReadFault, IsWriteFault}
-use Rattle.e_commands.specs.VerifierAnswers.{IsFailure}
-use Rattle.e_commands.specs.Rewrites.{head_of_job, block_of, rewritten_blocks, end_line_of_job, verified_answer, answer_of, written_with, read_as, AreFirstAfterHead, AreFirstTheorems, EndsAfterHead, EndsAfter, RewriteAnswer, Rewrites, RewritesText, JudgesLinesFor, JudgesFor, AnswersRewrite}
-use Rattle.e_commands.specs.Wrote.{ClosesWith}
-use Rattle.e_commands.specs.declared.blocks.RunError.{RunError}
-use Rattle.e_commands.specs.declared.blocks.RunError.TheVariants as errors
+use Rattle.e_commands.specs.LastLines.{no_memory_line, read_fault_line}
+use Rattle.e_commands.specs.Answers.{IsReadFault, IsWriteFault, IsFailure, WroteOfText}
+use Rattle.e_commands.specs.Rewrites.{head_of_job, block_of, rewritten_blocks, end_line_of_job, verified_answer, answer_of, rewritten_with, read_as, AreFirstAfterHead, AreFirstTheorems, EndsAfterHead, EndsAfter, RewriteAnswer, JudgesLinesFor, JudgesFor, AnswersRewrite, IsRewritten}
+use Rattle.e_commands.specs.Wrote.{ClosesWith, Wrote}
+use Rattle.e_commands.specs.declared.output.Answer.{Answer}
+use Rattle.e_commands.specs.declared.output.Failure.{Failure}
+use Rattle.e_commands.specs.inner.Finished.{Finishes, HasReadFault, IsOrNoMemory}
+use Rattle.e_commands.proofs.answers.Finished.{finished_as}
+use Rattle.e_commands.proofs.answers.VerifierAnswers.{any_of}
+use Rattle.e_commands.specs.declared.output.Failure.TheVariants as errors
 use Rattle.e_commands.specs.inner.Rewriting.{HasVersionFor, IsReadFor, IsVerified, IsOfSecond, AreOfSecond, Broke, WroteOf, WroteFrontOf, WroteTheorems, ComeFirst, ComeAll, TheoremsWritten, BlocksWritten, Progress, IsReported}
 use Rattle.e_commands.proofs.written_texts.VerifiedAgain.{head_is}
 use Rattle.e_commands.proofs.written_texts.UpgradedTexts.{upgraded_is_verified}
@@ -102,7 +106,7 @@ module _ (job : Job) (v : Version) (last : ℕ) where
       )
 
   -- the next one was not passed
-  pub breaks_at : (lines : Rest) (old new newer : Option (List ℕ)) (known : List TitledStatement) (rest : Rest) (t : TheoremView) (after : Rest) (e : RunError)
+  pub breaks_at : (lines : Rest) (old new newer : Option (List ℕ)) (known : List TitledStatement) (rest : Rest) (t : TheoremView) (after : Rest) (e : Failure)
       → Progress job v last lines old new known rest → ReadsNext v last known rest t after → IsCertified known t → Broke job known t new newer e → TheoremsWritten job v last lines old newer (Err e)
   breaks_at lines old new newer known rest t after errors.NoMemory h r c (inl w) =
       (h.theorems, (known, rest, h.passes), subst (λ (b : List ℕ). Grew old newer b) (append-nil (rewritten_blocks job [] h.theorems)) (grown old new newer (rewritten_blocks job [] h.theorems) [] h.grew w))
@@ -120,7 +124,7 @@ module _ (job : Job) (v : Version) (last : ℕ) where
 
 -- ---- the first line
 
-wrote_as : (job : Job) (End End' : List TheoremView → Judgement → Type 0) (Are Are' : List TheoremView → Type 0) (old new : Option (List ℕ)) (r : Result Judgement RunError)
+wrote_as : (job : Job) (End End' : List TheoremView → Judgement → Type 0) (Are Are' : List TheoremView → Type 0) (old new : Option (List ℕ)) (r : Result Judgement Failure)
     → ((ts : List TheoremView) (j : Judgement) → End ts j → End' ts j) → ((ts : List TheoremView) → Are ts → Are' ts) → WroteTheorems job End Are old new r → WroteTheorems job End' Are' old new r
 wrote_as job End End' Are Are' old new (Ok j) f g h = (h.0, (f h.0 j h.1.0, h.1.1), h.2)
 wrote_as job End End' Are Are' old new (Err errors.NoMemory) f g h = (h.0, g h.0 h.1, h.2)
@@ -128,7 +132,7 @@ wrote_as job End End' Are Are' old new (Err errors.WriteFault) f g h = (h.0, g h
 wrote_as job End End' Are Are' old new (Err errors.ReadFault) f g h = h
 
 -- after a head line that the command takes, what was written of the theorems was written of the text
-pub head_then : (job : Job) (text : List ℕ) (lines : Rest) (after : Ahead) (head : Option Version) (v : Version) (old new : Option (List ℕ)) (r : Result Judgement RunError)
+pub head_then : (job : Job) (text : List ℕ) (lines : Rest) (after : Ahead) (head : Option Version) (v : Version) (old new : Option (List ℕ)) (r : Result Judgement Failure)
     → lines ≡ lines_of_text text → Starts lines after head → read_as job head ≡ Some v → TheoremsWritten job v (last_of after) after.lines old new r → BlocksWritten job text old new r
 head_then job text lines after head v old new r is starts e k =
     let t = starts.taken v (head_is job head v e) in
@@ -187,14 +191,14 @@ first_of_all job text ts j h = by (lines_of_text text) h
 
 -- ---- with the last line
 
-grew_all : (job : Job) (old s0 s1 s2 : Option (List ℕ)) (ts : List TheoremView) (last : List ℕ) → Grew old s0 (head_of_job job) → Grew s0 s1 (rewritten_blocks job [] ts) → Grew s1 s2 last → Grew old s2 (written_with job ts last)
+grew_all : (job : Job) (old s0 s1 s2 : Option (List ℕ)) (ts : List TheoremView) (last : List ℕ) → Grew old s0 (head_of_job job) → Grew s0 s1 (rewritten_blocks job [] ts) → Grew s1 s2 last → Grew old s2 (rewritten_with job ts last)
 grew_all job old s0 s1 s2 ts last h b l = grown old s0 s2 (head_of_job job) (rewritten_blocks job [] ts ++ last) h (grown s0 s1 s2 (rewritten_blocks job [] ts) last b l)
 
-grew_front : (job : Job) (old s0 s1 s2 : Option (List ℕ)) (ts : List TheoremView) (last : List ℕ) → Grew old s0 (head_of_job job) → Grew s0 s1 (rewritten_blocks job [] ts) → GrewByFront s1 s2 last → GrewByFront old s2 (written_with job ts last)
+grew_front : (job : Job) (old s0 s1 s2 : Option (List ℕ)) (ts : List TheoremView) (last : List ℕ) → Grew old s0 (head_of_job job) → Grew s0 s1 (rewritten_blocks job [] ts) → GrewByFront s1 s2 last → GrewByFront old s2 (rewritten_with job ts last)
 grew_front job old s0 s1 s2 ts last h b l =
     let n = l.0 in
     let blocks = rewritten_blocks job [] ts in
-    let size : length (written_with job ts last) ≡ length (head_of_job job) + (length blocks + length last) = length-append (head_of_job job) (blocks ++ last) ∙ ap (λ (k : ℕ). length (head_of_job job) + k) (length-append blocks last) in (
+    let size : length (rewritten_with job ts last) ≡ length (head_of_job job) + (length blocks + length last) = length-append (head_of_job job) (blocks ++ last) ∙ ap (λ (k : ℕ). length (head_of_job job) + k) (length-append blocks last) in (
       length (head_of_job job) + (length blocks + n),
       omega (arith, l.1, size),
       subst (λ (x : List ℕ). Grew old s2 x)
@@ -204,25 +208,25 @@ grew_front job old s0 s1 s2 ts last h b l =
 
 -- the answer is right, by what its bytes are
 closed : (job : Job) (text : List ℕ) (old s0 s1 s2 : Option (List ℕ)) (ts : List TheoremView) (last : List ℕ) (answer result : Status)
-    → RewriteAnswer job text answer (written_with job ts last) → Grew old s0 (head_of_job job) → Grew s0 s1 (rewritten_blocks job [] ts) → ClosesWith s1 s2 last answer result → Rewrites job text old s2 result
+    → RewriteAnswer job text answer (rewritten_with job ts last) → Grew old s0 (head_of_job job) → Grew s0 s1 (rewritten_blocks job [] ts) → ClosesWith s1 s2 last answer result → Wrote (RewriteAnswer job text) old s2 result
 closed job text old s0 s1 s2 ts last answer result due h b (inl c) =
-    subst (Rewrites job text old s2) (sym c.0) (inl (record { out = written_with job ts last; due = due; grew = grew_all job old s0 s1 s2 ts last h b c.1 }))
+    subst (Wrote (RewriteAnswer job text) old s2) (sym c.0) (inl (record { out = rewritten_with job ts last; due = due; grew = grew_all job old s0 s1 s2 ts last h b c.1 }))
 closed job text old s0 s1 s2 ts last answer result due h b (inr c) =
-    inr (c.0, record { answer = answer; out = written_with job ts last; due = due; grew = grew_front job old s0 s1 s2 ts last h b c.1 })
+    inr (c.0, record { answer = answer; out = rewritten_with job ts last; due = due; grew = grew_front job old s0 s1 s2 ts last h b c.1 })
 
 -- a front of what is due of the theorems was written
-pub closed_inside : (job : Job) (text : List ℕ) (old s0 s1 : Option (List ℕ)) → Grew old s0 (head_of_job job) → WroteFrontOf job (AreFirstTheorems job (lines_of_text text)) s0 s1 → Rewrites job text old s1 status.WriteFault
+pub closed_inside : (job : Job) (text : List ℕ) (old s0 s1 : Option (List ℕ)) → Grew old s0 (head_of_job job) → WroteFrontOf job (AreFirstTheorems job (lines_of_text text)) s0 s1 → Wrote (RewriteAnswer job text) old s1 status.WriteFault
 closed_inside job text old s0 s1 h e =
     let ts = e.0 in
     let blocks = rewritten_blocks job [] ts in
     let n = e.2.0 in
-    let size : length (written_with job ts no_memory_line) ≡ length (head_of_job job) + (length blocks + length no_memory_line) =
+    let size : length (rewritten_with job ts no_memory_line) ≡ length (head_of_job job) + (length blocks + length no_memory_line) =
     length-append (head_of_job job) (blocks ++ no_memory_line) ∙ ap (λ (k : ℕ). length (head_of_job job) + k) (length-append blocks no_memory_line) in
     inr (
       refl,
       record {
         answer = status.NoMemory;
-        out = written_with job ts no_memory_line;
+        out = rewritten_with job ts no_memory_line;
         due = record { theorems = ts; first = e.1; bytes = refl };
         grew = (
           length (head_of_job job) + n,
@@ -235,14 +239,14 @@ closed_inside job text old s0 s1 h e =
     )
 
 -- a front of the head was written
-pub closed_head : (job : Job) (text : List ℕ) (old new : Option (List ℕ)) → GrewByFront old new (head_of_job job) → Rewrites job text old new status.WriteFault
+pub closed_head : (job : Job) (text : List ℕ) (old new : Option (List ℕ)) → GrewByFront old new (head_of_job job) → Wrote (RewriteAnswer job text) old new status.WriteFault
 closed_head job text old new w =
-    let size : length (written_with job [] no_memory_line) ≡ length (head_of_job job) + length no_memory_line = length-append (head_of_job job) no_memory_line in
+    let size : length (rewritten_with job [] no_memory_line) ≡ length (head_of_job job) + length no_memory_line = length-append (head_of_job job) no_memory_line in
     inr (
       refl,
       record {
         answer = status.NoMemory;
-        out = written_with job [] no_memory_line;
+        out = rewritten_with job [] no_memory_line;
         due = record { theorems = []; first = none_first job text; bytes = refl };
         grew = (w.0, omega (arith, w.1, size), subst (λ (x : List ℕ). Grew old new x) (sym (take-append-le w.0 (head_of_job job) no_memory_line (omega (arith, w.1)))) w.2);
       },
@@ -250,11 +254,11 @@ closed_head job text old new w =
 
 -- nothing of the theorems was written before these last lines
 pub closed_first : (job : Job) (text : List ℕ) (old s0 s1 : Option (List ℕ)) (last : List ℕ) (answer result : Status) → RewriteAnswer job text answer (head_of_job job ++ last) → Grew old s0 (head_of_job job) → ClosesWith s0 s1 last answer result
-    → Rewrites job text old s1 result
+    → Wrote (RewriteAnswer job text) old s1 result
 closed_first job text old s0 s1 last answer result due h c = closed job text old s0 s0 s1 [] last answer result due h (grown-nothing s0) c
 
 pub closed_memory : (job : Job) (text : List ℕ) (old s0 s1 s2 : Option (List ℕ)) (result : Status) → Grew old s0 (head_of_job job) → WroteOf job (AreFirstTheorems job (lines_of_text text)) s0 s1 → ClosesWith s1 s2 no_memory_line status.NoMemory result
-    → Rewrites job text old s2 result
+    → Wrote (RewriteAnswer job text) old s2 result
 closed_memory job text old s0 s1 s2 result h e c = closed job text old s0 s1 s2 e.0 no_memory_line status.NoMemory result (record { theorems = e.0; first = e.1; bytes = refl }) h e.2 c
 
 -- nothing of the text was passed when memory gave out
@@ -263,7 +267,7 @@ no_theorem job text = record { theorems = []; first = none_first job text; bytes
 
 -- ---- a judgement closes
 
-due_end : (job : Job) (text : List ℕ) (j : Judgement) (ts : List TheoremView) → EndsAfter job (lines_of_text text) ts j → AreOfSecond job [] ts → RewriteAnswer job text (answer_of job j) (written_with job ts (end_line_of_job job j))
+due_end : (job : Job) (text : List ℕ) (j : Judgement) (ts : List TheoremView) → EndsAfter job (lines_of_text text) ts j → AreOfSecond job [] ts → RewriteAnswer job text (answer_of job j) (rewritten_with job ts (end_line_of_job job j))
 due_end Upgrade text (judgements.Verified n) ts e s = (refl, record { theorems = ts; ends = e; bytes = refl }, upgraded_is_verified text n ts e s)
 due_end Trim text (judgements.Verified n) ts e s = (refl, record { theorems = ts; ends = e; bytes = refl }, trimmed_is_verified text n ts e s)
 due_end Uses text (judgements.Verified n) ts e s = (refl, record { theorems = ts; ends = e; bytes = refl })
@@ -271,29 +275,57 @@ due_end job text (judgements.Bad title step) ts e s = record { theorems = ts; en
 due_end job text (judgements.Garbled line) ts e s = record { theorems = ts; ends = e; bytes = refl }
 
 -- the last line of a judgement, or that of want of memory
-pub closed_judgement : (job : Job) (text : List ℕ) (old s0 s1 s2 : Option (List ℕ)) (j : Judgement) (result : Status) → Grew old s0 (head_of_job job) → BlocksWritten job text s0 s1 (Ok j) → IsReported job s1 s2 j result → Rewrites job text old s2 result
+pub closed_judgement : (job : Job) (text : List ℕ) (old s0 s1 s2 : Option (List ℕ)) (j : Judgement) (result : Status) → Grew old s0 (head_of_job job) → BlocksWritten job text s0 s1 (Ok j) → IsReported job s1 s2 j result → Wrote (RewriteAnswer job text) old s2 result
 closed_judgement job text old s0 s1 s2 j result h e (inl c) = closed job text old s0 s1 s2 e.0 (end_line_of_job job j) (answer_of job j) result (due_end job text j e.0 e.1.0 e.1.1) h e.2 c
 closed_judgement job text old s0 s1 s2 j result h e (inr c) = closed_memory job text old s0 s1 s2 result h (e.0, first_of_all job text e.0 j e.1.0, e.2) c
 
 -- ---- what the calls gave
 
-pub reported : (job : Job) (old new : Option (List ℕ)) (last : List ℕ) (j : Judgement) (answer result : Status) → last ≡ end_line_of_job job j → answer ≡ answer_of job j → ClosesWith old new last answer result → IsReported job old new j result
-reported job old new last j answer result e a c =
-    inl (subst (λ (l : List ℕ). ClosesWith old new l (answer_of job j) result) e (subst (λ (x : Status). ClosesWith old new last x result) a c))
+-- the answer of a judgement, with its line
+abbrev pub IsAnswerOf : {E : Type 0} → Job → Result Answer E → Judgement → Type 0
+IsAnswerOf job r j = IfOk r (λ a. (a.status ≡ answer_of job j) × (a.line.items ≡ end_line_of_job job j))
 
-pub no_read_fault : (job : Job) (j : Judgement) (answer : Status) → answer ≡ answer_of job j → IsReadFault answer → ⊥
-no_read_fault Upgrade (judgements.Verified n) answer e h = subst IsReadFault e h
-no_read_fault Trim (judgements.Verified n) answer e h = subst IsReadFault e h
-no_read_fault Uses (judgements.Verified n) answer e h = subst IsReadFault e h
-no_read_fault job (judgements.Bad title step) answer e h = subst IsReadFault e h
-no_read_fault job (judgements.Garbled line) answer e h = subst IsReadFault e h
+pub reported : {E : Type 0} (job : Job) (old new : Option (List ℕ)) (r : Result Answer E) (answer : Result Answer Failure) (j : Judgement) (result : Status) → IsAnswerOf job r j → IsOrNoMemory r answer → Finishes old new answer result → IsReported job old new j result
+reported job old new (Ok a) answer j result is or c =
+    inl (subst (λ (l : List ℕ). ClosesWith old new l (answer_of job j) result) is.1 (subst (λ (x : Status). ClosesWith old new a.line.items x result) is.0 (subst (λ (x : Result Answer Failure). Finishes old new x result) or c)))
+reported job old new (Err e) answer j result is or c = inr (subst (λ (x : Result Answer Failure). Finishes old new x result) or c)
 
-pub no_write_fault : (job : Job) (j : Judgement) (answer : Status) → answer ≡ answer_of job j → IsWriteFault answer → ⊥
-no_write_fault Upgrade (judgements.Verified n) answer e h = subst IsWriteFault e h
-no_write_fault Trim (judgements.Verified n) answer e h = subst IsWriteFault e h
-no_write_fault Uses (judgements.Verified n) answer e h = subst IsWriteFault e h
-no_write_fault job (judgements.Bad title step) answer e h = subst IsWriteFault e h
-no_write_fault job (judgements.Garbled line) answer e h = subst IsWriteFault e h
+-- no judgement is answered by a fault of the source or of the sink
+no_fault : (job : Job) (j : Judgement) → (IsReadFault (answer_of job j) → ⊥) × (IsWriteFault (answer_of job j) → ⊥)
+no_fault Upgrade (judgements.Verified n) = (λ h. h, λ h. h)
+no_fault Trim (judgements.Verified n) = (λ h. h, λ h. h)
+no_fault Uses (judgements.Verified n) = (λ h. h, λ h. h)
+no_fault job (judgements.Bad title step) = (λ h. h, λ h. h)
+no_fault job (judgements.Garbled line) = (λ h. h, λ h. h)
+
+pub judgement_unread : {E : Type 0} (job : Job) (r : Result Answer E) (j : Judgement) → IsAnswerOf job r j → IfOk r (λ a. IsReadFault a.status → ⊥)
+judgement_unread job (Ok a) j is = λ h. (no_fault job j).0 (subst IsReadFault is.0 h)
+judgement_unread job (Err e) j is = tt
+
+pub judgement_writes : {E : Type 0} (job : Job) (r : Result Answer E) (j : Judgement) → IsAnswerOf job r j → IfOk r (λ a. IsWriteFault a.status → ⊥)
+judgement_writes job (Ok a) j is = λ h. (no_fault job j).1 (subst IsWriteFault is.0 h)
+judgement_writes job (Err e) j is = tt
+
+-- no text was read
+pub unread : (job : Job) (left old s0 s1 : Option (List ℕ)) (f : Failure) (result : Status) → (f ≡ errors.WriteFault → ⊥) → Grew old s0 (head_of_job job) → Finishes s0 s1 (Err f) result → WroteOfText (RewriteAnswer job) left old s1 result
+unread job left old s0 s1 errors.NoMemory result w h c = any_of left (λ text. Wrote (RewriteAnswer job text) old s1 result) (λ text. closed_first job text old s0 s1 no_memory_line status.NoMemory result (no_theorem job text) h c)
+unread job left old s0 s1 errors.ReadFault result w h c = any_of left (λ text. Wrote (RewriteAnswer job text) old s1 result) (λ text. closed_first job text old s0 s1 read_fault_line status.ReadFault result refl h c)
+unread job left old s0 s1 errors.WriteFault result w h c = absurd (w refl)
+
+-- the blocks break off
+pub broken_off : (job : Job) (text : List ℕ) (old s0 s1 s2 : Option (List ℕ)) (f : Failure) (result : Status) → Grew old s0 (head_of_job job) → BlocksWritten job text s0 s1 (Err f) → Finishes s1 s2 (Err f) result → Wrote (RewriteAnswer job text) old s2 result
+broken_off job text old s0 s1 s2 errors.NoMemory result h e c = closed_memory job text old s0 s1 s2 result h e c
+broken_off job text old s0 s1 s2 errors.ReadFault result h e c = absurd e
+broken_off job text old s0 s1 s2 errors.WriteFault result h e c =
+    subst (λ (x : Status). Wrote (RewriteAnswer job text) old s2 x) (sym c.0) (subst (λ (s : Option (List ℕ)). Wrote (RewriteAnswer job text) old s status.WriteFault) (sym c.1) (closed_inside job text old s0 s1 h e))
+
+pub never_read : (job : Job) (text : List ℕ) (s0 s1 : Option (List ℕ)) (f : Failure) → BlocksWritten job text s0 s1 (Err f) → HasReadFault (Err f) → ⊥
+never_read job text s0 s1 errors.NoMemory e h = h
+never_read job text s0 s1 errors.ReadFault e h = e
+never_read job text s0 s1 errors.WriteFault e h = h
+
+pub failed_rewritten : (old new : Option (List ℕ)) (f : Failure) (result : Status) → Finishes old new (Err f) result → IsRewritten result → ⊥
+failed_rewritten old new f result c a = finished_as IsRewritten ⊥ old new (Err f) result (λ n. n) (λ n. n) (λ n. n) tt c a
 
 -- ---- which answer is due
 
@@ -333,11 +365,11 @@ due_judged job text j status.ReadFault out few h t = inr tt
 due_judged job text j status.NoMemory out few h t = inr tt
 due_judged job text j answer out few h t = absurd t
 
-answered : (job : Job) (text : List ℕ) (j : Judgement) (old new : Option (List ℕ)) (answer : Status) → length text ≤ 2 ^ 60 → JudgesFor job text j → Rewrites job text old new answer → (answer ≡ answer_of job j) ⊎ IsFailure answer
+answered : (job : Job) (text : List ℕ) (j : Judgement) (old new : Option (List ℕ)) (answer : Status) → length text ≤ 2 ^ 60 → JudgesFor job text j → Wrote (RewriteAnswer job text) old new answer → (answer ≡ answer_of job j) ⊎ IsFailure answer
 answered job text j old new answer few h (inl w) = due_judged job text j answer w.out few h w.due
 answered job text j old new answer few h (inr w) = inr (subst IsFailure (sym w.0) tt)
 
-pub answers_rewrite : (job : Job) (left old new : Option (List ℕ)) (answer : Status) → RewritesText job left old new answer → AnswersRewrite job left answer
+pub answers_rewrite : (job : Job) (left old new : Option (List ℕ)) (answer : Status) → WroteOfText (RewriteAnswer job) left old new answer → AnswersRewrite job left answer
 answers_rewrite job left old new answer c text j is_answer few h =
-    let all = subst (λ (l : Option (List ℕ)). RewritesText job l old new answer) is_answer c in
-    answered job text j old new answer few h (subst (λ (t : List ℕ). Rewrites job t old new answer) all.1 all.2)
+    let all = subst (λ (l : Option (List ℕ)). WroteOfText (RewriteAnswer job) l old new answer) is_answer c in
+    answered job text j old new answer few h (subst (λ (t : List ℕ). Wrote (RewriteAnswer job t) old new answer) all.1 all.2)

@@ -13,12 +13,11 @@ use Rattle.e_book.specs.Grammar.{Rest}
 use Rattle.e_trim.specs.Trimmed.{trimmed}
 use Rattle.e_judgement.specs.declared.judgement.Judgement.TheVariants.{Verified}
 use Rattle.e_judgement.specs.Judged.{ReadsNext, IsCertified, lines_of_text}
-use Rattle.e_roundtrip.specs.Written.{CanBeVerified}
+use Rattle.e_roundtrip.specs.Written.{CanBeVerified, accepted_blocks_line}
 use Rattle.e_roundtrip.proofs.Trimmed.TrimmedSpelling.{trimmed_can_be_verified}
 use Rattle.e_commands.specs.declared.rewriting.Job.TheVariants.{Trim}
-use Rattle.e_commands.specs.LastLines.{accepted_line}
 use Rattle.e_commands.specs.Answers.{IsVerifiedText}
-use Rattle.e_commands.specs.Rewrites.{written_with, EndsAfter}
+use Rattle.e_commands.specs.Rewrites.{rewritten_with, EndsAfter}
 use Rattle.e_commands.specs.inner.Rewriting.{AreOfSecond}
 use Rattle.e_commands.proofs.written_texts.VerifiedAgain.{verified_again}
 
@@ -29,6 +28,6 @@ trimmed_spelled : (v : Version) → v ≡ One → (last : ℕ) (known : List Tit
 trimmed_spelled v first last known lines after t read c small =
     trimmed_can_be_verified known last t lines after small (subst (λ (x : Version). ReadsNext x last known lines t after) first read) c
 
-pub trimmed_is_verified : (text : List ℕ) (n : ℕ) (ts : List TheoremView) → EndsAfter Trim (lines_of_text text) ts (Verified n) → AreOfSecond Trim [] ts → IsVerifiedText n (written_with Trim ts (accepted_line n))
+pub trimmed_is_verified : (text : List ℕ) (n : ℕ) (ts : List TheoremView) → EndsAfter Trim (lines_of_text text) ts (Verified n) → AreOfSecond Trim [] ts → IsVerifiedText n (rewritten_with Trim ts (accepted_blocks_line n))
 trimmed_is_verified text n ts h second =
     verified_again Trim One left_of (λ v first last known lines after t read c s small. trimmed_spelled v first last known lines after t read c small) (λ known t. refl) refl (λ n. refl) text n ts h second

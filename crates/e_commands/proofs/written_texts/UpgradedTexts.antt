@@ -19,13 +19,12 @@ use Rattle.e_places.specs.Numbered.{derivation_with_places}
 use Rattle.e_places.proofs.placing.NumberedLines.{numbered_certified, numbered_erased}
 use Rattle.e_judgement.specs.declared.judgement.Judgement.TheVariants.{Verified}
 use Rattle.e_judgement.specs.Judged.{ReadsNext, IsCertified, lines_of_text}
-use Rattle.e_roundtrip.specs.Written.{CanBeVerified}
+use Rattle.e_roundtrip.specs.Written.{CanBeVerified, accepted_blocks_line}
 use Rattle.e_roundtrip.proofs.Formed.CertifiedFormed.{certified_formed}
 use Rattle.e_roundtrip.proofs.Texts.ReadIsSpelled.{read_is_formed_so}
 use Rattle.e_commands.specs.declared.rewriting.Job.TheVariants.{Upgrade}
-use Rattle.e_commands.specs.LastLines.{accepted_line}
 use Rattle.e_commands.specs.Answers.{IsVerifiedText}
-use Rattle.e_commands.specs.Rewrites.{written_with, EndsAfter}
+use Rattle.e_commands.specs.Rewrites.{rewritten_with, EndsAfter}
 use Rattle.e_commands.specs.inner.Rewriting.{AreOfSecond}
 use Rattle.e_commands.proofs.written_texts.VerifiedAgain.{verified_again}
 
@@ -50,7 +49,7 @@ placed_spelled v known last lines after t read certified second =
       certified = still;
     }
 
-pub upgraded_is_verified : (text : List ℕ) (n : ℕ) (ts : List TheoremView) → EndsAfter Upgrade (lines_of_text text) ts (Verified n) → AreOfSecond Upgrade [] ts → IsVerifiedText n (written_with Upgrade ts (accepted_line n))
+pub upgraded_is_verified : (text : List ℕ) (n : ℕ) (ts : List TheoremView) → EndsAfter Upgrade (lines_of_text text) ts (Verified n) → AreOfSecond Upgrade [] ts → IsVerifiedText n (rewritten_with Upgrade ts (accepted_blocks_line n))
 upgraded_is_verified text n ts h second =
     verified_again Upgrade Two placed (λ v taken last known lines after t read c s small. placed_spelled v known last lines after t read c s) (λ known t. refl) refl (λ n. refl) text n ts h second
 

@@ -20,7 +20,7 @@ use Rattle.e_roundtrip.proofs.Texts.WrittenIsVerified.{written_is_verified}
 use Rattle.e_commands.specs.declared.rewriting.Job.{Job}
 use Rattle.e_commands.specs.declared.rewriting.Job.TheVariants.{Upgrade, Trim, Uses}
 use Rattle.e_commands.specs.Answers.{IsVerifiedText}
-use Rattle.e_commands.specs.Rewrites.{block_of, rewritten_blocks, head_of_job, verified_end, written_with, read_as, EndsAfter, EndsAfterHead}
+use Rattle.e_commands.specs.Rewrites.{block_of, rewritten_blocks, head_of_job, verified_end, rewritten_with, read_as, EndsAfter, EndsAfterHead}
 use Rattle.e_commands.specs.inner.Rewriting.{IsReadFor, IsOfSecond, AreOfSecond}
 
 -- ---- the version
@@ -112,32 +112,32 @@ verified_count v last n known rest (inr (inr e)) = absurd (never_bad n e.0.title
 -- ---- the whole
 
 passes_again : (job : Job) (v w : Version) (f : List TitledStatement → TheoremView → Script) → Again job v w f → Same job f → head_of_job job ≡ texts.version_line w → ((n : ℕ) → verified_end job n ≡ texts.accepted_blocks_line n)
-    → (last : ℕ) (lines : Rest) (ts : List TheoremView) (now : List TitledStatement) (rest : Rest) → Passes v last [] lines ts now rest → AreOfSecond job [] ts → IsVerifiedText (length ts) (written_with job ts (verified_end job (length ts)))
+    → (last : ℕ) (lines : Rest) (ts : List TheoremView) (now : List TitledStatement) (rest : Rest) → Passes v last [] lines ts now rest → AreOfSecond job [] ts → IsVerifiedText (length ts) (rewritten_with job ts (verified_end job (length ts)))
 passes_again job v w f can same head end last lines ts now rest r h =
     let ps = pairs f [] ts in
     let count : length ps ≡ length ts = pairs_length f [] ts in
-    let bytes : texts.derivation_text w ps ≡ written_with job ts (verified_end job (length ts)) =
+    let bytes : texts.derivation_text w ps ≡ rewritten_with job ts (verified_end job (length ts)) =
     ap (λ (b : List ℕ). texts.version_line w ++ (b ++ texts.accepted_blocks_line (length ps))) (blocks_same job f same [] ts)
     ∙ ap (λ (k : ℕ). texts.version_line w ++ (rewritten_blocks job [] ts ++ texts.accepted_blocks_line k)) count
     ∙ ap (λ (b : List ℕ). b ++ (rewritten_blocks job [] ts ++ texts.accepted_blocks_line (length ts))) (sym head)
     ∙ ap (λ (b : List ℕ). head_of_job job ++ (rewritten_blocks job [] ts ++ b)) (sym (end (length ts))) in
-    subst (λ (k : ℕ). JudgesText (written_with job ts (verified_end job (length ts))) (Verified k)) count
+    subst (λ (k : ℕ). JudgesText (rewritten_with job ts (verified_end job (length ts))) (Verified k)) count
     (subst (λ (out : List ℕ). JudgesText out (Verified (length ps))) bytes (written_is_verified w ps (all_can job v w f can last [] lines ts now rest r h refl)))
 
 pub verified_again : (job : Job) (w : Version) (f : List TitledStatement → TheoremView → Script) → ((v : Version) → IsReadFor job v → Again job v w f) → Same job f → head_of_job job ≡ texts.version_line w → ((n : ℕ) → verified_end job n ≡ texts.accepted_blocks_line n)
-    → (text : List ℕ) (n : ℕ) (ts : List TheoremView) → EndsAfter job (lines_of_text text) ts (Verified n) → AreOfSecond job [] ts → IsVerifiedText n (written_with job ts (verified_end job n))
+    → (text : List ℕ) (n : ℕ) (ts : List TheoremView) → EndsAfter job (lines_of_text text) ts (Verified n) → AreOfSecond job [] ts → IsVerifiedText n (rewritten_with job ts (verified_end job n))
 verified_again job w f can same head end text n ts h second = by (lines_of_text text) h
   where
-    counted : (k : ℕ) → length ts ≡ k → IsVerifiedText (length ts) (written_with job ts (verified_end job (length ts))) → IsVerifiedText k (written_with job ts (verified_end job k))
-    counted k e x = subst (λ (m : ℕ). IsVerifiedText m (written_with job ts (verified_end job m))) e x
+    counted : (k : ℕ) → length ts ≡ k → IsVerifiedText (length ts) (rewritten_with job ts (verified_end job (length ts))) → IsVerifiedText k (rewritten_with job ts (verified_end job k))
+    counted k e x = subst (λ (m : ℕ). IsVerifiedText m (rewritten_with job ts (verified_end job m))) e x
 
-    after : (o : Option Version) (lines : Rest) → ((v : Version) → o ≡ Some v → IsReadFor job v) → EndsAfterHead o lines ts (Verified n) → IsVerifiedText n (written_with job ts (verified_end job n))
+    after : (o : Option Version) (lines : Rest) → ((v : Version) → o ≡ Some v → IsReadFor job v) → EndsAfterHead o lines ts (Verified n) → IsVerifiedText n (rewritten_with job ts (verified_end job n))
     after None lines taken k = absurd (never_garbled n 1 k.1)
     after (Some v) lines taken k =
         counted n (omega (arith, known_length v (2 + length lines) [] lines ts k.0 k.1 k.2, verified_count v (2 + length lines) n k.0 k.1 k.3))
         (passes_again job v w f (can v (taken v refl)) same head end (2 + length lines) lines ts k.0 k.1 k.2 second)
 
-    by : (lines : Rest) → EndsAfter job lines ts (Verified n) → IsVerifiedText n (written_with job ts (verified_end job n))
+    by : (lines : Rest) → EndsAfter job lines ts (Verified n) → IsVerifiedText n (rewritten_with job ts (verified_end job n))
     by [] k = absurd (never_garbled n 1 k.1)
     by (Err f ∷ lines) k = absurd (never_garbled n 1 k.1)
     by (Ok l ∷ lines) k = after (read_as job (version_of l)) lines (λ v e. read_for job (version_of l) v e) k

@@ -15,11 +15,10 @@ use Rattle.e_book.specs.Grammar.{Rest}
 use Rattle.e_roundtrip.proofs.Formed.CertifiedFormed.{certified_formed}
 use Rattle.e_roundtrip.proofs.Formed.FilledSpelling.{filled_has_spelling}
 use Rattle.e_roundtrip.specs.Written as texts
-use Rattle.e_roundtrip.specs.Written.{CanBeVerified, AllCanBeVerified}
+use Rattle.e_roundtrip.specs.Written.{CanBeVerified, AllCanBeVerified, accepted_blocks_line}
 use Rattle.e_roundtrip.proofs.Texts.WrittenIsVerified.{written_is_verified}
 use Rattle.e_judgement.specs.declared.judgement.Judgement.TheVariants.{Verified}
 use Rattle.e_judgement.specs.Judged.{JudgesText, with_theorem}
-use Rattle.e_commands.specs.LastLines.{accepted_line}
 use Rattle.e_commands.specs.Outcome.{and_theorem, and_notion, Defines, Takes, Begins, end_line_number}
 use Rattle.e_commands.specs.Outcome as outcome
 use Rattle.e_commands.proofs.progress.History.{defined_same}
@@ -77,12 +76,12 @@ pairs_length (d ∷ ds) = ap suc (pairs_length ds)
 
 -- the head line, the blocks and the last line of an accepted book
 pub verified_text : (lines : Rest) (n : ℕ) (ds : List Derived) (known : Known) (rest : Rest) → AllDerived [] ds → Begins lines (theorems_of ds) known rest → OutcomeAfter lines (outcome.Accepted n) known rest
-    → IsVerifiedText n (written_with ds (accepted_line n))
+    → IsVerifiedText n (written_with ds (accepted_blocks_line n))
 verified_text lines n ds known rest sound begins holds =
     let count : length (pairs ds) ≡ n = omega (arith, pairs_length ds, known_grows (end_line_number lines) nothing_known lines (theorems_of ds) known rest begins, holds.1) in
-    let same : texts.derivation_text One (pairs ds) ≡ written_with ds (accepted_line n) =
+    let same : texts.derivation_text One (pairs ds) ≡ written_with ds (accepted_blocks_line n) =
     ap (λ (b : List ℕ). texts.version_line One ++ (b ++ texts.accepted_blocks_line (length (pairs ds)))) (blocks_same [] ds)
     ∙ ap (λ (k : ℕ). texts.version_line One ++ (blocks_of [] ds ++ texts.accepted_blocks_line k)) count in
-    subst (λ (k : ℕ). JudgesText (written_with ds (accepted_line n)) (Verified k)) count
+    subst (λ (k : ℕ). JudgesText (written_with ds (accepted_blocks_line n)) (Verified k)) count
     (subst (λ (out : List ℕ). JudgesText out (Verified (length (pairs ds)))) same
     (written_is_verified One (pairs ds) (all_spelled (end_line_number lines) nothing_known lines ds known rest refl begins sound)))

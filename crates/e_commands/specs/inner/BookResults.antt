@@ -1,6 +1,5 @@
 -- How the blocks of a book end, before the last lines are written.
-use Rattle.std.specs.Prelude.{◌≡◌, ℕ, ◌≤◌, List, [], length, take, Option, Some, Result, Ok}
-use Rattle.std.specs.Prelude.{Err}
+use Rattle.std.specs.Prelude.{◌≡◌, ℕ, ◌≤◌, List, [], length, take, Option, Some, Result, Ok, Err}
 use Rattle.e_io.specs.Bytes.{Grew}
 use Rattle.e_deriv.specs.declared.stop.Stop.{Stop}
 use Rattle.e_deriv.specs.declared.stop.Stop.TheVariants as stops
@@ -8,18 +7,20 @@ use Rattle.e_line.specs.declared.fault.BookFault.{BookFault}
 use Rattle.e_line.specs.declared.fault.BookFault.TheVariants as faults
 use Rattle.e_commands.specs.declared.blocks.BookResult.{BookResult}
 use Rattle.e_commands.specs.declared.blocks.BookResult.TheVariants.{All, Stopped, Faulty}
-use Rattle.e_commands.specs.declared.blocks.RunError.{RunError}
-use Rattle.e_commands.specs.declared.blocks.RunError.TheVariants.{NoMemory, ReadFault, WriteFault}
+use Rattle.e_commands.specs.declared.output.Failure.{Failure}
+use Rattle.e_commands.specs.declared.output.Failure.TheVariants.{NoMemory, ReadFault, WriteFault}
 use Rattle.e_spell.specs.Spelling.{stop_text, IsStop}
 use Rattle.e_commands.specs.declared.status.Status.{Status}
 use Rattle.e_commands.specs.declared.status.Status.TheVariants as status
-use Rattle.e_commands.specs.LastLines.{accepted_line, fault_line}
+use Rattle.e_commands.specs.LastLines.{fault_line}
 use Rattle.e_names.specs.declared.known.Known.{Known}
-use Rattle.e_commands.specs.Outcome.{Begins, IsFront}
+use Rattle.e_commands.specs.Outcome.{Begins}
 use Rattle.e_commands.specs.Outcome as outcome
 use Rattle.e_commands.specs.Answers.{Derived, AllDerived, OutcomeAfter, Refuses, Widens}
 use Rattle.e_commands.specs.Answers.{theorems_of, steps_of, blocks_of}
 use Rattle.e_book.specs.Grammar.{Rest}
+use Rattle.e_book.specs.TheoremViews.{TheoremView}
+use Rattle.e_roundtrip.specs.Written.{accepted_blocks_line}
 
 -- the blocks of these theorems with their derivations were written, and this holds after them
 pub record BlocksUpTo (lines : Rest) (old new : Option (List ℕ))
@@ -31,6 +32,12 @@ pub record BlocksUpTo (lines : Rest) (old new : Option (List ℕ))
   pub begins : Begins lines (theorems_of derived) known rest
   pub holds : Holds known rest
   pub grew : Grew old new (blocks_of [] derived)
+
+-- these are the first theorems of the lines, each licensed
+pub record IsFront (lines : Rest) (theorems : List TheoremView) : Type 0 where
+  pub known : Known
+  pub rest : Rest
+  pub begins : Begins lines theorems known rest
 
 -- the blocks of some of the first theorems were written
 pub record BreaksOff (lines : Rest) (old new : Option (List ℕ)) : Type 0 where
@@ -67,7 +74,7 @@ BookResultIs lines old new (Faulty f) =
 
 -- the blocks end so, or memory ran out or the sink failed; no source was read
 abbrev pub BlocksAre : Rest → Option (List ℕ) → Option (List ℕ)
-    → Result BookResult RunError → Type 0
+    → Result BookResult Failure → Type 0
 BlocksAre lines old new (Ok book_result) = BookResultIs lines old new book_result
 BlocksAre lines old new (Err NoMemory) = BreaksOff lines old new
 BlocksAre lines old new (Err ReadFault) = ⊥
@@ -75,7 +82,7 @@ BlocksAre lines old new (Err WriteFault) = BreaksInside lines old new
 
 -- the same where a source was read, which may fail too
 abbrev pub SourceResultIs : Rest → Option (List ℕ) → Option (List ℕ)
-    → Result BookResult RunError → Type 0
+    → Result BookResult Failure → Type 0
 SourceResultIs lines old new (Ok book_result) = BookResultIs lines old new book_result
 SourceResultIs lines old new (Err NoMemory) = BreaksOff lines old new
 SourceResultIs lines old new (Err ReadFault) = BreaksOff lines old new
@@ -87,7 +94,7 @@ IsAll (All n s) = Unit {0}
 IsAll book_result = ⊥
 
 -- a stop ends the blocks, or memory ran out
-abbrev pub result_of_stop : List ℕ → Stop → Result (Option BookResult) RunError
+abbrev pub result_of_stop : List ℕ → Stop → Result (Option BookResult) Failure
 result_of_stop title (stops.Unlicensed step wanted values names) =
     Ok (Some (Stopped title (stops.Unlicensed step wanted values names)))
 result_of_stop title (stops.TooWide step wanted width names) =
@@ -95,7 +102,7 @@ result_of_stop title (stops.TooWide step wanted width names) =
 result_of_stop title stops.NoMemory = Err NoMemory
 
 -- and so a fault
-abbrev pub result_of_fault : BookFault → Result (Option BookResult) RunError
+abbrev pub result_of_fault : BookFault → Result (Option BookResult) Failure
 result_of_fault faults.NoMemory = Err NoMemory
 result_of_fault (faults.Malformed line) = Ok (Some (Faulty (faults.Malformed line)))
 result_of_fault (faults.UnknownName line) = Ok (Some (Faulty (faults.UnknownName line)))
@@ -106,7 +113,7 @@ result_of_fault (faults.Unended line) = Ok (Some (Faulty (faults.Unended line)))
 
 -- the last lines of a book's result
 abbrev pub last_lines : BookResult → List ℕ
-last_lines (All n s) = accepted_line n
+last_lines (All n s) = accepted_blocks_line n
 last_lines (Stopped title stop) = stop_text title stop
 last_lines (Faulty f) = fault_line f
 

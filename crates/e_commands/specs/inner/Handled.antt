@@ -3,7 +3,7 @@ use Rattle.std.specs.Prelude.{ℕ, List, [], Option, Result}
 use Rattle.e_io.specs.Bytes.{Grew}
 use Rattle.e_names.specs.declared.known.Known.{Known}
 use Rattle.e_commands.specs.declared.blocks.BookResult.{BookResult}
-use Rattle.e_commands.specs.declared.blocks.RunError.{RunError}
+use Rattle.e_commands.specs.declared.output.Failure.{Failure}
 use Rattle.e_commands.specs.Outcome.{Begins, end_line_number, lines_of_book}
 use Rattle.e_commands.specs.Answers.{Derived, AllDerived, theorems_of, blocks_of, IsAllOf}
 use Rattle.e_commands.specs.inner.BookResults.{SourceResultIs}
@@ -29,6 +29,6 @@ HandledBlocks left0 left1 old new =
 
 -- the blocks of the book that a source exposes end so, or break off
 abbrev pub TextResultIs : Option (List ℕ) → Option (List ℕ) → Option (List ℕ)
-    → Result BookResult RunError → Type 0
+    → Result BookResult Failure → Type 0
 TextResultIs left old new ended =
     (text : List ℕ) × IsAllOf left text × SourceResultIs (lines_of_book text) old new ended

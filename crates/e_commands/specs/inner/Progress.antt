@@ -17,7 +17,7 @@ use Rattle.e_commands.specs.declared.book.Book.{Book}
 use Rattle.e_commands.specs.declared.pieces.Untaken.{Untaken}
 use Rattle.e_commands.specs.declared.blocks.BookResult.{BookResult}
 use Rattle.e_commands.specs.declared.blocks.BookResult.TheVariants.{All, Faulty}
-use Rattle.e_commands.specs.declared.blocks.RunError.{RunError}
+use Rattle.e_commands.specs.declared.output.Failure.{Failure}
 use Rattle.e_commands.specs.Outcome.{Begins, lines_of_book}
 use Rattle.e_commands.specs.Answers.{Derived, AllDerived, theorems_of, steps_of, blocks_of}
 use Rattle.e_commands.specs.inner.BookResults.{BookResultIs, BlocksAre}
@@ -66,14 +66,14 @@ pub record Reaches (all remaining : Rest → Rest) (old : Option (List ℕ)) (b 
 
 -- the next theorem or definition is taken, and these lines are left; or the blocks end or break off
 -- at it
-abbrev pub Handles : Rest → Option (List ℕ) → Rest → Result (Option BookResult) RunError → Book
+abbrev pub Handles : Rest → Option (List ℕ) → Rest → Result (Option BookResult) Failure → Book
     → Option (List ℕ) → Type 0
 Handles lines old after (Ok None) b new = History lines old b.known after new b.steps
 Handles lines old after (Ok (Some book_result)) b new = BookResultIs lines old new book_result
 Handles lines old after (Err error) b new = BlocksAre lines old new (Err error)
 
 -- the lines that remained are taken; or the blocks end or break off at them
-abbrev pub BookTakes : (Rest → Rest) → Option (List ℕ) → Result (Option BookResult) RunError → Book
+abbrev pub BookTakes : (Rest → Rest) → Option (List ℕ) → Result (Option BookResult) Failure → Book
     → Option (List ℕ) → Type 0
 BookTakes all old (Ok None) b new = Reaches all (λ more. more) old b new
 BookTakes all old (Ok (Some book_result)) b new =
@@ -107,7 +107,7 @@ pub record IsReadUpTo (read : List ℕ) (old : Option (List ℕ)) (b : Book) (u 
 
 -- all these bytes were read, and the book goes on; or its blocks end or break off at them, whatever
 -- bytes come
-abbrev pub PieceTakes : List ℕ → Option (List ℕ) → Result (Option BookResult) RunError → Book
+abbrev pub PieceTakes : List ℕ → Option (List ℕ) → Result (Option BookResult) Failure → Book
     → Untaken → Option (List ℕ) → Type 0
 PieceTakes read old (Ok None) b u new = IsReadUpTo read old b u new
 PieceTakes read old (Ok (Some book_result)) b u new =

@@ -15,8 +15,8 @@ use Rattle.e_judgement.specs.declared.judgement.Judgement.{Judgement}
 use Rattle.e_judgement.specs.Judged.{with_theorem, IsCertified, Passes, Closes, lines_of_text}
 use Rattle.e_commands.specs.declared.rewriting.Job.{Job}
 use Rattle.e_commands.specs.declared.rewriting.Job.TheVariants.{Upgrade, Trim, Uses}
-use Rattle.e_commands.specs.declared.blocks.RunError.{RunError}
-use Rattle.e_commands.specs.declared.blocks.RunError.TheVariants.{NoMemory, ReadFault, WriteFault}
+use Rattle.e_commands.specs.declared.output.Failure.{Failure}
+use Rattle.e_commands.specs.declared.output.Failure.TheVariants.{NoMemory, ReadFault, WriteFault}
 use Rattle.e_commands.specs.declared.status.Status.{Status}
 use Rattle.e_commands.specs.declared.status.Status.TheVariants as status
 use Rattle.e_commands.specs.LastLines.{no_memory_line}
@@ -66,7 +66,7 @@ pub record Passed (job : Job) (known : List TitledStatement) (t : TheoremView)
 
 -- where memory ran out nothing was written, or all of it, and where the sink failed a prefix
 abbrev pub Broke : Job → List TitledStatement → TheoremView → Option (List ℕ)
-    → Option (List ℕ) → RunError → Type 0
+    → Option (List ℕ) → Failure → Type 0
 Broke job known t old new NoMemory = Grew old new [] ⊎ Grew old new (block_of job known t)
 Broke job known t old new WriteFault = GrewByFront old new (block_of job known t)
 Broke job known t old new ReadFault = ⊥
@@ -88,7 +88,7 @@ WroteFrontOf job Are old new =
 -- end, else of some first ones
 abbrev pub WroteTheorems : Job → (List TheoremView → Judgement → Type 0)
     → (List TheoremView → Type 0) → Option (List ℕ) → Option (List ℕ)
-    → Result Judgement RunError → Type 0
+    → Result Judgement Failure → Type 0
 WroteTheorems job End Are old new (Ok j) =
     WroteOf job (λ ts. End ts j × AreOfSecond job [] ts) old new
 WroteTheorems job End Are old new (Err NoMemory) = WroteOf job Are old new
@@ -108,13 +108,13 @@ ComeAll v last lines ts j =
 
 -- of lines after a head
 abbrev pub TheoremsWritten : Job → Version → ℕ → Rest → Option (List ℕ) → Option (List ℕ)
-    → Result Judgement RunError → Type 0
+    → Result Judgement Failure → Type 0
 TheoremsWritten job v last lines old new result =
     WroteTheorems job (ComeAll v last lines) (ComeFirst v last lines) old new result
 
 -- of a text
 abbrev pub BlocksWritten : Job → List ℕ → Option (List ℕ) → Option (List ℕ)
-    → Result Judgement RunError → Type 0
+    → Result Judgement Failure → Type 0
 BlocksWritten job text old new result =
     WroteTheorems job (EndsAfter job (lines_of_text text))
     (AreFirstTheorems job (lines_of_text text)) old new result

@@ -23,7 +23,7 @@ use Rattle.e_spell.specs.Spelling.{too_wide_text, stop_text, IsStop}
 use Rattle.e_suggest.specs.Suggestions.{AreFirstChoices, SomeArgsAreTooWide}
 use Rattle.e_commands.specs.declared.status.Status.{Status}
 use Rattle.e_commands.specs.declared.status.Status.TheVariants as status
-use Rattle.e_commands.specs.declared.trier.Answer.{Answer}
+use Rattle.e_commands.specs.declared.output.Answer.{Answer}
 use Rattle.e_commands.specs.declared.suggestions.Listed.{Listed}
 use Rattle.e_commands.specs.declared.suggestions.Listed.TheVariants as listed
 use Rattle.e_commands.specs.Answers.{IsReadFault}
@@ -39,22 +39,19 @@ use Rattle.e_commands.specs.inner.BookResults.{stop_answer}
 abbrev pub apply_lines : List ℕ → Names → List (List Obj) → List (List ℕ)
 apply_lines title names choices = map (apply_line title names) choices
 
--- the theorem has more than six declared objects, and is passed over; or these are all its choices
-abbrev pub AreAllChoices : StatementView → Scope → List Lit → ℕ → List (List Obj) → Type 0
-AreAllChoices t scope facts left choices =
-    ((6 < length t.declared) × (choices ≡ []))
-    ⊎ ((length t.declared ≤ 6) × AreFirstChoices t scope facts left choices false)
+-- the theorem has more than six declared objects; or these are the first of its choices, and
+-- whether there are more
+abbrev pub AreChosen : StatementView → Scope → List Lit → ℕ → List (List Obj) → Bool → Type 0
+AreChosen t scope facts left choices more =
+    ((6 < length t.declared) × (choices ≡ []) × (more ≡ false))
+    ⊎ ((length t.declared ≤ 6) × AreFirstChoices t scope facts left choices more)
 
 -- what was written of one theorem
 abbrev pub IsListedOne : Names → Scope → List Lit → List ℕ → StatementView → ℕ → List ℕ
     → List ℕ → Listed → Type 0
-IsListedOne names scope facts title t left old new (listed.All n) =
+IsListedOne names scope facts title t left old new (listed.Found n more) =
     (choices : List (List Obj)) × (new ≡ old ++ text_of (apply_lines title names choices))
-    × (n ≡ length choices) × (n ≤ left) × AreAllChoices t scope facts left choices
-IsListedOne names scope facts title t left old new (listed.Full n) =
-    (choices : List (List Obj)) × (new ≡ old ++ text_of (apply_lines title names choices))
-    × (n ≡ length choices) × (length t.declared ≤ 6)
-    × AreFirstChoices t scope facts left choices true
+    × (n ≡ length choices) × (n ≤ left) × AreChosen t scope facts left choices more
 IsListedOne names scope facts title t left old new (listed.TooWide w) =
     (length t.declared ≤ 6) × SomeArgsAreTooWide t scope facts w
 
@@ -77,12 +74,11 @@ pub record AreListed (names : Names) (scope : Scope) (facts : List Lit)
   pub first : AreFirstApplications scope facts known applications more
 
 abbrev pub IsListed : Names → Scope → List Lit → List TitledStatement → List ℕ → Listed → Type 0
-IsListed names scope facts known out (listed.All n) =
-    AreListed names scope facts known out n false
-IsListed names scope facts known out (listed.Full n) = AreListed names scope facts known out n true
+IsListed names scope facts known out (listed.Found n more) =
+    AreListed names scope facts known out n more
 IsListed names scope facts known out (listed.TooWide w) = SomeIsTooWide scope facts known w
 
--- the theorems before this place were asked, and the lines of all their applications were written
+-- the theorems before this place were looked at, and the lines of all their applications written
 pub record AreListedTo (names : Names) (scope : Scope) (facts : List Lit)
     (known : List TitledStatement) (place : ℕ) (out : List ℕ) (count : ℕ) : Type 0 where
   pub applications : List Application

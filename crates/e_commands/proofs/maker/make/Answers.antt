@@ -8,4 +8,4 @@ returns-in-Ok-clause-makes g c =
 
 pub returns-in-Err-clause-makes : goal.returns-in-Err-clause-makes
 returns-in-Err-clause-makes g c =
-    unmade_closed c.args.theorems (g.K.Sink.written c.args.sink.now) (g.K.Sink.written c.close-in-Err.new.sink) c.close-in-Err.result c.close-in-Err.ensures.closes
+    unmade_closed c.args.theorems (g.K.Sink.written c.args.sink.now) (g.K.Sink.written c.finish.new.sink) c.finish.result c.finish.ensures.finishes

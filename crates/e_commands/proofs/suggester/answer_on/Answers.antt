@@ -8,7 +8,7 @@ size-steps-requires c = omega (arith, c.requires.fitting.short)
 
 pub returns-then-steps-step : goal.returns-then-steps-step
 returns-then-steps-step c =
-    too_short_next c.no_step.result c.args.known.now (entry_of c.args.theorem.now) c.args.step (omega (arith, c.size-steps.ensures, c.if-steps-step.true)) c.no_step.ensures
+    too_short_next c.answer_with.result c.args.known.now (entry_of c.args.theorem.now) c.args.step (omega (arith, c.size-steps.ensures, c.if-steps-step.true)) c.answer_with.ensures
 
 pub context_at-requires-clause-fitting : goal.context_at-requires-clause-fitting
 context_at-requires-clause-fitting c = rw c.statements.ensures c.requires.fitting
@@ -18,8 +18,8 @@ context_at-requires-clause-last c = omega (arith, c.size-steps.ensures, c.if-ste
 
 pub returns-in-Err : goal.returns-in-Err
 returns-in-Err c =
-    stopped_next c.stopped.result c.args.known.now (entry_of c.args.theorem.now) c.args.step c.in-Err.stop (omega (arith, c.size-steps.ensures, c.if-steps-step.false)) c.in-Err.ensures.earlier
-    (rw c.statements.ensures at c.in-Err.ensures.stop) (rw c.statements.ensures at c.in-Err.ensures.names) c.stopped.ensures
+    stopped_next c.answer_of_stop.result c.args.known.now (entry_of c.args.theorem.now) c.args.step c.in-Err.stop (omega (arith, c.size-steps.ensures, c.if-steps-step.false)) c.in-Err.ensures.earlier
+    (rw c.statements.ensures at c.in-Err.ensures.stop) (rw c.statements.ensures at c.in-Err.ensures.names) c.answer_of_stop.ensures
 
 pub returns : goal.returns
 returns c =

@@ -2,7 +2,7 @@ use Rattle.std.proofs.Common.{◌≡◌, ℕ, ◌+◌, ◌∙◌, length, arith,
 use Rattle.e_names.specs.declared.known.Known.{Known}
 use Rattle.e_book.specs.Definitions.{item_from, view_of}
 use Rattle.e_book.specs.Grammar.{last_line, BookFails}
-use Rattle.e_commands.specs.declared.trier.Answer.{Answer}
+use Rattle.e_commands.specs.declared.output.Answer.{Answer}
 use Rattle.e_commands.specs.Outcome.{end_line_number}
 use Rattle.e_commands.specs.inner.Suggesting.{IsOnWay, PassesTitles}
 use Rattle.e_commands.proofs.answers.SuggesterAnswers.{way_start, no_step_here, faulty_here}
@@ -24,14 +24,14 @@ next_item-requires-clause-notions c = c.loop-item.invariant.way.notions
 pub returns-in-Ok-None : goal.returns-in-Ok-None
 returns-in-Ok-None c =
     let last : last_line c.loop-item.lines ≡ end_line_number c.args.lines.now.lines = c.loop-item.invariant.last ∙ ap (λ (n : ℕ). n + length c.args.lines.now.lines) c.requires.first in
-    no_step_here c.no_step.result c.args.lines.now.lines c.args.title c.args.step c.loop-item.known c.loop-item.lines.lines c.loop-item.invariant.way
-    (subst (λ (n : ℕ). item_from c.loop-item.known n None c.loop-item.lines.lines ≡ Ok None) last (rw c.in-Ok-None.field-0-is at c.in-Ok-None.ensures.read)) c.no_step.ensures
+    no_step_here c.answer_with.result c.args.lines.now.lines c.args.title c.args.step c.loop-item.known c.loop-item.lines.lines c.loop-item.invariant.way
+    (subst (λ (n : ℕ). item_from c.loop-item.known n None c.loop-item.lines.lines ≡ Ok None) last (rw c.in-Ok-None.field-0-is at c.in-Ok-None.ensures.read)) c.answer_with.ensures
 
 pub returns-in-Err : goal.returns-in-Err
 returns-in-Err c =
     let last : last_line c.loop-item.lines ≡ end_line_number c.args.lines.now.lines = c.loop-item.invariant.last ∙ ap (λ (n : ℕ). n + length c.args.lines.now.lines) c.requires.first in
-    faulty_here c.faulty.result c.args.lines.now.lines c.args.title c.args.step c.loop-item.known c.loop-item.lines.lines c.in-Err.at c.loop-item.invariant.way
-    (subst (λ (n : ℕ). BookFails c.in-Err.at (item_from c.loop-item.known n None c.loop-item.lines.lines)) last c.in-Err.ensures.read) c.faulty.ensures
+    faulty_here c.answer_of_fault.result c.args.lines.now.lines c.args.title c.args.step c.loop-item.known c.loop-item.lines.lines c.in-Err.at c.loop-item.invariant.way
+    (subst (λ (n : ℕ). BookFails c.in-Err.at (item_from c.loop-item.known n None c.loop-item.lines.lines)) last c.in-Err.ensures.read) c.answer_of_fault.ensures
 
 pub pass_item-requires-clause-small : goal.pass_item-requires-clause-small
 pass_item-requires-clause-small c = c.loop-item.invariant.way.small

@@ -1,9 +1,7 @@
-use Rattle.std.proofs.Common.{◌∙◌, sym}
+use Rattle.std.proofs.Common.{◌∙◌, List, ap, sym}
 use Rattle.e_deriv.specs.Script.{script_of}
 use Rattle.e_book.specs.TheoremViews.{entry_of}
-use Rattle.e_names.specs.TitledStatements.{is_known}
-use Rattle.e_names.specs.Titled.{defines}
-use Rattle.e_names.proofs.titles.FreshTitles.{both}
+use Rattle.e_names.specs.TitledStatements.{TitledStatement}
 use Rattle.e_commands.proofs.answers.SuggesterAnswers.{titled_passes, stopped_passes, licensed_passes}
 use Rattle.e_commands.proofs.suggester.pass_theorem.Goals as goal
 
@@ -20,9 +18,9 @@ returns-in-Err c =
     (rw c.statements.ensures at c.in-Err.ensures.stop) (rw c.statements.ensures at c.in-Err.ensures.names) c.in_ok-answer-in-Err.ensures
 
 pub keep-requires : goal.keep-requires
-keep-requires c = both (is_known c.args.known.now.theorems c.args.theorem.title) (defines c.args.known.now.notions c.args.theorem.title) c.requires.good.0.fits.new c.requires.good.1
+keep-requires c = c.requires.good.0.fits.new
 
 pub returns : goal.returns
 returns c =
-    licensed_passes c.args.known.now c.keep.new.known c.args.title c.args.step (entry_of c.args.theorem) (sym c.has_title.ensures ∙ c.if-has_title.false)
-    (record { filled = script_of c.in-Ok.derivation; licensed = rw c.statements.ensures at c.in-Ok.ensures.least }) c.requires.states c.in_ok-keep.ensures
+    licensed_passes c.args.known.now (record c.args.known.now { theorems = c.keep.new.known }) c.args.title c.args.step (entry_of c.args.theorem) (sym c.has_title.ensures ∙ c.if-has_title.false)
+    (record { filled = script_of c.in-Ok.derivation; licensed = rw c.statements.ensures at c.in-Ok.ensures.least }) c.requires.states (ap (λ (ts : List TitledStatement). record c.args.known.now { theorems = ts }) c.in_ok-keep.ensures)

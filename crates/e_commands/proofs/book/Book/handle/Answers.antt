@@ -1,9 +1,6 @@
 use Rattle.std.proofs.Common.{[], ◌∷◌, length, length-append, ap, arith}
-use Rattle.e_names.specs.declared.known.Known.{Known}
-use Rattle.e_names.specs.TitledStatements.{headed, is_known}
-use Rattle.e_names.specs.Titled.{defines}
+use Rattle.e_names.specs.TitledStatements.{headed}
 use Rattle.e_book.specs.TheoremViews.{entry_of}
-use Rattle.e_names.proofs.titles.FreshTitles.{both}
 use Rattle.e_book.proofs.fit_theorems.Fitting.{fitting, small_statement, one_more_stated}
 use Rattle.e_book.proofs.parsers.ReadingOn.{begun_first}
 use Rattle.e_commands.specs.Answers.{Derived}
@@ -18,18 +15,18 @@ pub block-requires-clause-good : goal.block-requires-clause-good
 block-requires-clause-good g c = c.requires.spelled.fits.good_script
 
 pub keep-requires : goal.keep-requires
-keep-requires g c = both (is_known c.args.self.now.known.theorems c.args.theorem.title) (defines c.args.self.now.known.notions c.args.theorem.title) c.requires.spelled.fits.new c.requires.title
+keep-requires g c = c.requires.spelled.fits.new
 
 pub returns-in-Err-clause-handles : goal.returns-in-Err-clause-handles
 returns-in-Err-clause-handles g c =
     λ lines rest after before h read.
-    stopped lines before (g.K.Sink.written c.args.sink.now) c.args.self.now.known rest after after c.args.self.now.steps (entry_of c.args.theorem) c.in-Err.stop c.args.self.now c.stopped.result c.stopped.ensures h read c.in-Err.ensures.stop c.in-Err.ensures.names
+    stopped lines before (g.K.Sink.written c.args.sink.now) c.args.self.now.known rest after after c.args.self.now.steps (entry_of c.args.theorem) c.in-Err.stop c.args.self.now c.result_of_stop.result c.result_of_stop.ensures h read c.in-Err.ensures.stop c.in-Err.ensures.names
 
 pub returns-in-Err-clause-book : goal.returns-in-Err-clause-book
-returns-in-Err-clause-book g c = stop_none c.args.theorem.title c.in-Err.stop c.stopped.result _ c.stopped.ensures
+returns-in-Err-clause-book g c = stop_none c.args.theorem.title c.in-Err.stop c.result_of_stop.result _ c.result_of_stop.ensures
 
 pub returns-in-Err-clause-begins : goal.returns-in-Err-clause-begins
-returns-in-Err-clause-begins g c = stop_none c.args.theorem.title c.in-Err.stop c.stopped.result _ c.stopped.ensures
+returns-in-Err-clause-begins g c = stop_none c.args.theorem.title c.in-Err.stop c.result_of_stop.result _ c.result_of_stop.ensures
 
 pub returns-in_default-clause-handles : goal.returns-in_default-clause-handles
 returns-in_default-clause-handles g c =
@@ -63,12 +60,12 @@ returns-clause-book g c =
     let s = c.requires.spelled in
     record {
       small = rw c.in-Ok-keep.ensures (one_more_stated c.args.self.now.known.theorems t.title t.statement b.small (small_statement c.args.self.now.known.theorems t s.fits));
-      notions = rw c.in-Ok-keep.ensures b.notions;
-      count = omega (arith, ap (λ (k : Known). length k.theorems) c.in-Ok-keep.ensures, length-append c.args.self.now.known.theorems (headed c.args.theorem.title c.args.theorem.statement ∷ []), b.count);
+      notions = b.notions;
+      count = omega (arith, ap length c.in-Ok-keep.ensures, length-append c.args.self.now.known.theorems (headed c.args.theorem.title c.args.theorem.statement ∷ []), b.count);
       most = omega (arith, s.few_theorems, b.count);
       steps = omega (arith, b.steps, s.fits.steps, c.size-count.ensures);
       partial_item = rw c.requires.begins tt;
-      begun = rw c.requires.begins (begun_first c.keep.new.known);
+      begun = rw c.requires.begins (begun_first (record c.args.self.now.known { theorems = c.keep.new.known }));
     }
 
 pub returns-clause-begins : goal.returns-clause-begins

@@ -6,9 +6,6 @@ use Rattle.e_commands.proofs.book.Book.handle_item.Goals as goal
 pub handle-requires-clause-spelled : goal.handle-requires-clause-spelled
 handle-requires-clause-spelled g c = (rw c.in-Theorem.is at c.requires.good).0
 
-pub handle-requires-clause-title : goal.handle-requires-clause-title
-handle-requires-clause-title g c = (rw c.in-Theorem.is at c.requires.good).1
-
 pub add_notion-requires : goal.add_notion-requires
 add_notion-requires g c = record { new = (rw c.in-Notion.is at c.requires.good).0 }
 

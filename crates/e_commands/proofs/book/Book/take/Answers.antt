@@ -34,16 +34,16 @@ returns-in-Ok-None-clause-book g c = book_with c.loop-item.self c.read.new.self 
 pub returns-in-Err-clause-takes : goal.returns-in-Err-clause-takes
 returns-in-Err-clause-takes g c =
     λ all before h.
-    rw c.faulty.ensures (faulty_here all before c.loop-item.self _ (g.K.Sink.written c.loop-item.sink) c.loop-item.lines.lines c.read.new.lines.lines c.read.new.self.partial_item c.in-Err.fault c.loop-item.invariant.book (c.loop-item.invariant.reaches all before h) c.in-Err.ensures.reads)
+    rw c.result_of_fault.ensures (faulty_here all before c.loop-item.self _ (g.K.Sink.written c.loop-item.sink) c.loop-item.lines.lines c.read.new.lines.lines c.read.new.self.partial_item c.in-Err.fault c.loop-item.invariant.book (c.loop-item.invariant.reaches all before h) c.in-Err.ensures.reads)
 
 pub returns-in-Err-clause-taken : goal.returns-in-Err-clause-taken
-returns-in-Err-clause-taken g c = fault_none c.in-Err.fault c.faulty.result _ c.faulty.ensures
+returns-in-Err-clause-taken g c = fault_none c.in-Err.fault c.result_of_fault.result _ c.result_of_fault.ensures
 
 pub returns-in-Err-clause-book : goal.returns-in-Err-clause-book
-returns-in-Err-clause-book g c = fault_none c.in-Err.fault c.faulty.result _ c.faulty.ensures
+returns-in-Err-clause-book g c = fault_none c.in-Err.fault c.result_of_fault.result _ c.result_of_fault.ensures
 
 pub returns-in-Err-clause-cause : goal.returns-in-Err-clause-cause
-returns-in-Err-clause-cause g c = λ h. absurd (fault_unwritten c.in-Err.fault c.faulty.result c.faulty.ensures h)
+returns-in-Err-clause-cause g c = λ h. absurd (fault_unwritten c.in-Err.fault c.result_of_fault.result c.result_of_fault.ensures h)
 
 pub returns-in_err-handle_item-clause-takes : goal.returns-in_err-handle_item-clause-takes
 returns-in_err-handle_item-clause-takes g c =

@@ -4,7 +4,7 @@ use Rattle.e_judgement.specs.declared.judgement.Judgement.TheVariants.{Verified}
 use Rattle.e_judgement.proofs.OneJudgement.{one_judgement}
 use Rattle.e_commands.specs.LastLines.{tried_line}
 use Rattle.e_commands.specs.declared.status.Status.TheVariants as status
-use Rattle.e_commands.proofs.trier.verified.Goals as goal
+use Rattle.e_commands.proofs.trier.answer_of_accepted.Goals as goal
 
 same_number : (j : Judgement) (n m : ℕ) → j ≡ Verified n → j ≡ Verified m → n ≡ m
 same_number j n m a b = cc
