@@ -33,7 +33,7 @@ pub enum Status {
     Upgraded {
         theorems: u32,
     },
-    /// What is true in the figure is written, of this many shown literals.
+    /// What the figure says of each shown literal is written, and so many they are.
     Drawn {
         shown: u64,
     },
