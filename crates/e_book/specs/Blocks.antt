@@ -8,7 +8,7 @@ use Rattle.e_book.specs.declared.blocks.BlockKind.{BlockKind}
 use Rattle.e_book.specs.declared.blocks.BlockKind.TheVariants as kind
 
 -- a claim and a superposition have goals of their own, without made objects; a block of a split has
--- that of the block it closes
+-- that of the block that the split closes
 abbrev pub is_claim : BlockKind → Bool
 is_claim (kind.Claim shown) = true
 is_claim (kind.Superpose superposition names shown) = true

@@ -1,4 +1,5 @@
--- A theorem, line by line, as the parser reads it where no items and no definitions come.
+-- A theorem, line by line, as the parser reads it where no items and no definitions come, as in a
+-- derivation text.
 use Rattle.std.specs.Prelude.{ℕ, Bool, true, false, List, [], ◌∷◌, Option, Some, None, Result, Ok}
 use Rattle.std.specs.Prelude.{Err, if◌then◌else◌}
 use Rattle.e_text.specs.Tokens.{tokens_of}

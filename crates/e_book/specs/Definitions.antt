@@ -1,4 +1,5 @@
--- The grammar of books: theorems and definitions, one after another.
+-- The grammar of books, on which the claim rests: definitions, and theorems as Grammar has them,
+-- one after another.
 use Rattle.std.specs.Prelude.{◌≡◌, ℕ, ◌+◌, List, [], ◌∷◌, length, map, nat_le, Bool, true, false}
 use Rattle.std.specs.Prelude.{Option, Some, None, IsTrue, Result, Ok, Err, if◌then◌else◌}
 use Rattle.std.specs.Option.{option_map}
@@ -87,6 +88,7 @@ ends_definition h rawlines.End =
     if is_empty h.statement.shown then Err Malformed else Ok (Defined (meant h))
 ends_definition h f = Err Malformed
 
+-- such a line at its place
 abbrev pub plain_line : Known → PartialItem → RawLine → Result PartialItem FaultKind
 plain_line known (InTheorem o n) f =
     line_after known.theorems (Some o) f >>= λ m. Ok (InTheorem m n)
@@ -106,6 +108,7 @@ written_out known o line is =
     next known.theorems o (listing_raw_line line []) >>= λ there. items_in known.notions ns 0 is
     >>= λ p. Ok (listing_raw_line line (map (raw_of ns) p.0), p.1)
 
+-- with so many more literals that items mean, within their limit
 abbrev pub counted : ℕ → PartialItem → Result PartialItem FaultKind
 counted n (InTheorem o m) =
     all_kept ((nat_le (m + n) most_expanded, limits.Expanded) ∷ [])
@@ -134,6 +137,7 @@ next_line known c (Plain f) = plain_line known c f
 next_line known c (Define t) = Err Malformed
 next_line known c (Listed line is) = after_listed_line known c line is
 
+-- the words of a line that begins a theorem or a definition, or goes on with it
 abbrev pub item_after_words : Known → Option PartialItem → List (List ℕ)
     → Result PartialItem FaultKind
 item_after_words known None words = book_line_of words >>= λ l. after_first_line known l
@@ -148,6 +152,7 @@ whole (InTheorem o n) = option_map OfTheorem (theorem_ended o)
 whole (InDefinition h n) = None
 whole (Defined t) = Some (OfNotion t)
 
+-- what is read next, and the lines after it; nothing; or a fault
 abbrev pub Answer : Type 0
 Answer = Result (Option (BookItem × Rest)) BookFault
 
@@ -155,6 +160,7 @@ abbrev pub whole_or : Option BookItem → Rest → Answer → Answer
 whole_or None lines more = more
 whole_or (Some i) lines more = Ok (Some (i, lines))
 
+-- what is read, where no lines are left: what has begun is unended
 abbrev pub at_end : ℕ → Option PartialItem → Answer
 at_end last None = Ok None
 at_end last (Some c) = Err (faults.Unended last)
@@ -171,6 +177,7 @@ item_from known last c (Ok line ∷ lines) =
 
 -- ---- what is answered
 
+-- a theorem or a definition of the code, as the grammar has it
 abbrev pub view_of : Item → BookItem
 view_of (items.Theorem t) = OfTheorem (entry_of t)
 view_of (items.Notion title n) = OfNotion (titled title n)

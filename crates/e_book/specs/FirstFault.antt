@@ -29,7 +29,7 @@ IsFaulty known o (Ok line) fault =
     (is_skipped (tokens_of line.bytes) ≡ false)
     × (put_there line.number (item_after_words known o (tokens_of line.bytes)) ≡ Err fault)
 
--- the lines begin with a front that is taken, and the line after it has this fault
+-- the lines begin with a prefix that is taken, and the line after it has this fault
 pub record BreaksAt (known : Known) (o : Option PartialItem) (lines : Rest)
     (fault : BookFault) : Type 0 where
   pub front : Rest

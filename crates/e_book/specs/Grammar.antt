@@ -61,6 +61,7 @@ none_made t = is_empty t.made && is_empty t.shown
 abbrev pub none_given : Statement → Bool
 none_given t = is_empty t.given && none_made t
 
+-- a line of the statement that comes too late is malformed
 abbrev pub at_its_place : Bool → Result Open FaultKind → Result Open FaultKind
 at_its_place true next = next
 at_its_place false next = Err Malformed
@@ -127,6 +128,7 @@ goes_on known ns h around steps rawlines.Contradiction =
     Ok (after_close h around steps (Contradiction None))
 goes_on known ns h around steps f = Err Malformed
 
+-- a line at its place, without its limits
 abbrev pub next : List TitledStatement → Open → RawLine → Result Open FaultKind
 next known (Stating h) f = states h f
 next known (Proving h around steps) f =
@@ -166,18 +168,22 @@ abbrev pub put_at : {A : Type 0} → ℕ → Result A FaultKind → Result A Boo
 put_at line (Ok x) = Ok x
 put_at line (Err kind) = Err (at_line line kind)
 
+-- the lines of a text that are left, each with its bytes or with a fault of them
 abbrev pub Rest : Type 0
 Rest = List (Result LineView LineFault)
 
+-- the theorem whose last line has come
 abbrev pub theorem_ended : Open → Option TheoremView
 theorem_ended (Ended t) = Some t
 theorem_ended o = None
 
+-- what is read, where this has ended: it, or what the lines after it make
 abbrev pub or_more : Option TheoremView → Rest → Result (Option (TheoremView × Rest)) BookFault
     → Result (Option (TheoremView × Rest)) BookFault
 or_more None lines more = more
 or_more (Some t) lines more = Ok (Some (t, lines))
 
+-- what is read, where no lines are left: a theorem that has begun is unended
 abbrev pub no_more : ℕ → Option Open → Result (Option (TheoremView × Rest)) BookFault
 no_more last None = Ok None
 no_more last (Some o) = Err (faults.Unended last)
@@ -195,10 +201,11 @@ read_from known last o (Ok line ∷ lines) =
 
 -- ---- what is answered
 
+-- the number after the last line
 abbrev pub last_line : Ahead → ℕ
 last_line ahead = ahead.line + length ahead.lines
 
--- what was answered is what the grammar says, unless memory ran out
+-- the fault that was answered is the one that the grammar says, unless memory ran out
 abbrev pub BookFails : {Y : Type 0} → BookFault → Result Y BookFault → Type 0
 BookFails faults.NoMemory read = Unit {0}
 BookFails (faults.Malformed line) read = read ≡ Err (faults.Malformed line)

@@ -1,4 +1,4 @@
--- The limits of what is on a line, and of the objects in scope after it.
+-- The limits of objects in scope.
 use Rattle.std.specs.Prelude.{◌≤◌, length, Result}
 use Rattle.e_literal.specs.declared.object.Sort.TheVariants as sorts
 use Rattle.e_deriv.specs.declared.names.Names.{Names}
@@ -16,7 +16,7 @@ few_objects ns = do
   lines ← within (length ns.lines) (most_of sorts.Line) limits.Lines
   within (length ns.circles) (most_of sorts.Circle) limits.Circles
 
--- what the names and the counts are known to be: within the limits
+-- the objects with these names are within the limits
 pub record FewNamed (ns : Names) : Type 0 where
   pub points : length ns.points ≤ most_of sorts.Point
   pub lines : length ns.lines ≤ most_of sorts.Line

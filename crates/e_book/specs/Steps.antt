@@ -1,4 +1,5 @@
--- A theorem while its lines come, one after another.
+-- What each line makes of the parser of a theorem. What lines mean is in Grammar, and proofs tie
+-- these to it.
 use Rattle.std.specs.Prelude.{ℕ, ◌+◌, ◌≤◌, Bool, true, false, ◌≡◌, Option, List, [], ◌∷◌, ◌++◌}
 use Rattle.std.specs.Prelude.{length, replicate, Some, None, Result, Ok, Err, if◌then◌else◌}
 use Rattle.e_literal.specs.declared.object.Sort.{Sort}
@@ -397,6 +398,7 @@ abbrev pub begun_terms : BlockKind → ℕ
 begun_terms (kind.First lit) = monomials lit.atom
 begun_terms other = 0
 
+-- an interrupted block is within the limits, and so is what its `else` begins with
 pub record FitsOuter (o : OpenBlock) : Type 0 where
   pub in_scope : FewNamed o.in_scope
   pub facts : o.facts + begun_with o.kind ≤ most_facts
@@ -406,6 +408,7 @@ abbrev pub AllFit : List OpenBlock → Type 0
 AllFit [] = Unit {0}
 AllFit (o ∷ os) = FitsOuter o × AllFit os
 
+-- the parser is within the limits between two lines
 pub record FitsScope (d : TheoremParser) : Type 0 where
   pub names : FewNamed d.names
   pub in_scope : FewNamed d.in_scope

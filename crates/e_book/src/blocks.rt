@@ -81,7 +81,7 @@ pub struct OpenBlock {
     pub facts: usize,
     /// How many monomials they have.
     pub terms: usize,
-    /// What began the inner block.
+    /// What began the inner block, not this one.
     pub kind: BlockKind,
 }
 
@@ -160,7 +160,7 @@ fn any_claim(blocks: &[OpenBlock]) -> bool
     blocks.iter().any(|outer| is_claim(&outer.kind))
 }
 
-/// Whether the block has a goal of its own.
+/// Whether the block has a goal of its own, as that of a claim or of a superposition.
 fn is_claim(kind: &BlockKind) -> bool
     ensures { result ≡ Rattle.e_book.specs.Blocks.is_claim kind.now }
 {

@@ -47,8 +47,8 @@ fn read_with(
 ///
 /// It takes the lines up to its `end`. A fault is the first of the book from here on, and after it
 /// the lines are not used again. The lines are those of a text with at most `LONGEST_LINE` bytes a
-/// line and `MOST_BYTES` bytes in all. The known theorems are statements and the known notions mean something
-/// of their declared objects, as each is that is read.
+/// line and `MOST_BYTES` bytes in all. The known theorems are statements and the known notions mean
+/// something of their declared objects, as each is that is read.
 pub fn next_item(alloc: Global, lines: &mut Lines, known: &Known) -> Result<Option<Item>, BookFault>
     requires lines { last_line lines.old < 2 ^ 32 }
     requires theorems { IsTrue (list_all is_small_statement (stated_by known.now.theorems)) }

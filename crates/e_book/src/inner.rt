@@ -17,7 +17,8 @@ use e_text::Name;
 use std::alloc::{AllocError, Global};
 use std::{mem, slice};
 
-/// A block as it was when an inner one interrupted it.
+/// A block as it was when an inner one interrupted it: an [`OpenBlock`] without what began the
+/// inner one.
 #[derive(Drop)]
 pub struct Saved {
     steps: Steps,

@@ -1,4 +1,5 @@
-//! What a book consists of.
+//! What a book consists of: theorems and definitions. (The items of a line are its literals, and
+//! its words `as` with a title and names: `RawItem` of `e_line`.)
 
 use crate::theorem::Theorem;
 use e_text::Title;

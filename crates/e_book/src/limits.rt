@@ -1,4 +1,4 @@
-//! The limits of a book.
+//! The limits of a book, and what is counted for them.
 ghost use Rattle.std.specs.Prelude.{◌≡◌, ◌≤◌, ◌+◌, length, IfOk};
 ghost use Rattle.e_line.specs.Reading.{Gives};
 ghost use Rattle.e_line.specs.declared.fault.What.TheVariants as limits;

@@ -36,9 +36,11 @@ pub enum Section {
     Making,
     Showing,
     Proving,
-    /// After the first block of a split.
+    /// After the first block of a split, a close by `cases`: `else` comes.
     Splitting,
+    /// After the proof: `end` comes.
     Closed,
+    /// After `end`.
     Done,
 }
 
@@ -200,7 +202,7 @@ impl TheoremParser {
         Ok(TheoremParser::with_title(alloc, *title))
     }
 
-    /// What has come where only the title has.
+    /// A theorem or a definition of which only the title has come.
     pub(crate) fn with_title(alloc: Global, title: Title) -> TheoremParser
         ensures value { result ≡ with_title title }
         ensures fits { FitsScope result }
@@ -347,7 +349,7 @@ impl TheoremParser {
         self.add_terms(raw)
     }
 
-    /// A literal that is to be allowed: its names, and then the limits.
+    /// A `hence`, whose literal is to be allowed: its names, and then the limits.
     #[tactic(auto, unfolding(e_deriv::specs::PlainStep::plain_step))]
     fn on_hence(&mut self, alloc: Global, raw: &RawLit) -> Result<(), LineError>
         requires { FitsScope self.old }

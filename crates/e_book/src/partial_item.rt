@@ -31,7 +31,7 @@ pub struct PartialItem {
     /// Whether it is a definition: what it means is what its parser shows.
     pub defines: bool,
     pub parser: TheoremParser,
-    /// How many literals its items mean.
+    /// How many literals the items of its lines mean, those with the title of a definition.
     pub expanded: usize,
 }
 
@@ -66,6 +66,7 @@ fn listing_raw_line(
     }
 }
 
+/// The raw line of a superposition with these literals.
 fn raw_superpose_line(
     alloc: Global,
     args: &[Name],
@@ -87,7 +88,7 @@ struct Written {
 }
 
 impl PartialItem {
-    /// The words of the first line.
+    /// Begins with the words of the first line.
     #[tactic(auto, unfolding(crate::specs::inner::Machine::line_step, crate::specs::inner::Machine::begins))]
     pub(crate) fn begin(
         alloc: Global,
@@ -238,7 +239,8 @@ impl PartialItem {
         Ok(())
     }
 
-    /// The line with its items written out: its place, then its names from left to right.
+    /// The line with its items written out as literals. First it is asked whether the line may come
+    /// here, then its names are looked up from left to right.
     fn write(
         &self,
         alloc: Global,
@@ -302,7 +304,7 @@ fn listing_may_come(section: Section, line: &Listing) -> bool
     }
 }
 
-/// Whether it is a line of shown literals.
+/// Whether it is a line of shown literals, the only one with items that a definition may have.
 fn is_show(line: &Listing) -> bool
     ensures { result ≡ is_show line.now }
 {
@@ -327,6 +329,7 @@ impl TheoremParser {
     }
 }
 
+/// A line that may not come at its place is malformed.
 fn right_place(right: bool) -> Result<(), LineError>
     ensures { Gives (λ u. u) result (right_count right) }
 {

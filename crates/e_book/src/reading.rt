@@ -38,6 +38,7 @@ pub fn is_skipped(words: &[&[u8]]) -> bool
     }
 }
 
+/// Whether its last line has come.
 fn is_done(partial_item: &PartialItem) -> bool
     ensures { result ≡ is_done partial_item.now }
 {
@@ -85,8 +86,8 @@ impl Reading {
         Reading { partial_item: None }
     }
 
-    /// Takes the next line: the theorem or the definition that ends with it, if one does, and then
-    /// what comes begins the next.
+    /// Takes the next line, and gives the theorem or the definition that ends with it, if one does:
+    /// then the line after it begins the next.
     ///
     /// Whether the line is skipped, goes on with it, ends it or has a fault does not depend on the
     /// lines after it.
@@ -166,8 +167,8 @@ impl Reading {
         Ok(None)
     }
 
-    /// No lines come any more, and the next would have this number: a fault inside a theorem or a
-    /// definition.
+    /// No lines come any more, and the next would have this number: that is a fault inside a
+    /// theorem or a definition.
     pub fn end(&self, line: u64) -> Result<(), BookFault>
         requires { line < 2 ^ 32 }
         ensures { result ≡ end_of line self.now.partial_item }

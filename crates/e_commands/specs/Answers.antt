@@ -1,4 +1,5 @@
--- What a run answers to a text, and what it writes.
+-- What `check` answers to a book, and what it writes; the usage line, and the exit status of each
+-- answer.
 use Rattle.std.specs.Prelude.{◌≡◌, ℕ, ◌+◌, List, [], ◌∷◌, ◌++◌, map, Option, Some, None, IsTrue}
 use Rattle.e_literal.specs.declared.object.Term.{Term}
 use Rattle.e_clause.specs.declared.cert.Version.TheVariants.{One}

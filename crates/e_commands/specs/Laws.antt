@@ -21,7 +21,7 @@ RefusalIsOutcome =
     Begins lines theorems known rest → Refuses lines title step wanted values names known rest
     → IsOutcome lines theorems (Unlicensed title step wanted names)
 
--- where a step is too wide that is reached, the lines have a wide one
+-- where `check` may answer that a step is too wide, a step of these lines that is reached is wide
 abbrev pub TooWideIsWide : Type 0
 TooWideIsWide =
     (lines : Rest) (theorems : List TheoremView) (known : Known) (rest : Rest) (title : List ℕ)
@@ -34,7 +34,7 @@ abbrev pub BooksHaveOneOutcome : Type 0
 BooksHaveOneOutcome =
     (text : List ℕ) (a b : BookOutcome) → IsOutcomeOf text a → IsOutcomeOf text b → a ≡ b
 
--- no step is both reached and not there, or comes after a stop or a fault
+-- no step is both reached and not there, or both reached and after a stop or a fault
 abbrev pub WaysAreOne : Type 0
 WaysAreOne =
     (text title : List ℕ) (step : ℕ) (a b : WayOutcome) → IsWayOf (lines_of_book text) title step a

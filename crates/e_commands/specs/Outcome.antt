@@ -42,6 +42,7 @@ Defines last known lines (n ∷ ns) now rest =
     (after : Rest) × (item_from known last None lines ≡ Ok (Some (OfNotion n, after)))
     × Defines last (and_notion known n) after ns now rest
 
+-- and some definitions are so
 pub record AreDefined (last : ℕ) (known : Known) (lines : Rest) (now : Known)
     (rest : Rest) : Type 0 where
   pub notions : List Titled

@@ -108,6 +108,7 @@ abbrev pub BeginsCertified : Version → Rest → List TheoremView
     → List TitledStatement → Rest → Type 0
 BeginsCertified v lines ts known rest = Passes v (2 + length lines) [] lines ts known rest
 
+-- some of the first theorems after a head that is read in this version, or not at all
 abbrev pub AreFirstAfterHead : Option Version → Rest → List TheoremView → Type 0
 AreFirstAfterHead None lines ts = ts ≡ []
 AreFirstAfterHead (Some v) lines ts =
@@ -119,6 +120,7 @@ AreFirstTheorems job [] ts = ts ≡ []
 AreFirstTheorems job (Err f ∷ lines) ts = ts ≡ []
 AreFirstTheorems job (Ok l ∷ lines) ts = AreFirstAfterHead (read_as job (version_of l)) lines ts
 
+-- all theorems after such a head before the place where the lines end so
 abbrev pub EndsAfterHead : Option Version → Rest → List TheoremView → Judgement → Type 0
 EndsAfterHead None lines ts j = (ts ≡ []) × (j ≡ judgements.Garbled 1)
 EndsAfterHead (Some v) lines ts j =

@@ -157,7 +157,7 @@ pub record Suggests (title : List ℕ) (step n : ℕ) (more : Bool) (out : List 
   pub count : n ≡ length applications
   pub bytes : out ≡ text_of (map (line_of names) applications) ++ suggested_line n more
 
--- at the step some choice of arguments for a theorem that is asked is too wide
+-- at the step some choice of arguments is too wide, for a theorem with at most six declared objects
 pub record WidensAtStep (title : List ℕ) (step width : ℕ) (names : Names)
     (known : List TitledStatement) (t : TheoremView) : Type 0 where
   pub placed : PlacedStep
@@ -197,10 +197,9 @@ SuggestAnswer lines title step status.ReadFault out = out ≡ read_fault_line
 SuggestAnswer lines title step status.NoMemory out = out ≡ no_memory_line
 SuggestAnswer lines title step _ out = ⊥
 
--- ---- the other way round
+-- ---- the answer, from how the way to the step ends
 
--- a step that comes before the asked one, or that one, is wide: the former as a step, the latter
--- under some choice for a theorem that is asked
+-- a step that comes before the one that is asked for is wide
 pub record HasWideEarlier (title : List ℕ) (step : ℕ) (known : List TitledStatement)
     (t : TheoremView) : Type 0 where
   pub number : ℕ
@@ -209,6 +208,7 @@ pub record HasWideEarlier (title : List ℕ) (step : ℕ) (known : List TitledSt
   pub context : IsContext (stated_by known) (stated t.statement) t.script number placed
   pub is_wide : IsWideStep (stated_by known) placed
 
+-- or that one is, under some choice of arguments for a theorem that may be suggested
 abbrev pub HasWideOnWay : List ℕ → ℕ → List TitledStatement → TheoremView → Type 0
 HasWideOnWay title step known t =
     HasWideEarlier title step known t

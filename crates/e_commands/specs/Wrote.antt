@@ -20,12 +20,12 @@ pub record WroteFront (Due : Status → List ℕ → Type 0) (old new : Option (
   pub grew : GrewByFront old new out
 
 -- this is the answer, and what is due with it was written; or the answer is a write fault, and a
--- front of what is due with some answer was written
+-- prefix of what is due with some answer was written
 abbrev pub Wrote : (Status → List ℕ → Type 0) → Option (List ℕ) → Option (List ℕ) → Status → Type 0
 Wrote Due old new answer =
     WroteAll Due old new answer ⊎ ((answer ≡ status.WriteFault) × WroteFront Due old new)
 
--- the last lines were written, or a front of them and the sink failed
+-- the last lines were written, or a prefix of them and the sink failed
 abbrev pub ClosesWith : Option (List ℕ) → Option (List ℕ) → List ℕ → Status → Status → Type 0
 ClosesWith old new last answer result =
     ((result ≡ answer) × Grew old new last)

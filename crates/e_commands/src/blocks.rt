@@ -1,4 +1,5 @@
-//! The blocks of a book whose lines are all there: each theorem read, checked and written.
+//! The block of a theorem in an answer, its lines with their certificates; how the blocks of a book
+//! end; and those of a book whose lines are all there.
 ghost use Rattle.std.specs.Prelude.{◌≡◌, ◌≤◌, ◌<◌, ◌^◌, length, IfOk, IfErr, IsErrOf, IsTrue};
 ghost use Rattle.e_io.specs.Bytes.{Rose};
 ghost use Rattle.e_theorem.specs.Statements.{stated};
@@ -29,7 +30,7 @@ use std::mem;
 pub enum BookResult {
     /// All theorems are taken: how many they are, and how many step and close lines they have.
     All { theorems: u32, steps: u32 },
-    /// The next theorem stops.
+    /// The next theorem stops at a step that is not licensed, or is too wide.
     Stopped { title: Title, stop: Stop },
     /// The next line has a fault.
     Faulty(BookFault),
@@ -52,7 +53,7 @@ pub fn block(alloc: Global, known: &Theorems, theorem: &Theorem) -> Result<Vec<u
     Ok(text?)
 }
 
-/// The next theorem stops, or memory ran out.
+/// That the next theorem stops, or that memory ran out.
 pub fn result_of_stop(title: Title, stop: Stop) -> Result<Option<BookResult>, Failure>
     ensures { result ≡ result_of_stop title stop }
 {
@@ -63,7 +64,7 @@ pub fn result_of_stop(title: Title, stop: Stop) -> Result<Option<BookResult>, Fa
     Ok(Some(BookResult::Stopped { title, stop }))
 }
 
-/// The next line has a fault, or memory ran out.
+/// That the next line has a fault, or that memory ran out.
 pub fn result_of_fault(fault: BookFault) -> Result<Option<BookResult>, Failure>
     ensures { result ≡ result_of_fault fault }
 {

@@ -121,8 +121,8 @@ impl Book {
         }
     }
 
-    /// Takes the lines that remain, and handles the theorems and definitions that end in them.
-    /// Nothing where all are taken, and the book may go on; else how it ends.
+    /// Takes the lines that remain, and handles the theorems and definitions that end in them. It
+    /// gives nothing where all are taken, and the book may go on; else how it ends.
     pub fn take<K: Sink>(
         &mut self,
         alloc: Global,
@@ -153,7 +153,7 @@ impl Book {
         }
     }
 
-    /// How the book ends where no lines come any more, and the next would have this number.
+    /// How the book ends where no lines come any more; the next would have this number.
     pub fn end(&self, line: u64) -> BookResult
         requires { line < 2 ^ 32 }
         ensures { result

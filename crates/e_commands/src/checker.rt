@@ -32,7 +32,7 @@ pub fn last_lines(alloc: Global, book_result: &BookResult) -> Result<Vec<u8>, Al
     }
 }
 
-/// The answer of a stop.
+/// The answer to a theorem that stops so.
 pub fn stop_answer(title: Title, stop: Stop) -> Status
     ensures { result ≡ Rattle.e_commands.specs.inner.BookResults.stop_answer title stop }
 {

@@ -8,16 +8,17 @@ use crate::output::Failure;
 use e_io::Source;
 use std::alloc::Global;
 
-/// The most bytes that a book may have.
+/// The most bytes that a book may have, or a figure text: `MOST_BYTES` of `e_book` is the same.
 pub const MOST_BYTES: usize = 4_194_304;
 
-/// The most bytes that a line of a book may have.
+/// The most bytes that a line of a book may have: `LONGEST_LINE` of `e_book` is the same.
 pub const LONGEST_LINE: usize = 1600;
 
 /// The most bytes that a derivation text may have.
 pub const MOST_TEXT: usize = 1 << 60;
 
-/// The bytes of a source up to its end, or where it has more than the most, that many and one.
+/// The bytes of a source up to its end; where it has more than `most`, the first `most + 1`, from
+/// which it is seen that they are too many.
 pub fn read_text<S: Source>(alloc: Global, source: &mut S, most: usize) -> Result<Vec<u8>, Failure>
     requires { most ≤ 2 ^ 60 }
     ensures text { IfOk result (λ v. IsTextOf (most + 1) (S.left source.old) v.items) }

@@ -12,12 +12,13 @@ pub fn refusal_is_outcome()
     ensures { RefusalIsOutcome }
 {}
 
-/// Where a step is too wide that is reached, a reached step is wide.
+/// Where `check` may answer that a step is too wide, a step of the book that is reached is wide.
 pub fn too_wide_is_wide()
     ensures { TooWideIsWide }
 {}
 
-/// The way to a step of a theorem of a book has one outcome.
+/// The way to a step of a theorem of a book has one outcome: that the step is reached, that there
+/// is none, or the stop or the fault before it.
 pub fn ways_are_one()
     ensures { WaysAreOne }
 {}

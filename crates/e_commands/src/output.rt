@@ -20,14 +20,14 @@ use itoa::Buffer;
 use std::alloc::{AllocError, Global};
 use std::mem;
 
-/// An answer with what is written last.
+/// An answer with the bytes that are written last: with `suggest` all its lines.
 #[derive(Drop)]
 pub struct Answer {
     pub status: Status,
     pub line: Vec<u8>,
 }
 
-/// Why there is no answer.
+/// Why a run has no answer on its text.
 #[derive(Clone, Copy)]
 pub enum Failure {
     NoMemory,
@@ -46,7 +46,7 @@ impl From<AllocError> for Failure {
     }
 }
 
-/// Writes the last lines of an answer, and gives the answer.
+/// Writes the last lines of an answer, and gives the answer, or a write fault where the sink fails.
 pub fn close<K: Sink>(sink: &mut K, last: &[u8], answer: Status) -> Status
     requires { IsWriteFault answer → ⊥ }
     ensures closes { ClosesWith (K.written sink.old) (K.written sink.new) last.now answer result }
@@ -112,7 +112,7 @@ fn lacks_memory(fault: BookFault) -> bool
     matches!(fault, BookFault::NoMemory)
 }
 
-/// The answer to a text with this fault.
+/// The answer to a text with this fault; to out of memory there is none.
 pub fn answer_of_fault(alloc: Global, at: BookFault) -> Result<Answer, AllocError>
     ensures { IfOk result
         (λ a. (lacks_memory at ≡ false) × (a.status ≡ Fault at) × (a.line.items ≡ fault_line at)) }
@@ -174,14 +174,14 @@ pub fn verified_line(alloc: Global, theorems: u32) -> Result<Vec<u8>, AllocError
     line_with(alloc, b"verified ", u64::from(theorems), b"\n")
 }
 
-/// The line after the lines of the theorems that a derivation text applies.
+/// The line after those that `uses` writes, one for each theorem of a derivation text.
 pub fn listed_line(alloc: Global, theorems: u32) -> Result<Vec<u8>, AllocError>
     ensures { IfOk result (λ v. v.items ≡ listed_line theorems) }
 {
     line_with(alloc, b"listed ", u64::from(theorems), b"\n")
 }
 
-/// The line of a step that is not certified.
+/// The line that says which step is not certified.
 pub fn bad_line(alloc: Global, title: Title, step: u32) -> Result<Vec<u8>, AllocError>
     ensures { IfOk result (λ v. v.items ≡ bad_line title step) }
 {
@@ -192,7 +192,7 @@ pub fn bad_line(alloc: Global, title: Title, step: u32) -> Result<Vec<u8>, Alloc
     Ok(line)
 }
 
-/// The line of a line that is malformed at its place.
+/// The line that says which line is malformed at its place.
 pub fn garbled_line(alloc: Global, number: u64) -> Result<Vec<u8>, AllocError>
     ensures { IfOk result (λ v. v.items ≡ garbled_line number) }
 {
@@ -234,7 +234,8 @@ fn word_of(what: What) -> &'static [u8]
     }
 }
 
-/// The number of the faulty line.
+/// The number of the faulty line. Out of memory has none, and its line of a fault is never written:
+/// the answer is then `no memory`.
 fn faulty_line_of(fault: &BookFault) -> u32
     ensures { result ≡ faulty_line fault.now }
 {

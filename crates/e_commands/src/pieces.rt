@@ -73,7 +73,7 @@ impl Untaken {
     }
 }
 
-/// Takes the untaken bytes, whose last line has its end too.
+/// Takes the untaken bytes, all of whose lines have ended.
 fn take_closed<K: Sink>(
     alloc: Global,
     book: &mut Book,
@@ -168,7 +168,8 @@ fn take_last<K: Sink>(
     book.take_all(alloc, &mut lines, sink)
 }
 
-/// Takes a book from a source, up to the source's end or one byte more than a book may have.
+/// Takes a book from a source, up to the source's end, or to one byte more than a book may have:
+/// with that byte it is too long, and no more are asked for.
 fn take_source<S: Source, K: Sink>(
     alloc: Global,
     book: &mut Book,

@@ -1,5 +1,5 @@
-//! A derivation text is read and verified, and something of each theorem is written as soon as it
-//! is verified.
+//! `upgrade`, `trim` and `uses`: a derivation text is read and verified, and what the command
+//! writes of a theorem is written as soon as that one is verified.
 ghost use Rattle.std.specs.Prelude.{◌≡◌, ◌≤◌, ◌^◌, [], length, IfOk, IfErr, OnOk, IsErrOf};
 ghost use Rattle.e_io.specs.Bytes.{Rose};
 ghost use Rattle.e_book.specs.TheoremViews.{entry_of};
@@ -23,7 +23,7 @@ use e_text::Lines;
 use std::alloc::{AllocError, Global};
 use std::mem;
 
-/// Writes what is written of a theorem, and keeps its title and its statement.
+/// Writes what the command writes of a verified theorem, and keeps its title and its statement.
 fn pass<K: Sink>(
     alloc: Global,
     job: Job,
@@ -54,7 +54,7 @@ fn pass<K: Sink>(
     Ok(())
 }
 
-/// Takes the theorems of a text of this version one after another, and writes something of each
+/// Takes the theorems of a text of this version one after another, and writes what is due of each
 /// that is verified.
 fn rewrite_theorems<K: Sink>(
     alloc: Global,
@@ -82,7 +82,8 @@ fn rewrite_theorems<K: Sink>(
     }
 }
 
-/// Takes a text, and writes something of each theorem before its end.
+/// Takes a text, and writes what is due of each theorem before the place where the text ends or is
+/// not verified.
 fn rewrite_blocks<K: Sink>(
     alloc: Global,
     job: Job,
@@ -117,8 +118,8 @@ fn answer_to(alloc: Global, job: Job, judgement: Judgement) -> Result<Answer, Al
     })
 }
 
-/// Reads a derivation text from a source, and writes to a sink the head, something of each theorem
-/// as soon as it is verified, and the last line.
+/// Reads a derivation text from a source, and writes to a sink the head, what the command writes of
+/// each theorem as soon as it is verified, and the last line.
 pub fn rewrite<S: Source, K: Sink>(alloc: Global, job: Job, source: &mut S, sink: &mut K) -> Status
     ensures rewrites { WroteOfText (RewriteAnswer job) (S.left source.old) (K.written sink.old)
         (K.written sink.new) result }

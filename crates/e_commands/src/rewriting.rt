@@ -1,4 +1,4 @@
-//! What is written of each theorem of a derivation text that is verified, and of its end.
+//! What `upgrade`, `trim` and `uses` write of each verified theorem of a derivation text, and last.
 ghost use Rattle.std.specs.Prelude.{◌≡◌, ◌++◌, IfOk, OnOk, flat_map, IsTrue};
 ghost use Rattle.e_clause.specs.declared.cert.Version.TheVariants.{Two};
 ghost use Rattle.e_theorem.specs.Statements.{stated};
@@ -25,14 +25,14 @@ use e_trim::{applied_theorems, trim};
 use std::alloc::{AllocError, Global};
 use std::mem;
 
-/// What is written of a derivation text that is verified, theorem by theorem.
+/// Which command it is, of the three that write something of each verified theorem.
 #[derive(Clone, Copy)]
 pub enum Job {
-    /// The block of the theorem with its derivation in the second version.
+    /// `upgrade`: the block of the theorem with its derivation in the second version.
     Upgrade,
-    /// The block of the theorem with its derivation without the steps that nothing needs.
+    /// `trim`: the block of the theorem with its derivation without the steps that nothing needs.
     Trim,
-    /// The line of the theorem, with the titles of those that it applies.
+    /// `uses`: the line of the theorem, with the titles of those that it applies.
     Uses,
 }
 
@@ -102,7 +102,7 @@ fn trimmed_block(alloc: Global, known: &Theorems, theorem: &Theorem) -> Result<V
     block
 }
 
-/// The title at a place, after a space; past the end no word.
+/// A space, and after it the title at a place; past the end the space alone.
 #[tactic(auto, using(crate::proofs::title_counts::UsedTitles::titles_at))]
 fn put_title_at(out: &mut Vec<u8>, known: &Theorems, place: usize) -> Result<(), AllocError>
     ensures { OnOk result (out.new.items ≡ out.old.items ++ Rewrites.title_word known.now place) }

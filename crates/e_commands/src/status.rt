@@ -33,16 +33,16 @@ pub enum Status {
     Upgraded {
         theorems: u32,
     },
-    /// The figure text is answered, with this many shown literals.
+    /// What the figure says of each shown literal is written, and so many they are.
     Drawn {
         shown: u64,
     },
-    /// This many lines are suggested, and whether some are left out.
+    /// This many lines are suggested, and `more` says whether some are left out.
     Suggested {
         lines: u32,
         more: bool,
     },
-    /// The theorem has fewer steps, or no theorem of the book has this title.
+    /// `suggest`: the theorem has fewer steps, or no theorem of the book has this title.
     NoStep,
     /// The derivation text is verified, and written again without the steps that nothing needs.
     Trimmed {
@@ -93,7 +93,7 @@ pub enum Status {
     NoMemory,
 }
 
-/// The status with which the program exits.
+/// The status with which the program exits. 7 is `main`'s own: the system did not give the words.
 pub fn exit_code(status: &Status) -> u8
     ensures { result ≡ exit_of status.now }
 {

@@ -1,4 +1,4 @@
-//! A sink in memory that grows.
+//! A sink in memory that grows, for `trial`.
 ghost use Rattle.std.specs.Prelude.{◌≡◌, ◌≤◌, ◌^◌, [], length};
 
 use crate::input::MOST_TEXT;
@@ -6,8 +6,8 @@ use e_io::{Failed, Sink};
 use std::alloc::Global;
 use std::marker::Model;
 
-/// Bytes in memory, as many as a derivation text may have. A write fails where it finds no memory,
-/// and then takes nothing.
+/// Bytes in memory, at most as many as a derivation text may have. A write that would make them
+/// more, or finds no memory, fails and takes nothing.
 #[derive(Drop)]
 pub struct Store {
     bytes: Vec<u8>,

@@ -149,8 +149,8 @@ fn has_title(theorem: &Theorem, title: Title) -> bool
     theorem.title.bytes() == title.bytes()
 }
 
-/// A theorem with another title is licensed, and then it is known. The answer on the one with the
-/// title, and on a stop.
+/// Licenses a theorem with another title, which then is known, and gives no answer. It gives one
+/// where the theorem has the title, or stops.
 fn pass_theorem(
     alloc: Global,
     known: &mut Known,
@@ -269,8 +269,8 @@ fn answer_to_source<S: Source>(
     or_no_memory(answer_for(alloc, &text, title, step))
 }
 
-/// Reads a book from a source, and writes to a sink what may be applied before a step of the
-/// theorem with a title. Nothing is written before all of it was read and all was found.
+/// Reads a book from a source, and writes to a sink what may be applied before this step of the
+/// theorem with this title. Nothing is written before all of it was read and all was found.
 pub fn suggest<S: Source, K: Sink>(
     alloc: Global,
     title: Title,

@@ -27,15 +27,15 @@ use std::mem;
 /// The most lines that are suggested.
 const MOST_LINES: usize = 1000;
 
-/// The most declared objects of a theorem that is asked.
+/// The most declared objects of a theorem whose choices are looked for.
 const MOST_DECLARED: usize = 6;
 
-/// What was written of the theorems.
+/// How many lines were written, for one theorem or for all.
 #[derive(Clone, Copy)]
 pub enum Listed {
     /// This many lines, and whether others are left out.
     Found { lines: usize, more: bool },
-    /// A choice is too wide, and this is the width.
+    /// It is too wide to say whether some choice is good, and this is the width.
     TooWide(u128),
 }
 
@@ -89,8 +89,8 @@ fn put_applications(
     Ok(())
 }
 
-/// The lines of one theorem, at most this many. One of more than six declared objects is passed
-/// over.
+/// The lines of one theorem, at most as many as are left. One of more than six declared objects is
+/// passed over.
 fn list_theorem(
     alloc: Global,
     title: Title,

@@ -24,7 +24,8 @@ use e_text::Lines;
 use std::alloc::{AllocError, Global};
 use std::mem;
 
-/// The answer to an accepted book, once what is written then is verified, which it is.
+/// The answer to an accepted book, of which `check` writes this text. It is judged once more here:
+/// by what is proved of `check` it comes out verified.
 fn answer_of_accepted(
     alloc: Global,
     text: &[u8],
@@ -80,7 +81,8 @@ fn answer_to(alloc: Global, lines: &mut Lines) -> Result<Answer, AllocError>
     answer_of_accepted(alloc, &store.into_bytes(), theorems, steps)
 }
 
-/// The answer to the generated book of this many theorems, with its line.
+/// The answer to the generated book of this many theorems, with its line. The book is read as one
+/// is from a source, at most one byte past the limit.
 fn answer_for(alloc: Global, theorems: u32) -> Result<Answer, AllocError>
     requires { theorems ≤ most_theorems }
     ensures { IfOk result

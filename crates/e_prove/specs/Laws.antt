@@ -1,4 +1,4 @@
--- What an answer says of a script.
+-- What a stop of `prove`, or that it comes, says of a script.
 use Rattle.std.specs.Prelude.{◌≡◌, ℕ, List, [], ◌∷◌, take}
 use Rattle.e_literal.specs.Use.{StatementView}
 use Rattle.e_deriv.specs.declared.stop.Wanted.{Wanted}
@@ -28,7 +28,7 @@ LicensedIsNotRefused =
     → AllLicensed before (proof_steps before t script filled) →
     StopIs before t script stop → IsNoRefusal stop
 
--- and where no step is wide only a lack of memory stops
+-- and where no step is wide, each stop is out of memory
 abbrev pub LicensedStopsForMemory : Type 0
 LicensedStopsForMemory =
     (before : List StatementView) (t : StatementView) (script filled : Script) (stop : Stop)
@@ -36,7 +36,7 @@ LicensedStopsForMemory =
     NoneWide before (proof_steps before t script filled)
     → StopIs before t script stop → stop ≡ NoMemory
 
--- nor where a derivation that is certified is licensed as a script, and no step is wide
+-- and so it is where the script is a derivation that is certified, and no step is wide
 abbrev pub DerivedStopsForMemory : Type 0
 DerivedStopsForMemory =
     (before : List StatementView) (t : StatementView) (d : Script) (stop : Stop)
@@ -49,8 +49,8 @@ IsRefusalAt n wanted (Unlicensed step lacked values names) = (step ≡ n) × (la
 IsRefusalAt n wanted (TooWide step lacked width names) = ⊥
 IsRefusalAt n wanted NoMemory = Unit {0}
 
--- where step n is the first that is not licensed, and no step up to it is wide, a stop is there,
--- and says what is lacked
+-- where step n is the first that is not licensed, and no step up to it is wide, each stop is there,
+-- and says what is lacked, or is out of memory
 abbrev pub RefusedStopsThere : Type 0
 RefusedStopsThere =
     (before : List StatementView) (t : StatementView) (script : Script) (n : ℕ) (wanted : Wanted)

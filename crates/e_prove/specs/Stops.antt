@@ -1,4 +1,4 @@
--- When a stop is right.
+-- Which stops `prove` may give, and with which names.
 use Rattle.std.specs.Prelude.{◌≡◌, ℕ, ◌-◌, ◌<◌, List, Some, slice_get}
 use Rattle.e_literal.specs.Use.{StatementView}
 use Rattle.e_deriv.specs.declared.names.Names.{Names}
@@ -9,7 +9,7 @@ use Rattle.e_deriv.specs.Naming.{names_of_steps, declared_names}
 use Rattle.e_deriv.specs.Refused.{IsRefused, IsTooWideAt}
 
 -- the step is the first that is not licensed, it lacks this, and the values show it; or each step
--- before is licensed, and the step is too wide at what is wanted there; out of memory is free
+-- before is licensed, and the step is too wide at what is wanted there; or memory ran out
 abbrev pub StopIs : List StatementView → StatementView → Script → Stop → Type 0
 StopIs before t script (Unlicensed step wanted values names) =
     IsRefused before t script step wanted values
@@ -26,7 +26,7 @@ HasNames before t names script (TooWide step wanted width seen) =
     Some seen ≡ slice_get (names_of_steps before (declared_names t names) script) (step - 1)
 HasNames before t names script NoMemory = Unit {0}
 
--- the stop is at a step before the one with this number; out of memory is free
+-- the stop is at a step before the one with this number, or memory ran out
 abbrev pub IsStopBefore : ℕ → Stop → Type 0
 IsStopBefore n (Unlicensed step wanted values names) = step < n
 IsStopBefore n (TooWide step wanted width names) = step < n

@@ -110,7 +110,8 @@ fn take_use(
     Ok(args)
 }
 
-/// The application of a statement, where each of its given literals is allowed.
+/// The application of a statement at a pattern, arguments some of which may be blanks, where each
+/// of its given literals is allowed.
 fn use_with(
     alloc: Global,
     statement: &Statement,
@@ -128,8 +129,8 @@ fn use_with(
     }
 }
 
-/// The application with its blanks filled by the least good choice. The facts are solved before, so
-/// that they are not solved for each choice anew.
+/// The application with its blanks filled by the least good choice. The linear systems of the facts
+/// are solved before, so that they are not solved for each choice anew.
 fn fill_blanks(
     alloc: Global,
     statement: &Statement,
@@ -158,8 +159,8 @@ fn fill_blanks(
     }
 }
 
-/// The stop of an application at a good choice for its blanks: what is too wide there is a match
-/// that is too wide.
+/// The stop of an application at the choice for its blanks: where that is too wide, it is the match
+/// that is answered to be too wide, not the literal.
 fn as_match(step_stop: StepStop) -> StepStop
     ensures { result ≡ StopsOfSteps.match_stop step_stop }
 {

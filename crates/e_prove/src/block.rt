@@ -203,7 +203,7 @@ fn prove_superposed(
     }
 }
 
-/// Licenses a close in its place, with the blocks that a split has inside.
+/// Licenses a close in its place, with the blocks that a split, a close by `cases`, has inside.
 #[cycle(block)]
 fn prove_close(
     alloc: Global,

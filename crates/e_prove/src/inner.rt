@@ -1,4 +1,4 @@
-//! What is left of an inner block.
+//! The step that an inner block belongs to, once the block is proved.
 ghost use Rattle.std.specs.Prelude.{◌≡◌, ◌<◌, List, length, IfOk, IfErr, OnOk};
 ghost use Rattle.e_deriv.specs.Script.{Script, Claim, Superposed};
 ghost use Rattle.e_deriv.specs.Script.{script_of, step_script};

@@ -48,7 +48,7 @@ pub fn licence(alloc: Global, context: &mut Context, lit: &Lit) -> Result<Cert, 
     }
 }
 
-/// A certificate of each literal, where each is allowed. They are licensed in order, and the first
+/// A certificate of each literal, where each is allowed. They are asked for in order, and the first
 /// that is not allowed, or too wide to be decided, stops it.
 pub fn licences(alloc: Global, context: &mut Context, lits: &[Lit]) -> Result<Vec<Cert>, StepStop>
     requires { IsTrue (are_well_formed_in context.old.scope lits.now) }

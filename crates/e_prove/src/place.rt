@@ -1,4 +1,4 @@
-//! What holds at a step of a theorem's script.
+//! What holds before a step of a theorem's script.
 ghost use Rattle.std.specs.Prelude.{◌≤◌, IfOk, IfErr};
 ghost use Rattle.e_theorem.specs.Statements.{stated, all_stated};
 ghost use Rattle.e_deriv.specs.Script.{script_of, size};
@@ -16,7 +16,8 @@ use e_theorem::Statement;
 use std::alloc::Global;
 use std::mem;
 
-/// The objects in scope before a step and the facts, and the names of the objects.
+/// What holds before a step, for crates above: the objects in scope and the facts, and the names of
+/// the objects.
 #[derive(Drop)]
 pub struct Place {
     pub context: Context,
@@ -27,8 +28,8 @@ pub struct Place {
 /// before it is licensed, with blanks filled by the least good choice. The steps are counted from 1
 /// in text order, and the step is one of the script's.
 ///
-/// A stop is one of [`crate::prove`], at a step before this one. The forms of the script's steps
-/// fit in their places, and so do the literals, as those of a theorem that is read do.
+/// A stop is one of [`crate::prove`], at a step before this one. As there, each step of the script
+/// has to fit in its place, and so have the literals.
 pub fn context_at(
     alloc: Global,
     before: &[Statement],

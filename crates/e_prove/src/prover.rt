@@ -1,4 +1,4 @@
-//! The derivation of a theorem.
+//! The derivation of a theorem from its script.
 ghost use Rattle.std.specs.Prelude.{◌≡◌, IfOk, IfErr, IsTrue};
 ghost use Rattle.e_theorem.specs.Statements.{stated, all_stated};
 ghost use Rattle.e_deriv.specs.Script.{script_of, erased};
@@ -30,9 +30,9 @@ use std::mem;
 ///
 /// `Unlicensed` comes only at the first step that is not licensed, with what it lacks, the values
 /// that show it where that is a metric literal or a contradiction, and the names in scope before
-/// it. `TooWide` comes only where each step before is licensed and the step is wide. The forms of
-/// the script's steps fit in their places, and so do the literals, as those of a theorem that is
-/// read do (System E 2009, section 3.4).
+/// it. `TooWide` comes only where each step before is licensed and the step is wide. It asks that
+/// each step of the script fits in its place, and so do the literals: those of a theorem that is
+/// read do.
 pub fn prove(alloc: Global, before: &[Statement], theorem: &Theorem) -> Result<Block, Stop>
     requires { IsFitting (all_stated before.now) (stated theorem.now.statement)
         (script_of theorem.now.block) }

@@ -23,7 +23,7 @@ use e_theorem::Statement;
 use std::alloc::Global;
 use std::mem;
 
-/// How many steps a step is, with those of the block inside it, closes too.
+/// How many steps it is: itself, and those of the block inside it, closes too.
 fn lines_of(step: &Step) -> u32
     requires { (rest : Script)
         → script_size (step_script step.now rest) < 2 ^ 32 + script_size rest }
@@ -37,9 +37,9 @@ fn lines_of(step: &Step) -> u32
     }
 }
 
-/// Licenses the steps of a block that come before the step with this number, where its first step
-/// has that one. What holds is then what holds before the step: the blocks around it are entered,
-/// and not left.
+/// Licenses the steps of a block before step `target`, where the block's first step has number
+/// `first`. The state is then what holds before `target`: the blocks around it are entered, and not
+/// left.
 #[cycle(reach)]
 pub fn reach(
     alloc: Global,
@@ -83,7 +83,7 @@ pub fn reach(
     enter_close(alloc, before, &block.close, goal, state, number, target)
 }
 
-/// Enters the block inside a step, where the step with this number is in it.
+/// Enters the block inside this step, which has the number, up to step `target` in it.
 #[cycle(reach)]
 fn enter_step(
     alloc: Global,
@@ -134,8 +134,8 @@ fn enter_step(
     }
 }
 
-/// Enters a block of a split, where the step with this number is in it: the second one after the
-/// first is licensed.
+/// Enters the block of a split, a close by `cases`, that step `target` is in: the second one after
+/// the first is licensed.
 #[cycle(reach)]
 fn enter_close(
     alloc: Global,

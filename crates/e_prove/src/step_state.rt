@@ -23,7 +23,8 @@ use e_theorem::Statement;
 use std::alloc::{AllocError, Global};
 use std::mem;
 
-/// The objects in scope and the facts, and the names of the objects.
+/// The objects in scope and the facts, and the names of the objects. What changes it fails only out
+/// of memory, and no clause says what holds then.
 #[derive(Drop)]
 pub struct StepState {
     pub context: Context,
@@ -63,8 +64,8 @@ impl StepState {
     }
 
     /// A block inside begins: the present state is held, and the names are handed out, which
-    /// [`StepState::release`] takes back. The facts are solved before, since each block inside
-    /// would have to solve them else. It fails only out of memory; no clause says what holds then.
+    /// [`StepState::release`] takes back. The linear systems of the facts are solved before, since
+    /// each block inside would have to solve them anew.
     pub fn hold(&mut self, alloc: Global) -> Result<Names, AllocError>
         ensures names { IfOk result (λ names. names ≡ self.old.names) }
         ensures held { OnOk result (self.new ≡ held_at self.old) }
@@ -84,8 +85,7 @@ impl StepState {
         self.names = names;
     }
 
-    /// The block inside ends, and what it shows are facts. It fails only out of memory; no clause
-    /// says what holds then.
+    /// The block inside ends, and what it shows are facts.
     pub fn release_with(
         &mut self,
         alloc: Global,
@@ -100,7 +100,7 @@ impl StepState {
         join_copies(alloc, &mut self.context, shown)
     }
 
-    /// The literal is a fact. It fails only out of memory; no clause says what holds then.
+    /// The literal is a fact.
     pub fn assume(&mut self, alloc: Global, lit: &Lit) -> Result<(), AllocError>
         requires { IsTrue
             (are_limited_facts self.old.context.scope (joined self.old.context.facts lit.now)) }
@@ -110,8 +110,7 @@ impl StepState {
         Ok(())
     }
 
-    /// The negation of the literal is a fact. It fails only out of memory; no clause says what
-    /// holds then.
+    /// The negation of the literal is a fact.
     pub fn assume_not(&mut self, alloc: Global, lit: &Lit) -> Result<(), AllocError>
         requires { IsTrue (are_limited_facts self.old.context.scope
             (joined self.old.context.facts (negation lit.now))) }
@@ -121,8 +120,7 @@ impl StepState {
         Ok(())
     }
 
-    /// New objects of these sorts come into scope, with these names. It fails only out of memory;
-    /// no clause says what holds then.
+    /// New objects of these sorts come into scope, with these names.
     pub fn grow(&mut self, sorts: &[Sort], names: &[Name]) -> Result<(), AllocError>
         requires points { self.old.context.scope.points + length sorts.now < 2 ^ 16 }
         requires lines { self.old.context.scope.lines + length sorts.now < 2 ^ 16 }
@@ -136,8 +134,7 @@ impl StepState {
         put_names(&mut self.names, sorts, names)
     }
 
-    /// The literals join the facts, one after the other. It fails only out of memory; no clause
-    /// says what holds then.
+    /// The literals join the facts, one after the other.
     pub fn join(&mut self, lits: Vec<Lit>) -> Result<(), AllocError>
         requires { IsTrue (are_limited_facts self.old.context.scope
             (joined_all self.old.context.facts lits.items)) }
@@ -150,7 +147,6 @@ impl StepState {
     }
 
     /// What a construction makes comes into scope, with these names, and what it gives are facts.
-    /// It fails only out of memory; no clause says what holds then.
     pub fn make(
         &mut self,
         alloc: Global,
@@ -169,7 +165,7 @@ impl StepState {
     }
 
     /// The copied points of a superposition come into scope, with these names, and what it gives
-    /// are facts. It fails only out of memory; no clause says what holds then.
+    /// are facts.
     pub fn superpose(
         &mut self,
         alloc: Global,
@@ -187,8 +183,7 @@ impl StepState {
         self.join(given)
     }
 
-    /// Equal literals join the facts, one after the other. It fails only out of memory; no clause
-    /// says what holds then.
+    /// Equal literals join the facts, one after the other.
     pub fn join_equal(&mut self, alloc: Global, lits: &[Lit]) -> Result<(), AllocError>
         requires { IsTrue (are_limited_facts self.old.context.scope
             (joined_all self.old.context.facts lits.now)) }

@@ -74,8 +74,8 @@ pub fn stop_at(alloc: Global, step_stop: StepStop, state: &StepState, number: u3
     }
 }
 
-/// The answer on a step or a close that has no block inside and this number, which is counted, or
-/// the stop there.
+/// Counts a licensed step or close that has no block inside and this number; or gives the stop
+/// there.
 pub fn with_number<T>(
     alloc: Global,
     answered: Result<T, StepStop>,

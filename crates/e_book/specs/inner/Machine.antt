@@ -1,4 +1,5 @@
--- A theorem or a definition as the parser holds it while its lines come.
+-- A theorem or a definition as the parser holds it while its lines come. Proofs tie this to the
+-- grammar in Definitions.
 use Rattle.std.specs.Prelude.{◌≡◌, ℕ, ◌+◌, ◌≤◌, Bool, true, false, not, ◌||◌, List, [], ◌∷◌, ◌++◌}
 use Rattle.std.specs.Prelude.{length, map, Option, Some, None, Result, Ok, Err, if◌then◌else◌}
 use Rattle.e_text.specs.Tokens.{tokens_of}
@@ -71,6 +72,7 @@ line_written_out notions d line is =
 
 -- ---- the first line
 
+-- only the title has come
 abbrev pub partial_item : Bool → TheoremParser → PartialItem
 partial_item defines d = record { defines = defines; parser = d; expanded = 0 }
 
@@ -128,6 +130,7 @@ step known c (Plain f) = goes_on known c f
 step known c (Define t) = Err Malformed
 step known c (Listed line is) = lists known c line is
 
+-- it is within the limits between two lines
 pub record FitsPartial (known : Known) (c : PartialItem) : Type 0 where
   pub parser : FitsScope c.parser
   pub expanded : c.expanded ≤ most_expanded

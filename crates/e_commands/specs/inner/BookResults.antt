@@ -46,7 +46,7 @@ pub record BreaksOff (lines : Rest) (old new : Option (List ℕ)) : Type 0 where
   pub front : IsFront lines (theorems_of derived)
   pub grew : Grew old new (blocks_of [] derived)
 
--- a front of them was written
+-- a prefix of the blocks of some of the first theorems was written
 pub record BreaksInside (lines : Rest) (old new : Option (List ℕ)) : Type 0 where
   pub derived : List Derived
   pub sound : AllDerived [] derived
@@ -63,6 +63,7 @@ StopsWith lines old new title (stops.TooWide step wanted width names) =
     BlocksUpTo lines old new (Widens lines title step wanted width names)
 StopsWith lines old new title stops.NoMemory = ⊥
 
+-- the blocks end so: those of the theorems before the end were written
 abbrev pub BookResultIs : Rest → Option (List ℕ) → Option (List ℕ) → BookResult → Type 0
 BookResultIs lines old new (All n s) =
     (e : BlocksUpTo lines old new (OutcomeAfter lines (outcome.Accepted n)))
@@ -71,7 +72,7 @@ BookResultIs lines old new (Stopped title stop) = StopsWith lines old new title 
 BookResultIs lines old new (Faulty f) =
     BlocksUpTo lines old new (OutcomeAfter lines (outcome.Faulty f))
 
--- the blocks end so, or memory or the sink gave out; no source was read
+-- the blocks end so, or memory ran out or the sink failed; no source was read
 abbrev pub BlocksAre : Rest → Option (List ℕ) → Option (List ℕ)
     → Result BookResult Failure → Type 0
 BlocksAre lines old new (Ok book_result) = BookResultIs lines old new book_result
@@ -79,7 +80,7 @@ BlocksAre lines old new (Err NoMemory) = BreaksOff lines old new
 BlocksAre lines old new (Err ReadFault) = ⊥
 BlocksAre lines old new (Err WriteFault) = BreaksInside lines old new
 
--- the same where a source was read, which may give out too
+-- the same where a source was read, which may fail too
 abbrev pub SourceResultIs : Rest → Option (List ℕ) → Option (List ℕ)
     → Result BookResult Failure → Type 0
 SourceResultIs lines old new (Ok book_result) = BookResultIs lines old new book_result

@@ -64,7 +64,7 @@ pub record Passed (job : Job) (known : List TitledStatement) (t : TheoremView)
   pub second : IsOfSecond job known t
   pub grew : Grew old new (block_of job known t)
 
--- where memory gave out nothing was written, or all of it, and where the sink gave out a front
+-- where memory ran out nothing was written, or all of it, and where the sink failed a prefix
 abbrev pub Broke : Job → List TitledStatement → TheoremView → Option (List ℕ)
     → Option (List ℕ) → Failure → Type 0
 Broke job known t old new NoMemory = Grew old new [] ⊎ Grew old new (block_of job known t)

@@ -39,7 +39,8 @@ use Rattle.e_commands.specs.inner.BookResults.{stop_answer}
 abbrev pub apply_lines : List ℕ → Names → List (List Obj) → List (List ℕ)
 apply_lines title names choices = map (apply_line title names) choices
 
--- the theorem is not asked; or these are the first of its choices, and whether there are more
+-- the theorem has more than six declared objects; or these are the first of its choices, and
+-- whether there are more
 abbrev pub AreChosen : StatementView → Scope → List Lit → ℕ → List (List Obj) → Bool → Type 0
 AreChosen t scope facts left choices more =
     ((6 < length t.declared) × (choices ≡ []) × (more ≡ false))
@@ -56,7 +57,7 @@ IsListedOne names scope facts title t left old new (listed.TooWide w) =
 
 -- ---- all theorems
 
--- a theorem is asked, and a choice for it is too wide
+-- a theorem is not passed over, and a choice for it is too wide
 pub record SomeIsTooWide (scope : Scope) (facts : List Lit) (known : List TitledStatement)
     (w : ℕ) : Type 0 where
   pub theorem : TitledStatement
@@ -77,7 +78,7 @@ IsListed names scope facts known out (listed.Found n more) =
     AreListed names scope facts known out n more
 IsListed names scope facts known out (listed.TooWide w) = SomeIsTooWide scope facts known w
 
--- the theorems before this place were asked, and the lines of all their applications were written
+-- the theorems before this place were looked at, and the lines of all their applications written
 pub record AreListedTo (names : Names) (scope : Scope) (facts : List Lit)
     (known : List TitledStatement) (place : ℕ) (out : List ℕ) (count : ℕ) : Type 0 where
   pub applications : List Application

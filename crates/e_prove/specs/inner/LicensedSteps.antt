@@ -19,7 +19,8 @@ use Rattle.e_prove.specs.declared.step_state.StepState.{StepState}
 use Rattle.e_prove.specs.declared.step_stop.StepStop.{StepStop}
 use Rattle.e_prove.specs.inner.StopsOfSteps.{StepStopsAt}
 
--- the steps of a script where this holds, whose blanks are filled as in the second one
+-- the steps of a script where these objects are in scope and these are the facts, whose blanks are
+-- filled as in the second script
 abbrev pub steps_from_basis : List StatementView → Script → Script → Basis → Goal → List PlacedStep
 steps_from_basis before script filled x goal =
     placed_steps before script filled x.scope x.facts goal

@@ -40,7 +40,8 @@ pub record IsReadyFor (before : List StatementView) (script : Script) (x : StepS
       (list_all (λ y. is_small y.scope) (steps_from_basis before script script x.context goal))
   pub statements : IsTrue (list_all is_small_statement before)
 
--- before something the steps are ready, and there are numbers for the steps from this one on
+-- before some script that comes after them the steps are ready, and all their numbers, which begin
+-- with this one, have 32 bits
 pub record AreReadySteps (before : List StatementView) (whole : Script → Script) (x : StepState)
     (first : ℕ) : Type 0 where
   pub rest : Script
@@ -80,8 +81,8 @@ abbrev pub ArrivesAt : List StatementView → PlacedStep → Arrival → Type 0
 ArrivesAt before y (Halts h) = StepStopsAt before y h
 ArrivesAt before y (Stands scope facts) = (y.scope ≡ scope) × (y.facts ≡ facts)
 
--- it is found at one of the steps, before which all are licensed; the first step has this number
--- and this one that, and these are the names in scope before it
+-- it is found at step n, before which all are licensed, where the first of the steps has number
+-- `first`; and these are the names in scope before step n
 pub record IsReachedIn (before : List StatementView) (xs : List PlacedStep) (ns : List Names)
     (first : ℕ) (a : Arrival) (n : ℕ) (names : Names) : Type 0 where
   pub place : ℕ

@@ -1,4 +1,4 @@
--- Why licensing stops at a step.
+-- Why licensing stops at a step. Where memory ran out nothing is said of the step.
 use Rattle.std.specs.Prelude.{◌≡◌, ℕ, List, Contains, MatchBool, Option, Some, None, Result, Ok}
 use Rattle.std.specs.Prelude.{Err}
 use Rattle.e_literal.specs.declared.object.Obj.{Obj}
@@ -23,15 +23,15 @@ use Rattle.e_deriv.specs.Refused.{LiteralIsShown, IsShown, IsTooWide}
 use Rattle.e_prove.specs.declared.step_stop.StepStop.{StepStop}
 use Rattle.e_prove.specs.declared.step_stop.StepStop.TheVariants.{Lacks, TooWide, NoMemory}
 
--- the step lacks this, and the values show it; or it is too wide at this; out of memory is free
+-- the step lacks this, and the values show it; or it is too wide at this; or memory ran out
 abbrev pub StepStopsAt : List StatementView → PlacedStep → StepStop → Type 0
 StepStopsAt before x (Lacks wanted values) =
     LineLacks before x x.here wanted × IsShown x.here x.facts wanted values
 StepStopsAt before x (TooWide wanted width) = IsTooWide before x x.here wanted width
 StepStopsAt before x NoMemory = Unit {0}
 
--- the first of the literals that is not allowed is lacked, or one of them is too wide; out of
--- memory is free
+-- the first of the literals that is not allowed is lacked, or one of them is too wide; or memory
+-- ran out
 abbrev pub StepStopsAmong : Basis → List Lit → StepStop → Type 0
 StepStopsAmong x ls (Lacks (Literal l) values) =
     IsFirstNotAllowed x.scope x.facts ls l × LiteralIsShown x.facts l values
@@ -43,8 +43,8 @@ StepStopsAmong x ls (TooWide Match width) = ⊥
 StepStopsAmong x ls (TooWide Contradiction width) = ⊥
 StepStopsAmong x ls NoMemory = Unit {0}
 
--- no choice for the blanks is good, or one that is not above the least good one is too wide; out of
--- memory is free
+-- no choice for the blanks is good, or one that is not above the least good one is too wide; or
+-- memory ran out
 abbrev pub StepStopsFilling : StatementView → Basis → List (Option Obj) → StepStop → Type 0
 StepStopsFilling t x pattern (Lacks Match values) =
     NoneIsAllowed t x.scope x.facts pattern × (values ≡ None)
