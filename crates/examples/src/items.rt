@@ -7,9 +7,7 @@ ghost use Rattle.e_names.specs.TitledStatements.{stated_by};
 ghost use Rattle.e_names.specs.Titled.{are_notions};
 ghost use Rattle.examples.specs.FirstItem.{IsFirstItem};
 
-use e_book::{Item, next_item};
-use e_line::BookFault;
-use e_names::Known;
+use e_book::{BookFault, Item, Known, LONGEST_LINE, MOST_BYTES, next_item};
 use e_text::Lines;
 use std::alloc::Global;
 
@@ -21,6 +19,6 @@ pub fn first_item(alloc: Global, known: &Known, text: &[u8]) -> Result<Option<It
     requires notions { IsTrue (are_notions known.now.notions) }
     ensures { IsFirstItem known.now text.now result }
 {
-    let mut lines = Lines::new(text, 1600, 4_194_304);
+    let mut lines = Lines::new(text, LONGEST_LINE, MOST_BYTES);
     next_item(alloc, &mut lines, known)
 }
