@@ -88,7 +88,6 @@ ends_definition h rawlines.End =
     if is_empty h.statement.shown then Err Malformed else Ok (Defined (meant h))
 ends_definition h f = Err Malformed
 
--- such a line at its place
 abbrev pub plain_line : Known → PartialItem → RawLine → Result PartialItem FaultKind
 plain_line known (InTheorem o n) f =
     line_after known.theorems (Some o) f >>= λ m. Ok (InTheorem m n)
@@ -160,7 +159,6 @@ abbrev pub whole_or : Option BookItem → Rest → Answer → Answer
 whole_or None lines more = more
 whole_or (Some i) lines more = Ok (Some (i, lines))
 
--- what is read, where no lines are left: what has begun is unended
 abbrev pub at_end : ℕ → Option PartialItem → Answer
 at_end last None = Ok None
 at_end last (Some c) = Err (faults.Unended last)
@@ -177,7 +175,6 @@ item_from known last c (Ok line ∷ lines) =
 
 -- ---- what is answered
 
--- a theorem or a definition of the code, as the grammar has it
 abbrev pub view_of : Item → BookItem
 view_of (items.Theorem t) = OfTheorem (entry_of t)
 view_of (items.Notion title n) = OfNotion (titled title n)

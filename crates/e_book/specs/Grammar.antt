@@ -172,7 +172,6 @@ put_at line (Err kind) = Err (at_line line kind)
 abbrev pub Rest : Type 0
 Rest = List (Result LineView LineFault)
 
--- the theorem whose last line has come
 abbrev pub theorem_ended : Open → Option TheoremView
 theorem_ended (Ended t) = Some t
 theorem_ended o = None
