@@ -139,8 +139,9 @@ impl Figure {
         Ok(())
     }
 
-    /// That its lines have directions and its circles insides, which holds of each figure.
-    pub fn is_one(&self)
+    /// Its lines have directions and its circles insides: a law of the figure, which a caller has by
+    /// the call.
+    pub fn lines_and_circles_are_proper(&self)
         ensures { IsTrue (spec.is_figure self.now) }
     {
         let _ = self.points.len();

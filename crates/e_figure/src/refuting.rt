@@ -17,7 +17,7 @@ pub fn refutes(figure: &Figure, facts: &[Lit], lit: &Lit) -> bool
     ensures value { result ≡ is_refuted figure.now facts.now lit.now }
     ensures uncited { IsTrue result → IsUncited (scope_of_figure figure.now) facts.now lit.now }
 {
-    figure.is_one();
+    figure.lines_and_circles_are_proper();
     only_it_fails(figure, facts, lit)
 }
 

@@ -36,7 +36,7 @@ pub fn law(alloc: Global, figure: &Figure, rule: Rule, args: &[Obj]) -> Result<u
     ensures scope { OnOk result (IsTrue (are_in_figure figure.now args.now)) }
     ensures err { IfErr result (LawFaultIs figure.now rule args.now) }
 {
-    figure.is_one();
+    figure.lines_and_circles_are_proper();
     let lits = instance_in(alloc, figure, rule, args)?;
     for (k, lit) in lits.iter().enumerate() {
         if holds(figure, lit) {

@@ -24,7 +24,7 @@ fn put_steps(
     for step in steps.split("; ") {
         put_step(alloc, out, facts, step)?;
     }
-    facts.apart();
+    facts.no_two_are_same();
     out.show(&facts.checkpoint());
     Ok(())
 }

@@ -5,4 +5,4 @@ use Rattle.e_figure.proofs.refuting.refutes.Goals as goal
 
 pub returns-clause-uncited : goal.returns-clause-uncited
 returns-clause-uncited c e =
-    refuted_is_uncited c.args.figure.now (scope_of_figure c.args.figure.now) c.args.facts.now c.args.lit.now c.is_one.ensures (sym c.only_it_fails.ensures ∙ e)
+    refuted_is_uncited c.args.figure.now (scope_of_figure c.args.figure.now) c.args.facts.now c.args.lit.now c.lines_and_circles_are_proper.ensures (sym c.only_it_fails.ensures ∙ e)

@@ -11,7 +11,7 @@ unreachable-requires c =
     let lits = c.deref-lit-items.result.now in
     let d = c.args.figure.now in
     let i : Inst c.args.rule c.args.args.now ≡ Some lits = c.in_ok-lits.ensures.ok ∙ ap Some (sym c.deref-lit-items.ensures.value) in
-    let t : list_any (is_true d) lits ≡ true = every_instance d c.args.rule c.args.args.now lits c.is_one.ensures c.requires i in
+    let t : list_any (is_true d) lits ≡ true = every_instance d c.args.rule c.args.args.now lits c.lines_and_circles_are_proper.ensures c.requires i in
     let e : length lits ≤ c.loop-k.k = c.loop-k-test.false in
     let a : take c.loop-k.k lits ≡ lits = grind (arith, take_all) in
     true≢false (sym t ∙ ap (list_any (is_true d)) (sym a) ∙ c.loop-k.invariant)
