@@ -31,7 +31,6 @@ use Rattle.e_book.specs.declared.parser.Section.{Section}
 use Rattle.e_book.specs.declared.parser.Section.TheVariants.{Declaring, Giving, Making, Showing}
 use Rattle.e_book.specs.declared.parser.Section.TheVariants.{Proving, Splitting, Closed, Done}
 use Rattle.e_book.specs.declared.parser.TheoremParser.{TheoremParser}
-use Rattle.e_book.specs.declared.inner.Saved.{Saved}
 use Rattle.e_line.specs.declared.fault.LineError.{LineError}
 use Rattle.e_line.specs.Reading.{◌>>=◌, with_front, Fails}
 use Rattle.e_line.specs.Limits.{most_theorems, most_of, most_steps, most_depth, most_facts}
@@ -252,35 +251,6 @@ parser_after_close d [] steps close =
 parser_after_close d (o ∷ os) steps close =
     closed_inside d o os (all_before steps (script_of_close close))
     (λ c. parser_after_close d os o.steps c) o.kind
-
--- a block that an inner one interrupts, with what began that one
-abbrev pub outer_with : Saved → BlockKind → OpenBlock
-outer_with around kind =
-    record {
-      steps = around.steps;
-      in_scope = around.in_scope;
-      facts = around.facts;
-      terms = around.terms;
-      kind = kind;
-    }
-
--- a block that an inner one interrupts with more facts: the limits of facts and of monomials
-unfoldable pub with_facts : Saved → List Lit → Result Saved FaultKind
-with_facts around lits = do
-  few ← within (around.facts + length lits) most_facts limits.Facts
-  n ← terms_after around.terms lits
-  Ok (record around { facts = around.facts + length lits; terms = n })
-
--- after the first block of a split, where the second begins
-abbrev pub second_begun : TheoremParser → Saved → Lit → Script → TheoremParser
-second_begun d around lit first =
-    record d {
-      in_scope = around.in_scope;
-      facts = around.facts + 1;
-      terms = around.terms + monomials lit.atom;
-      blocks = outer_with around (kind.Second lit first) ∷ d.blocks;
-      section = Splitting;
-    }
 
 -- what closing the open block inside another one leaves: the parser, or the close of that other
 -- block

@@ -17,36 +17,6 @@ use e_text::Name;
 use std::alloc::{AllocError, Global};
 use std::{mem, slice};
 
-/// A block as it was when an inner one interrupted it: an [`OpenBlock`] without what began the
-/// inner one.
-#[derive(Drop)]
-pub struct Saved {
-    steps: Steps,
-    in_scope: Names,
-    facts: usize,
-    terms: usize,
-}
-
-impl Saved {
-    ghost use Rattle.e_line.specs.Limits.{most_facts, most_terms};
-    ghost use Rattle.e_book.specs.Steps.{with_facts};
-
-    /// These literals are facts too: the limits of facts and of monomials.
-    #[tactic(auto, unfolding(crate::specs::Steps::with_facts))]
-    fn add_facts(&mut self, lits: &[Lit]) -> Result<(), LineError>
-        requires facts { self.old.facts ≤ most_facts }
-        requires terms { self.old.terms ≤ most_terms }
-        ensures value { Moves result self.new (with_facts self.old lits.now) }
-        ensures facts { OnOk result (self.new.facts ≤ most_facts) }
-        ensures terms { OnOk result (self.new.terms ≤ most_terms) }
-        ensures kept { OnOk result (self.new.in_scope ≡ self.old.in_scope) }
-    {
-        self.facts = facts_of(self.facts, lits)?;
-        self.terms = terms_of(self.terms, lits)?;
-        Ok(())
-    }
-}
-
 /// The names with new ones, each after those of its sort: the limits of objects.
 fn names_with(
     alloc: Global,
@@ -73,13 +43,13 @@ fn names_with(
 impl TheoremParser {
     ghost use Rattle.e_deriv.specs.Naming.{named};
     ghost use Rattle.e_deriv.specs.PlainStep.{plain_step, Claimed, Copied, all_before};
-    ghost use Rattle.e_line.specs.Limits.{most_depth, most_terms};
+    ghost use Rattle.e_line.specs.Limits.{most_depth, most_facts, most_terms, monomials};
     ghost use Rattle.e_book.specs.LineLimits.{few_objects};
     ghost use Rattle.e_book.specs.Steps.{FitsScope, FitsOuter, HasRoom, ClosesInside};
     ghost use Rattle.e_book.specs.Steps.{after_qed, room_inside, terms_inside, inside_block};
     ghost use Rattle.e_book.specs.Steps.{begun_with, begun_terms, after_claim, after_superpose};
-    ghost use Rattle.e_book.specs.Steps.{after_copies, after_cases, outer_with, after_inner_block};
-    ghost use Rattle.e_book.specs.Steps.{second_begun, parser_after_close, after_close_line};
+    ghost use Rattle.e_book.specs.Steps.{after_copies, after_cases, outer_of, after_inner_block};
+    ghost use Rattle.e_book.specs.Steps.{counted_from, parser_after_close, after_close_line};
     ghost use Rattle.e_book.specs.Blocks.{made_in};
     ghost use Rattle.e_book.specs.ParserViews.{script_of_close};
 
@@ -121,12 +91,15 @@ impl TheoremParser {
         given: usize,
     ) -> Result<(), AllocError>
         requires parser { FitsScope self.old }
-        requires room { HasRoom self.old given }
+        requires room { length self.old.blocks + 2 ≤ most_depth }
+        requires given { self.old.facts + given ≤ most_facts }
         requires inside { FewNamed inside }
         requires begun { begun_with kind ≤ given }
         requires terms { self.old.terms + begun_terms kind ≤ most_terms }
-        ensures value { OnOk result
-            (self.new ≡ record (inside_block self.old kind given) { in_scope = inside }) }
+        ensures value { OnOk result (self.new ≡ record (inside_block self.old kind given) {
+          lines = self.old.lines;
+          in_scope = inside;
+        }) }
         ensures fits { OnOk result (FitsScope self.new) }
     {
         let outer = OpenBlock {
@@ -137,7 +110,6 @@ impl TheoremParser {
             kind,
         };
         self.blocks.push(outer)?;
-        self.lines += 1;
         self.facts += given;
         Ok(())
     }
@@ -150,10 +122,12 @@ impl TheoremParser {
         given: usize,
     ) -> Result<(), AllocError>
         requires parser { FitsScope self.old }
-        requires room { HasRoom self.old given }
+        requires room { length self.old.blocks + 2 ≤ most_depth }
+        requires given { self.old.facts + given ≤ most_facts }
         requires begun { begun_with kind ≤ given }
         requires terms { self.old.terms + begun_terms kind ≤ most_terms }
-        ensures value { OnOk result (self.new ≡ inside_block self.old kind given) }
+        ensures value { OnOk result
+            (self.new ≡ record (inside_block self.old kind given) { lines = self.old.lines }) }
         ensures fits { OnOk result (FitsScope self.new) }
     {
         match self.in_scope.copy(alloc) {
@@ -175,6 +149,7 @@ impl TheoremParser {
         match self.put_claimed(alloc, raw, &mut shown) {
             Ok(()) => {
                 self.begin_block_here(alloc, BlockKind::Claim { shown }, 0)?;
+                self.lines += 1;
                 Ok(())
             }
             Err(error) => {
@@ -273,6 +248,7 @@ impl TheoremParser {
             }
         };
         self.begin_block(alloc, kind, after, given.len())?;
+        self.lines += 1;
         self.terms = terms;
         Ok(())
     }
@@ -288,6 +264,7 @@ impl TheoremParser {
         match self.terms_inside(slice::from_ref(&lit), slice::from_ref(raw)) {
             Ok(terms) => {
                 self.begin_block_here(alloc, BlockKind::First { lit }, 1)?;
+                self.lines += 1;
                 self.terms = terms;
                 Ok(())
             }
@@ -354,7 +331,7 @@ impl TheoremParser {
 
     /// The open block is closed inside the one around it. After the second block of a split the
     /// answer is the split, which closes the block around too.
-    #[tactic(auto, using(crate::proofs::grammar::Interrupted::emptied))]
+    #[tactic(auto, using(crate::proofs::grammar::Interrupted::goes_on))]
     fn close_inside(
         &mut self,
         alloc: Global,
@@ -381,15 +358,11 @@ impl TheoremParser {
             terms,
             kind,
         } = outer;
-        let around = Saved {
-            steps,
-            in_scope,
-            facts,
-            terms,
-        };
+        mem::drop(mem::replace(&mut self.steps, steps));
         match kind {
             BlockKind::Claim { shown } => {
-                self.end_claim(around, shown, inner)?;
+                self.put_back(in_scope, facts, terms);
+                self.end_claim(shown, inner)?;
                 Ok(None)
             }
             BlockKind::Superpose {
@@ -397,21 +370,17 @@ impl TheoremParser {
                 names,
                 shown,
             } => {
-                self.end_superposition(alloc, around, superposition, names, shown, inner)?;
+                self.put_back(in_scope, facts, terms);
+                self.end_superposition(alloc, superposition, names, shown, inner)?;
                 Ok(None)
             }
             BlockKind::First { lit } => {
-                self.begin_second(alloc, around, lit, inner)?;
+                self.put_back(in_scope, facts, terms);
+                self.begin_second(alloc, lit, inner)?;
                 Ok(None)
             }
             BlockKind::Second { lit, first } => {
-                let Saved {
-                    steps,
-                    in_scope,
-                    ..
-                } = around;
                 mem::drop(in_scope);
-                mem::drop(mem::replace(&mut self.steps, steps));
                 Ok(Some(CloseLine::Cases {
                     lit,
                     first,
@@ -430,140 +399,100 @@ impl TheoremParser {
         Closed::new(alloc, steps.into_block(alloc, close))
     }
 
-    /// The block of a claim is closed: the limits of facts and of monomials, and the claim is a
-    /// step of the block around.
-    #[tactic(auto, using(e_deriv::proofs::Scripts::plain_steps, crate::proofs::grammar::Interrupted::resumed_with))]
-    fn end_claim(
-        &mut self,
-        mut around: Saved,
-        shown: Items<Lit>,
-        inner: Closed,
-    ) -> Result<(), LineError>
-        requires parser { FitsScope self.old }
-        requires outer { FitsOuter (outer_with around (BlockKind.Claim shown)) }
+    /// The names in scope and the counts of the block around one that is closed.
+    fn put_back(&mut self, in_scope: Names, facts: usize, terms: usize)
+        ensures { self.new ≡
+            record self.old { in_scope = in_scope; facts = facts; terms = terms } }
+    {
+        mem::drop(mem::replace(&mut self.in_scope, in_scope));
+        self.facts = facts;
+        self.terms = terms;
+    }
+
+    /// The literals that a block shows are facts too: the limits of facts and of monomials.
+    #[tactic(auto, unfolding(crate::specs::Steps::counted_from))]
+    fn add_shown(&mut self, shown: &[Lit]) -> Result<(), LineError>
+        requires { FitsScope self.old }
         ensures value { Moves result self.new
-            (after_inner_block self.old (outer_with around (BlockKind.Claim shown)) self.old.blocks
-            shown (Claimed shown inner)) }
+            (counted_from self.old self.old.facts self.old.terms shown.now) }
         ensures fits { OnOk result (FitsScope self.new) }
     {
-        if let Err(error) = around.add_facts(shown.items()) {
-            mem::drop(around);
+        self.facts = facts_of(self.facts, shown)?;
+        self.terms = terms_of(self.terms, shown)?;
+        Ok(())
+    }
+
+    /// The block of a claim is closed: the limits of facts and of monomials, and the claim is a
+    /// step of the block around.
+    #[tactic(auto, using(e_deriv::proofs::Scripts::plain_steps, crate::proofs::grammar::Interrupted::with_shown))]
+    fn end_claim(&mut self, shown: Items<Lit>, inner: Closed) -> Result<(), LineError>
+        requires { FitsScope self.old }
+        ensures value { Moves result self.new (after_inner_block self.old
+            (outer_of self.old (BlockKind.Claim shown)) self.old.blocks shown
+            (Claimed shown inner)) }
+        ensures fits { OnOk result (FitsScope self.new) }
+    {
+        if let Err(error) = self.add_shown(shown.items()) {
             mem::drop(shown);
             mem::drop(inner);
             return Err(error);
         }
         let inner = inner.into_box();
-        self.resume(around, Step::Claim { shown, inner })?;
+        self.steps.push(Step::Claim { shown, inner })?;
         Ok(())
     }
 
     /// The block of a superposition is closed: the limits of facts and of monomials, and the
     /// superposition is a step of the block around.
-    #[tactic(auto, using(e_deriv::proofs::Scripts::plain_steps, crate::proofs::grammar::Interrupted::resumed_with))]
+    #[tactic(auto, using(e_deriv::proofs::Scripts::plain_steps, crate::proofs::grammar::Interrupted::with_shown))]
     fn end_superposition(
         &mut self,
         alloc: Global,
-        mut around: Saved,
         superposition: Superpose,
         names: Items<Name>,
         shown: Items<Lit>,
         inner: Closed,
     ) -> Result<(), LineError>
-        requires parser { FitsScope self.old }
-        requires outer { FitsOuter
-            (outer_with around (BlockKind.Superpose superposition names shown)) }
+        requires { FitsScope self.old }
         ensures value { Moves result self.new (after_inner_block self.old
-            (outer_with around (BlockKind.Superpose superposition names shown)) self.old.blocks
+            (outer_of self.old (BlockKind.Superpose superposition names shown)) self.old.blocks
             shown (Copied superposition names shown [] inner)) }
         ensures fits { OnOk result (FitsScope self.new) }
     {
-        if let Err(error) = around.add_facts(shown.items()) {
-            mem::drop(around);
+        if let Err(error) = self.add_shown(shown.items()) {
             mem::drop(names);
             mem::drop(shown);
             mem::drop(inner);
             return Err(error);
         }
         let inner = inner.into_box();
-        let step = Step::Superposed {
+        self.steps.push(Step::Superposed {
             superposition,
             names,
             shown,
             certs: Items::empty(alloc),
             inner,
-        };
-        self.resume(around, step)?;
-        Ok(())
-    }
-
-    /// The block around one that is closed goes on with a step.
-    fn resume(&mut self, around: Saved, step: Step) -> Result<(), AllocError>
-        ensures { OnOk result (self.new ≡ record self.old {
-          steps = around.steps ++ plain_step step ∷ [];
-          in_scope = around.in_scope;
-          facts = around.facts;
-          terms = around.terms;
-        }) }
-    {
-        let Saved {
-            steps,
-            in_scope,
-            facts,
-            terms,
-        } = around;
-        mem::drop(mem::replace(&mut self.steps, steps));
-        if let Err(error) = self.steps.push(step) {
-            mem::drop(in_scope);
-            return Err(error);
-        }
-        mem::drop(mem::replace(&mut self.in_scope, in_scope));
-        self.facts = facts;
-        self.terms = terms;
+        })?;
         Ok(())
     }
 
     /// The first block of a split is closed. After `else` comes the other one, which begins with as
     /// many literals.
-    fn begin_second(
-        &mut self,
-        alloc: Global,
-        around: Saved,
-        lit: Lit,
-        first: Closed,
-    ) -> Result<(), AllocError>
+    fn begin_second(&mut self, alloc: Global, lit: Lit, first: Closed) -> Result<(), AllocError>
         requires parser { FitsScope self.old }
         requires room { length self.old.blocks + 2 ≤ most_depth }
-        requires outer { FitsOuter (outer_with around (BlockKind.First lit)) }
-        ensures value { OnOk result (self.new ≡ second_begun self.old around lit first) }
+        requires outer { FitsOuter (outer_of self.old (BlockKind.First lit)) }
+        ensures value { OnOk result (self.new ≡
+            record (inside_block self.old (BlockKind.Second lit first) 1) {
+              lines = self.old.lines;
+              terms = self.old.terms + monomials lit.atom;
+              section = Section.Splitting;
+            }) }
         ensures fits { OnOk result (FitsScope self.new) }
     {
-        let Saved {
-            steps,
-            in_scope,
-            facts,
-            terms,
-        } = around;
-        let copied = match in_scope.copy(alloc) {
-            Ok(copied) => copied,
-            Err(error) => {
-                mem::drop(steps);
-                mem::drop(in_scope);
-                mem::drop(lit);
-                mem::drop(first);
-                return Err(error);
-            }
-        };
-        mem::drop(mem::replace(&mut self.in_scope, copied));
-        self.facts = facts + 1;
-        self.terms = terms + monomials(&lit);
-        let kind = BlockKind::Second { lit, first };
-        self.blocks.push(OpenBlock {
-            steps,
-            in_scope,
-            facts,
-            terms,
-            kind,
-        })?;
+        let terms = self.terms + monomials(&lit);
+        self.begin_block_here(alloc, BlockKind::Second { lit, first }, 1)?;
+        self.terms = terms;
         self.section = Section::Splitting;
         Ok(())
     }

@@ -17,8 +17,7 @@ use Rattle.e_book.specs.declared.steps.CloseLine.TheVariants as closes
 use Rattle.e_line.specs.Reading.{◌>>=◌, Fails, Moves}
 use Rattle.e_book.specs.ParserViews.{script_of_close}
 use Rattle.e_line.specs.Limits.{most_facts, most_depth, within}
-use Rattle.e_book.specs.declared.inner.Saved.{Saved}
-use Rattle.e_book.specs.Steps.{terms_after, counted_from, outer_with, with_facts, after_inner_block, closed_inside, parser_after_close, ClosesInside, FitsOuter, FitsScope}
+use Rattle.e_book.specs.Steps.{terms_after, counted_from, outer_of, after_inner_block, closed_inside, parser_after_close, ClosesInside, FitsOuter, FitsScope}
 
 -- a test finds something in a list whichever way it goes
 pub any_reversed : {X : Type 0} (p : X → Bool) (xs : List X) → list_any p (reverse xs) ≡ list_any p xs
@@ -41,9 +40,18 @@ unfolding after_inner_block counted_from
 resumed_alike d xs ss o os shown s =
     resumed_by_alike d xs ss o os (o.facts + length shown) s (within (o.facts + length shown) most_facts limits.Facts) (terms_after o.terms shown)
 
--- nor at its steps, which were taken out
-pub emptied : (d : TheoremParser) (o : OpenBlock) (os : List OpenBlock) (shown : List Lit) (s : PlainStep) → after_inner_block d o os shown s ≡ after_inner_block (record d { steps = [] }) o os shown s
-emptied d o os shown s = sym (resumed_alike d d.blocks [] o os shown s)
+-- nor at its names in scope and its counts: they are put back
+abbrev pub around : TheoremParser → OpenBlock → TheoremParser
+around d o = record d { steps = o.steps; in_scope = o.in_scope; facts = o.facts; terms = o.terms }
+
+around_by : (d : TheoremParser) (o : OpenBlock) (os : List OpenBlock) (n : ℕ) (s : PlainStep) (few : Result (Unit {0}) FaultKind) (terms : Result ℕ FaultKind) → resumed_by d o os n s few terms ≡ resumed_by (around d o) o os n s few terms
+around_by d o os n s (Ok u) (Ok m) = refl
+around_by d o os n s (Ok u) (Err e) = refl
+around_by d o os n s (Err e) terms = refl
+
+pub goes_on : (d : TheoremParser) (o : OpenBlock) (os : List OpenBlock) (shown : List Lit) (s : PlainStep) → after_inner_block d o os shown s ≡ after_inner_block (around d o) o os shown s
+unfolding after_inner_block counted_from
+goes_on d o os shown s = around_by d o os (o.facts + length shown) s (within (o.facts + length shown) most_facts limits.Facts) (terms_after o.terms shown)
 
 inside_alike : (d : TheoremParser) (xs : List OpenBlock) (ss : List PlainStep) (o : OpenBlock) (os : List OpenBlock) (inner : Script) (again : CloseLine → Result TheoremParser FaultKind) (what : BlockKind)
     → closed_inside (record d { blocks = xs; steps = ss }) o os inner again what ≡ closed_inside d o os inner again what
@@ -102,28 +110,33 @@ pub record TopFits (d : TheoremParser) (o : OpenBlock) (os : List OpenBlock) : T
 
 -- ---- what a block shows is too much
 
-pub resumed_fails : (d p new : TheoremParser) (o : OpenBlock) (close : CloseLine) (shown : List Lit) (step : PlainStep) (inner : Script) (what : BlockKind) (e : LineError) → o.kind ≡ what → p ≡ record d { steps = [] }
+pub back_around : (d t p : TheoremParser) (o : OpenBlock) (steps : List PlainStep) → t ≡ record d { steps = [] } → steps ≡ o.steps
+    → p ≡ record t { steps = steps; in_scope = o.in_scope; facts = o.facts; terms = o.terms } → p ≡ around d o
+back_around d t p o steps taken put back =
+    back ∙ ap (λ (ss : List PlainStep). record t { steps = ss; in_scope = o.in_scope; facts = o.facts; terms = o.terms }) put ∙ ap (λ (x : TheoremParser). around x o) taken
+
+pub resumed_fails : (d p new : TheoremParser) (o : OpenBlock) (close : CloseLine) (shown : List Lit) (step : PlainStep) (inner : Script) (what : BlockKind) (e : LineError) → o.kind ≡ what → p ≡ around d o
     → inner ≡ all_before d.steps (script_of_close close) → ((again : CloseLine → Result TheoremParser FaultKind) → closed_inside d o d.blocks inner again what ≡ after_inner_block d o d.blocks shown step)
-    → Fails e (after_inner_block p (record o { kind = what }) p.blocks shown step) → ClosesInside d o close (Err e) new
+    → Fails e (after_inner_block p (outer_of p what) p.blocks shown step) → ClosesInside d o close (Err e) new
 resumed_fails d p new o close shown step inner what e is taken block shows fails again =
     let whole : record o { kind = what } ≡ o = sym (ap (λ (x : BlockKind). record o { kind = x }) is) in
-    let there : after_inner_block p (record o { kind = what }) p.blocks shown step ≡ after_inner_block d o d.blocks shown step =
-    ap (λ (x : OpenBlock). after_inner_block p x p.blocks shown step) whole ∙ ap (λ (x : TheoremParser). after_inner_block x o x.blocks shown step) taken ∙ sym (emptied d o d.blocks shown step) in
+    let there : after_inner_block p (outer_of p what) p.blocks shown step ≡ after_inner_block d o d.blocks shown step =
+    ap (λ (x : TheoremParser). after_inner_block x (outer_of x what) x.blocks shown step) taken ∙ ap (λ (x : OpenBlock). after_inner_block (around d o) x d.blocks shown step) whole ∙ sym (goes_on d o d.blocks shown step) in
     let here : closed_inside d o d.blocks (all_before d.steps (script_of_close close)) again o.kind ≡ after_inner_block d o d.blocks shown step =
     ap (λ (s : Script). closed_inside d o d.blocks s again o.kind) (sym block) ∙ ap (λ (x : BlockKind). closed_inside d o d.blocks inner again x) is ∙ shows again in
     subst (Fails e) (there ∙ sym here) fails
 
 -- ---- a block goes on with what the one inside shows
 
-resumed_as : (d : TheoremParser) (around : Saved) (os : List OpenBlock) (n : ℕ) (s : PlainStep) (few : Result (Unit {0}) FaultKind) (terms : Result ℕ FaultKind)
-    → ((few >>= λ u. terms >>= λ m. Ok (record d { facts = n; terms = m })) >>= λ e. Ok (record e { steps = around.steps ++ s ∷ []; in_scope = around.in_scope; blocks = os }))
-    ≡ ((few >>= λ u. terms >>= λ m. Ok (record around { facts = n; terms = m })) >>= λ a. Ok (record d { steps = a.steps ++ s ∷ []; in_scope = a.in_scope; facts = a.facts; terms = a.terms; blocks = os }))
-resumed_as d around os n s (Ok u) (Ok m) = refl
-resumed_as d around os n s (Ok u) (Err e) = refl
-resumed_as d around os n s (Err e) terms = refl
+shown_as : (d : TheoremParser) (n : ℕ) (s : PlainStep) (few : Result (Unit {0}) FaultKind) (terms : Result ℕ FaultKind)
+    → ((few >>= λ u. terms >>= λ m. Ok (record d { facts = n; terms = m })) >>= λ e. Ok (record e { steps = d.steps ++ s ∷ []; in_scope = d.in_scope; blocks = d.blocks }))
+    ≡ ((few >>= λ u. terms >>= λ m. Ok (record d { facts = n; terms = m })) >>= λ e. Ok (record e { steps = e.steps ++ s ∷ [] }))
+shown_as d n s (Ok u) (Ok m) = refl
+shown_as d n s (Ok u) (Err e) = refl
+shown_as d n s (Err e) terms = refl
 
-pub resumed_with : (d : TheoremParser) (around : Saved) (what : BlockKind) (os : List OpenBlock) (shown : List Lit) (s : PlainStep)
-    → after_inner_block d (outer_with around what) os shown s ≡ (with_facts around shown >>= λ a. Ok (record d { steps = a.steps ++ s ∷ []; in_scope = a.in_scope; facts = a.facts; terms = a.terms; blocks = os }))
-unfolding after_inner_block counted_from with_facts
-resumed_with d around what os shown s =
-    resumed_as d around os (around.facts + length shown) s (within (around.facts + length shown) most_facts limits.Facts) (terms_after around.terms shown)
+pub with_shown : (d : TheoremParser) (what : BlockKind) (shown : List Lit) (s : PlainStep)
+    → after_inner_block d (outer_of d what) d.blocks shown s ≡ (counted_from d d.facts d.terms shown >>= λ e. Ok (record e { steps = e.steps ++ s ∷ [] }))
+unfolding after_inner_block counted_from
+with_shown d what shown s =
+    shown_as d (d.facts + length shown) s (within (d.facts + length shown) most_facts limits.Facts) (terms_after d.terms shown)
