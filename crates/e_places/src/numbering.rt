@@ -21,10 +21,11 @@ ghost use Rattle.e_places.specs.Numbered;
 ghost use Rattle.e_places.specs.Numbered.{derivation_with_places};
 ghost use Rattle.e_verify.specs.Verdicts.{IsVerifiable};
 ghost use Rattle.e_verify.specs.Checking.{KeepsFirstFacts};
-ghost use Rattle.e_places.specs.inner.Numbering.{HaveFew, IsNumberedStep, places_at};
+ghost use Rattle.e_places.specs.inner.Numbering.{HaveFew, IsReady, AreReady, IsApplied};
+ghost use Rattle.e_places.specs.inner.Numbering.{IsNumberedStep, places_at};
 ghost use Rattle.e_verify.specs.StepStates.{state_after_make, state_after_use};
 ghost use Rattle.e_verify.specs.StepStates.{state_with_facts};
-ghost use Rattle.e_deriv.specs.Goal.{goal_view};
+ghost use Rattle.e_deriv.specs.Goal.{goal_view, are_for};
 ghost use Rattle.e_verify.specs.StepStates.{state_after_superposed};
 
 use crate::ending::{Head, end_claim, end_superposition};
@@ -32,15 +33,12 @@ use crate::places::{placed_against, placed_cert, placed_certs};
 use e_clause::{Against, By, Cert};
 use e_construct::{Construction, Superpose};
 use e_deriv::{Block, Close, Goal, Step, copy_by, copy_construction, split};
-use e_literal::{Items, Lit, NOTHING, Obj, Scope, copy, grown, have_sorts_of, next_objects};
+use e_literal::{Items, Lit, NOTHING, Obj, Scope, copy, grown, next_objects};
 use e_text::Name;
 use e_theorem::{Applied, Statement, UseFault, use_of};
 use e_verify::{Facts, StepState, goal_with, state_at_start, written_args};
 use std::alloc::{AllocError, Global};
 use std::mem;
-
-/// The most objects of a sort.
-const MOST_OBJECTS: u16 = 1_000;
 
 /// The first number that is no place.
 const PLACES: usize = 1 << 32;
@@ -49,7 +47,7 @@ const PLACES: usize = 1 << 32;
 /// and none by a literal. It has the same steps, and what is certified stays so. One that has
 /// places already is itself.
 ///
-/// A certified derivation fails only out of memory.
+/// It fails only out of memory.
 pub fn numbered(
     alloc: Global,
     before: &[Statement],
@@ -86,7 +84,9 @@ fn number_block(
     goal: &Goal,
     state: &mut StepState,
 ) -> Result<Block, AllocError>
-    requires { IsTrue (list_all is_small_statement (all_stated before.now)) }
+    requires ready { IsReady (all_stated before.now) (script_of block.now) state.old
+        (goal_view goal.now) }
+    requires statements { IsTrue (list_all is_small_statement (all_stated before.now)) }
     ensures same { IfOk result (λ b. script_of b
         ≡ places_at (all_stated before.now) (script_of block.now) state.old (goal_view goal.now)) }
     ensures few { OnOk result
@@ -120,7 +120,8 @@ fn number_step(
     step: &Step,
     state: &mut StepState,
 ) -> Result<Step, AllocError>
-    requires { IsTrue (list_all is_small_statement (all_stated before.now)) }
+    requires ready { AreReady (all_stated before.now) (step_script step.now) state.old }
+    requires statements { IsTrue (list_all is_small_statement (all_stated before.now)) }
     ensures step { IfOk result (λ s. IsNumberedStep (all_stated before.now) (step_script step.now)
         state.old (step_script s) state.new) }
     ensures few { OnOk result (length state.old.facts < 2 ^ 32) }
@@ -178,7 +179,9 @@ fn number_claim(
     inner: &Block,
     state: &mut StepState,
 ) -> Result<Step, AllocError>
-    requires { IsTrue (list_all is_small_statement (all_stated before.now)) }
+    requires ready { AreReady (all_stated before.now) (Claim shown.now (script_of inner.now))
+        state.old }
+    requires statements { IsTrue (list_all is_small_statement (all_stated before.now)) }
     ensures { IfOk result (λ s. IsNumberedStep (all_stated before.now)
         (Claim shown.now (script_of inner.now)) state.old (step_script s) state.new) }
 {
@@ -208,7 +211,11 @@ fn number_superposed(
     inner: &Block,
     state: &mut StepState,
 ) -> Result<Step, AllocError>
-    requires { IsTrue (list_all is_small_statement (all_stated before.now)) }
+    requires ready { AreReady (all_stated before.now) (Superposed parts.now.superposition.now
+        parts.now.names.now parts.now.shown.now parts.now.certs.now (script_of inner.now))
+        state.old }
+    requires few { length state.old.facts < 2 ^ 32 }
+    requires statements { IsTrue (list_all is_small_statement (all_stated before.now)) }
     ensures { IfOk result (λ s. IsNumberedStep
         (all_stated before.now) (Superposed parts.now.superposition.now parts.now.names.now
         parts.now.shown.now parts.now.certs.now (script_of inner.now)) state.old
@@ -251,7 +258,9 @@ fn number_close(
     goal: &Goal,
     state: &mut StepState,
 ) -> Result<Close, AllocError>
-    requires { IsTrue (list_all is_small_statement (all_stated before.now)) }
+    requires ready { IsReady (all_stated before.now) (close_script close.now) state.old
+        (goal_view goal.now) }
+    requires statements { IsTrue (list_all is_small_statement (all_stated before.now)) }
     ensures same { IfOk result (λ c. close_script c ≡ places_at (all_stated before.now)
         (close_script close.now) state.old (goal_view goal.now)) }
     ensures few { OnOk result
@@ -309,6 +318,7 @@ fn hence(
     cert: &Option<Cert>,
     state: &mut StepState,
 ) -> Result<Step, AllocError>
+    requires { length state.old.facts < 2 ^ 32 }
     ensures { IfOk result (λ s. (before : List StatementView)
         → IsNumberedStep before (Hence lit.now cert.now) state.old (step_script s) state.new) }
 {
@@ -339,6 +349,7 @@ fn placed_option(
     lit: &Lit,
     cert: &Option<Cert>,
 ) -> Result<Option<Cert>, AllocError>
+    requires { length facts.now < 2 ^ 32 }
     ensures { IfOk result
         (λ c. c ≡ option_map (Numbered.cert_with_places facts.now lit.now) cert.now) }
 {
@@ -356,12 +367,11 @@ fn make(
     certs: &[Cert],
     state: &mut StepState,
 ) -> Result<Step, AllocError>
+    requires few { length state.old.facts < 2 ^ 32 }
+    requires scope { IsTrue (is_small state.old.scope) }
     ensures { IfOk result (λ s. (before : List StatementView) → IsNumberedStep before
         (Make construction.now names.now certs.now) state.old (step_script s) state.new) }
 {
-    if !has_room(state.scope) || !construction.fits(state.scope) {
-        return Err(AllocError);
-    }
     let names = Items::new(Vec::from_slice(alloc, names)?);
     let needs = construction.needs(alloc)?;
     let placed = placed_certs(alloc, &state.facts, &needs, certs);
@@ -410,24 +420,26 @@ fn apply(
     application: &Application,
     state: &mut StepState,
 ) -> Result<Step, AllocError>
-    requires { IsTrue (list_all is_small_statement (all_stated before.now)) }
+    requires few { length state.old.facts < 2 ^ 32 }
+    requires scope { IsTrue (is_small state.old.scope) }
+    requires statements { IsTrue (list_all is_small_statement (all_stated before.now)) }
+    requires applied { IsApplied (all_stated before.now) application.now.theorem
+        application.now.args.now state.old }
     ensures { IfOk result (λ s. IsNumberedStep (all_stated before.now)
         (Apply application.now.theorem application.now.args.now application.now.names.now
         application.now.certs.now) state.old (step_script s) state.new) }
 {
     let scope = state.scope;
     let Some(statement) = before.get(application.theorem as usize) else {
-        return Err(AllocError);
+        unreachable!();
     };
     let Some(objects) = written_args(alloc, application.args)? else {
-        return Err(AllocError);
+        unreachable!();
     };
-    if !has_room(scope) {
-        return Err(AllocError);
-    }
     let applied = match use_of(alloc, statement, &objects, scope) {
         Ok(applied) => applied,
-        Err(UseFault::BadArgs | UseFault::NoMemory) => return Err(AllocError),
+        Err(UseFault::BadArgs) => unreachable!(),
+        Err(UseFault::NoMemory) => return Err(AllocError),
     };
     let step = take_use(alloc, application, statement, &applied, state);
     mem::drop(applied);
@@ -445,6 +457,7 @@ fn take_use(
 ) -> Result<Step, AllocError>
     requires statement { IsTrue (is_small_statement (stated statement.now)) }
     requires scope { IsTrue (is_small state.old.scope) }
+    requires few { length state.old.facts < 2 ^ 32 }
     ensures step { IfOk result (λ s. s ≡ ApplyStep application.now.theorem application.now.args.now
         application.now.names.now (Numbered.certs_with_places state.old.facts applied.now.needs
         application.now.certs.now)) }
@@ -481,13 +494,12 @@ fn superpose(
     certs: &[Cert],
     state: &mut StepState,
 ) -> Result<Items<Cert>, AllocError>
+    requires few { length state.old.facts < 2 ^ 32 }
+    requires scope { IsTrue (is_small state.old.scope) }
     ensures certs { IfOk result (λ cs. cs ≡ Numbered.certs_with_places state.old.facts
         (superposing.needs_of_superposition superposition.now) certs.now) }
     ensures after { OnOk result (state.new ≡ state_after_superposed superposition.now state.old) }
 {
-    if !has_room(state.scope) {
-        return Err(AllocError);
-    }
     let needs = superposition.needs(alloc)?;
     let placed = placed_certs(alloc, &state.facts, &needs, certs);
     mem::drop(needs);
@@ -509,12 +521,11 @@ fn number_qed(
     goal: &Goal,
     state: &StepState,
 ) -> Result<Close, AllocError>
+    requires few { length state.now.facts < 2 ^ 32 }
+    requires objects { IsTrue (are_for (goal_view goal.now) state.now.scope objects.now) }
     ensures { IfOk result (λ c. (before : List StatementView) → close_script c
         ≡ places_at before (Qed objects.now certs.now) state.now (goal_view goal.now)) }
 {
-    if !have_sorts_of(state.scope, goal.made, objects) {
-        return Err(AllocError);
-    }
     let copied = Items::new(Vec::from_slice(alloc, objects)?);
     let wanted = goal_with(alloc, goal, objects)?;
     let certs = placed_certs(alloc, &state.facts, &wanted, certs)?;
@@ -529,6 +540,7 @@ fn number_contradiction(
     against: &Option<Against>,
     facts: &Facts,
 ) -> Result<Close, AllocError>
+    requires { length facts.now < 2 ^ 32 }
     ensures { IfOk result (λ c. c
         ≡ ContradictionClose (option_map (Numbered.against_with_places facts.now) against.now)) }
 {
@@ -537,12 +549,4 @@ fn number_contradiction(
         None => None,
     };
     Ok(Close::Contradiction { against })
-}
-
-/// Whether at most 1,000 objects of each sort are in scope, as before each step of a derivation
-/// that can be checked.
-fn has_room(scope: Scope) -> bool
-    ensures { result ≡ is_small scope }
-{
-    scope.points <= MOST_OBJECTS && scope.lines <= MOST_OBJECTS && scope.circles <= MOST_OBJECTS
 }

@@ -1,6 +1,6 @@
 //! Certificates with the places of the facts that they cite, in place of the literals.
 
-ghost use Rattle.std.specs.Prelude.{◌≡◌, ◌++◌, IfOk, OnOk, false};
+ghost use Rattle.std.specs.Prelude.{◌≡◌, ◌<◌, ◌^◌, ◌++◌, length, IfOk, OnOk, false};
 ghost use Rattle.e_places.specs.Numbered;
 
 use e_clause::{Against, Cert, MetricCert, Part, RowName, Sum, Sums, TransferCert};
@@ -16,26 +16,24 @@ struct Placed {
     turned: bool,
 }
 
-/// The place of the fact that is the same as the literal; an error where none is, or it is past 32
-/// bits.
-fn place_among(facts: &Facts, lit: &Lit) -> Result<u32, AllocError>
-    ensures { IfOk result (λ k. k ≡ Numbered.place_of_same facts.now lit.now) }
+/// The place of the fact that is the same as the literal; the number of all facts where none is.
+fn place_among(facts: &Facts, lit: &Lit) -> u32
+    requires { length facts.now < 2 ^ 32 }
+    ensures { result ≡ Numbered.place_of_same facts.now lit.now }
 {
     match facts.place_of(lit) {
-        Some(place) if place <= u32::MAX as usize => Ok(place as u32),
-        _ => Err(AllocError),
+        Some(place) => place as u32,
+        None => facts.len() as u32,
     }
 }
 
 /// Whether the row of the literal is opposite to that of the fact at this place, which is the same.
-fn is_turned(facts: &Facts, place: u32, lit: &Lit) -> Result<bool, AllocError>
+fn is_turned(facts: &Facts, place: u32, lit: &Lit) -> bool
     requires { place ≡ Numbered.place_of_same facts.now lit.now }
-    ensures { IfOk result (λ b. b ≡ Numbered.has_opposite_row facts.now lit.now) }
+    ensures { result ≡ Numbered.has_opposite_row facts.now lit.now }
 {
-    match facts.get(place) {
-        Some(fact) => Ok(are_turned(&lit.atom, &fact.atom)),
-        None => Err(AllocError),
-    }
+    let fact = facts.get(place).unwrap_or(lit);
+    are_turned(&lit.atom, &fact.atom)
 }
 
 fn are_turned(a: &Atom, b: &Atom) -> bool
@@ -67,25 +65,26 @@ fn count_alike_at(x: &[Mono], y: &[Mono], z: &[Mono], w: &[Mono], terms: &[Mono]
 }
 
 /// The name with its place.
-fn placed_name(facts: &Facts, name: &RowName) -> Result<Placed, AllocError>
-    ensures { IfOk result (λ p. (p.name ≡ Numbered.name_with_place facts.now name.now)
-        × (p.turned ≡ Numbered.turns facts.now name.now)) }
+fn placed_name(facts: &Facts, name: &RowName) -> Placed
+    requires { length facts.now < 2 ^ 32 }
+    ensures { (result.name ≡ Numbered.name_with_place facts.now name.now)
+        × (result.turned ≡ Numbered.turns facts.now name.now) }
 {
     match name {
         RowName::Fact(lit) => {
-            let place = place_among(facts, lit)?;
-            let turned = is_turned(facts, place, lit)?;
+            let place = place_among(facts, lit);
+            let turned = is_turned(facts, place, lit);
             let name = RowName::FactAt(place);
-            Ok(Placed { name, turned })
+            Placed { name, turned }
         }
-        RowName::Goal => Ok(as_it_is(RowName::Goal)),
-        RowName::Pos(term) => Ok(as_it_is(RowName::Pos(*term))),
-        RowName::Top(term) => Ok(as_it_is(RowName::Top(*term))),
-        RowName::Right => Ok(as_it_is(RowName::Right)),
-        RowName::Least(term) => Ok(as_it_is(RowName::Least(*term))),
-        RowName::Above => Ok(as_it_is(RowName::Above)),
-        RowName::Below => Ok(as_it_is(RowName::Below)),
-        RowName::FactAt(place) => Ok(as_it_is(RowName::FactAt(*place))),
+        RowName::Goal => as_it_is(RowName::Goal),
+        RowName::Pos(term) => as_it_is(RowName::Pos(*term)),
+        RowName::Top(term) => as_it_is(RowName::Top(*term)),
+        RowName::Right => as_it_is(RowName::Right),
+        RowName::Least(term) => as_it_is(RowName::Least(*term)),
+        RowName::Above => as_it_is(RowName::Above),
+        RowName::Below => as_it_is(RowName::Below),
+        RowName::FactAt(place) => as_it_is(RowName::FactAt(*place)),
     }
 }
 
@@ -105,9 +104,10 @@ fn placed_row(
     multiplier: i128,
     name: &RowName,
 ) -> Result<(i128, RowName), AllocError>
+    requires { length facts.now < 2 ^ 32 }
     ensures { IfOk result (λ x. x ≡ Numbered.row_with_place facts.now (multiplier, name.now)) }
 {
-    let Placed { name, turned } = placed_name(facts, name)?;
+    let Placed { name, turned } = placed_name(facts, name);
     if !turned {
         return Ok((multiplier, name));
     }
@@ -125,6 +125,7 @@ fn placed_sum(
     facts: &Facts,
     sum: &[(i128, RowName)],
 ) -> Result<Vec<(i128, RowName)>, AllocError>
+    requires { length facts.now < 2 ^ 32 }
     ensures { IfOk result (λ v. v.items ≡ Numbered.sum_with_places facts.now sum.now) }
 {
     let mut rows = Vec::new(alloc);
@@ -162,6 +163,7 @@ fn other_side(name: RowName) -> RowName
 }
 
 fn placed_sums(alloc: Global, facts: &Facts, sums: &Sums) -> Result<Sums, AllocError>
+    requires { length facts.now < 2 ^ 32 }
     ensures { IfOk result (λ s. s ≡ Numbered.sums_with_places facts.now sums.now) }
 {
     match sums {
@@ -173,7 +175,7 @@ fn placed_sums(alloc: Global, facts: &Facts, sums: &Sums) -> Result<Sums, AllocE
         } => {
             let above = placed_sum(alloc, facts, above.rows())?;
             let below = placed_sum(alloc, facts, below.rows())?;
-            two_sums(alloc, placed_name(facts, differs)?, above, below)
+            two_sums(alloc, placed_name(facts, differs), above, below)
         }
     }
 }
@@ -234,6 +236,7 @@ fn exchange_sums(
 }
 
 fn placed_metric(alloc: Global, facts: &Facts, cert: &MetricCert) -> Result<MetricCert, AllocError>
+    requires { length facts.now < 2 ^ 32 }
     ensures { IfOk result (λ c. c.sums ≡ Numbered.sums_with_places facts.now cert.now.sums) }
 {
     Ok(MetricCert {
@@ -242,10 +245,11 @@ fn placed_metric(alloc: Global, facts: &Facts, cert: &MetricCert) -> Result<Metr
 }
 
 fn placed_part(alloc: Global, facts: &Facts, lit: &Lit, part: &Part) -> Result<Part, AllocError>
+    requires { length facts.now < 2 ^ 32 }
     ensures { IfOk result (λ p. p ≡ Numbered.part_with_places facts.now lit.now part.now) }
 {
     match part {
-        Part::Fact => Ok(Part::FactAt(place_among(facts, lit)?)),
+        Part::Fact => Ok(Part::FactAt(place_among(facts, lit))),
         Part::Metric(cert) => Ok(Part::Metric(placed_metric(alloc, facts, cert)?)),
         Part::FactAt(place) => Ok(Part::FactAt(*place)),
     }
@@ -260,6 +264,7 @@ fn put_parts(
     parts: &[Part],
     out: &mut Vec<Part>,
 ) -> Result<(), AllocError>
+    requires { length facts.now < 2 ^ 32 }
     ensures { OnOk result
         (out.new.items ≡ out.old.items ++ Numbered.parts_with_places facts.now lits.now parts.now) }
 {
@@ -279,6 +284,7 @@ fn placed_transfer(
     lit: &Lit,
     cert: &TransferCert,
 ) -> Result<TransferCert, AllocError>
+    requires { length facts.now < 2 ^ 32 }
     ensures { IfOk result (λ c. c ≡ Numbered.transfer_with_places facts.now lit.now cert.now) }
 {
     let args = Vec::from_slice(alloc, cert.args.items())?;
@@ -299,6 +305,7 @@ fn placed_transfer(
 
 /// The certificate of a literal, with the places of facts.
 pub fn placed_cert(alloc: Global, facts: &Facts, lit: &Lit, cert: &Cert) -> Result<Cert, AllocError>
+    requires { length facts.now < 2 ^ 32 }
     ensures { IfOk result (λ c. c ≡ Numbered.cert_with_places facts.now lit.now cert.now) }
 {
     match cert {
@@ -316,6 +323,7 @@ pub fn placed_certs(
     lits: &[Lit],
     certs: &[Cert],
 ) -> Result<Items<Cert>, AllocError>
+    requires { length facts.now < 2 ^ 32 }
     ensures { IfOk result (λ cs. cs ≡ Numbered.certs_with_places facts.now lits.now certs.now) }
 {
     let mut out = Vec::new(alloc);
@@ -337,6 +345,7 @@ fn put_certs(
     certs: &[Cert],
     out: &mut Vec<Cert>,
 ) -> Result<(), AllocError>
+    requires { length facts.now < 2 ^ 32 }
     ensures { OnOk result
         (out.new.items ≡ out.old.items ++ Numbered.certs_with_places facts.now lits.now certs.now) }
 {
@@ -356,6 +365,7 @@ pub fn placed_against(
     facts: &Facts,
     against: &Against,
 ) -> Result<Against, AllocError>
+    requires { length facts.now < 2 ^ 32 }
     ensures { IfOk result (λ a. a ≡ Numbered.against_with_places facts.now against.now) }
 {
     match against {

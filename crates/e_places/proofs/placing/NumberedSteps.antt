@@ -1,15 +1,16 @@
 -- Steps and closes with places, as the code has them.
-use Rattle.std.proofs.Common.{◌≡◌, ℕ, ◌+◌, ◌<◌, ◌^◌, List, [], ◌∷◌, ◌++◌, length, drop, get_or, refl, sym, ap, ap₂, ◌∙◌, subst, Bool, true, ◌&&◌, lt-ltb, Option, Result, Ok, Err, Box, Global}
+use Rattle.std.proofs.Common.{◌≡◌, ℕ, ◌+◌, ◌<◌, ◌^◌, List, [], ◌∷◌, ◌++◌, length, drop, get_or, refl, sym, ap, ap₂, ◌∙◌, subst, Bool, true, ◌&&◌, lt-ltb, ltb-true, Option, Some, None, Result, Ok, Err, Box, Global}
 use Rattle.std.specs.Prelude.{IfOk, OnOk, nat_lt}
 use Rattle.std.specs.List.{list_all}
-use Rattle.std.specs.Option.{option_map}
+use Rattle.std.specs.Option.{option_map, option_map_or}
 use Rattle.std.proofs.lemmas.Grind.{common_steps}
 use Rattle.e_literal.specs.declared.object.Obj.{Obj}
 use Rattle.e_literal.specs.declared.literal.Lit.{Lit}
-use Rattle.e_literal.specs.Literal.{negation}
+use Rattle.e_literal.specs.Literal.{negation, all_in_scope}
 use Rattle.e_literal.specs.Facts.{joined, joined_all}
-use Rattle.e_literal.specs.Use.{StatementView, gives_of_use, needs_of_use}
-use Rattle.e_literal.proofs.Booleans.{all_both}
+use Rattle.e_literal.specs.Use.{StatementView, are_arguments, gives_of_use, needs_of_use}
+use Rattle.e_literal.proofs.Booleans.{and_left, and_right, all_left, all_right, all_both}
+use Rattle.e_clause.specs.Certify.{certify_all}
 use Rattle.e_clause.specs.declared.cert.Against.{Against}
 use Rattle.e_clause.specs.declared.cert.By.{By}
 use Rattle.e_clause.specs.declared.cert.Cert.{Cert}
@@ -23,18 +24,22 @@ use Rattle.e_deriv.specs.declared.block.Step.TheVariants.{Cite as CiteStep, Henc
 use Rattle.e_deriv.specs.declared.block.Close.{Close}
 use Rattle.e_deriv.specs.declared.block.Close.TheVariants.{Qed as QedClose, Contradiction as ContradictionClose, Cases as CasesClose}
 use Rattle.e_deriv.specs.Script.{Script, Cite, Hence, Make, Apply, Claim, Superposed, Qed, Contradiction, Cases, script_of, step_script, steps_script, close_script}
-use Rattle.e_deriv.specs.Goal.{Goal, goal_of, goal_with}
-use Rattle.e_deriv.specs.PlacedSteps.{theorem_at}
-use Rattle.e_deriv.specs.Parts.{written}
+use Rattle.e_deriv.specs.Goal.{Goal, goal_of, goal_of_statement, goal_with, are_for}
+use Rattle.e_deriv.specs.PlacedSteps.{PlacedStep, theorem_at}
+use Rattle.e_deriv.specs.Parts.{has_no_blank, written}
+use Rattle.e_deriv.specs.Steps.{are_over, is_applied}
+use Rattle.e_deriv.specs.Certified.{Certified, derivation_steps, is_certified}
+use Rattle.e_deriv.specs.Fitting.{is_small}
+use Rattle.e_theorem.specs.Choice.{fills}
 use Rattle.e_deriv.proofs.Scripts.{steps_at, steps_script-append, step_script-Cite, step_script-Hence, step_script-Make, step_script-Apply, close_script-Qed, close_script-Contradiction, close_script-Cases}
 use Rattle.e_deriv.proofs.Keeping.{stay_joined, stay_all}
 use Rattle.e_verify.specs.declared.step_state.StepState.{StepState}
 use Rattle.e_verify.specs.declared.step_state.Checkpoint.{Checkpoint}
-use Rattle.e_verify.specs.StepStates.{state_with_facts, state_after_make, state_after_superposed, checkpoint_of_state, state_restored}
-use Rattle.e_places.specs.inner.Numbering.{has_few, HaveFew, IsNumberedStep, places_at}
+use Rattle.e_verify.specs.StepStates.{state_at_start, state_with_facts, state_after_make, state_after_superposed, checkpoint_of_state, state_restored}
+use Rattle.e_places.specs.inner.Numbering.{is_ready, IsReady, AreReady, IsApplied, has_few, HaveFew, IsNumberedStep, places_at}
 use Rattle.e_verify.specs.Checking.{step_in_state, steps_in_state, KeepsFirstFacts}
 use Rattle.e_places.specs.Numbered.{cert_with_places, certs_with_places, against_with_places, with_places}
-use Rattle.e_verify.proofs.checking.FirstLines.{cite_lines, hence_lines, make_lines, apply_lines, qed_lines, contradiction_lines, cases_lines, claim_lines, superposed_lines, after_apply}
+use Rattle.e_verify.proofs.checking.FirstLines.{cite_lines, hence_lines, make_lines, apply_lines, qed_lines, contradiction_lines, cases_lines, claim_lines, superposed_lines, after_apply, some_lines}
 use Rattle.e_verify.proofs.checking.InnerBlocks.{kept_on, restored_is}
 
 -- ---- what is put at one line
@@ -95,6 +100,71 @@ few_line before d x goal rest after few is h = ap (list_all has_few) is ∙ ap�
 pub few_close : (before : List StatementView) (d : Script) (x : StepState) (goal : Goal) → length x.facts < 2 ^ 32 → steps_in_state before d x goal ≡ step_in_state d x goal ∷ [] → HaveFew before d x goal
 few_close before d x goal few is = ap (list_all has_few) is ∙ ap₂ {A = Bool} {B = Bool} (λ a b. a && b) (few_first x few) refl
 
+-- ---- what is ready
+
+rest_ready : (before : List StatementView) (d : Script) (x : StepState) (goal : Goal) (rest : Script) (after : StepState) → steps_in_state before d x goal ≡ step_in_state d x goal ∷ steps_in_state before rest after goal
+    → IsReady before d x goal → IsReady before rest after goal
+rest_ready before d x goal rest after is h =
+    and_right (is_ready before (step_in_state d x goal)) (list_all (is_ready before) (steps_in_state before rest after goal)) (sym (ap (list_all (is_ready before)) is) ∙ h)
+
+-- the block inside, and what comes after it
+both_ready : (before : List StatementView) (d : Script) (x : StepState) (goal : Goal) (within next : List PlacedStep) → steps_in_state before d x goal ≡ step_in_state d x goal ∷ (within ++ next)
+    → IsReady before d x goal → (list_all (is_ready before) within ≡ true) × (list_all (is_ready before) next ≡ true)
+both_ready before d x goal within next is h =
+    let both = and_right (is_ready before (step_in_state d x goal)) (list_all (is_ready before) (within ++ next)) (sym (ap (list_all (is_ready before)) is) ∙ h) in
+    (all_left (is_ready before) within next both, all_right (is_ready before) within next both)
+
+first_ready : (before : List StatementView) (d : Script) (x : StepState) (goal : Goal) → IsReady before d x goal → (is_certified before (step_in_state d x goal) ≡ true) × (is_small x.scope ≡ true)
+first_ready before d x goal h =
+    let k = some_lines before d x goal in
+    let first = and_left (is_ready before (step_in_state d x goal)) (list_all (is_ready before) k.0) (sym (ap (list_all (is_ready before)) k.1) ∙ h) in
+    (and_left (is_certified before (step_in_state d x goal)) (is_small x.scope) first, and_right (is_certified before (step_in_state d x goal)) (is_small x.scope) first)
+
+all_of_both : (p q : PlacedStep → Bool) (xs : List PlacedStep) → list_all p xs ≡ true → list_all q xs ≡ true → list_all (λ x. p x && q x) xs ≡ true
+all_of_both p q [] h k = refl
+all_of_both p q (x ∷ xs) h k =
+    ap₂ {A = Bool} {B = Bool} (λ a b. a && b) (ap₂ {A = Bool} {B = Bool} (λ a b. a && b) (and_left (p x) (list_all p xs) h) (and_left (q x) (list_all q xs) k))
+    (all_of_both p q xs (and_right (p x) (list_all p xs) h) (and_right (q x) (list_all q xs) k))
+
+-- a certified derivation is, from its start on
+pub start_ready : (before : List StatementView) (t : StatementView) (d : Script) (x : StepState) (g : Goal) → Certified before t d → list_all (λ y. is_small y.scope) (derivation_steps before t d) ≡ true → x ≡ state_at_start t → g ≡ goal_of_statement t
+    → IsReady before d x g
+start_ready before t d x g certified small is same =
+    subst (λ y. IsReady before d y g) (sym is) (subst (λ h. IsReady before d (state_at_start t) h) (sym same)
+    (all_of_both (is_certified before) (λ (y : PlacedStep). is_small y.scope) (derivation_steps before t d) certified small))
+
+pub small_scope : (before : List StatementView) (whole : Script → Script) (x : StepState) → AreReady before whole x → is_small x.scope ≡ true
+small_scope before whole x r = (first_ready before (whole r.rest) x r.goal r.ready).1
+
+pub apply_fits : (before : List StatementView) (theorem : ℕ) (args : List (Option Obj)) (names : List (List ℕ)) (certs : List Cert) (x : StepState) → AreReady before (Apply theorem args names certs) x → IsApplied before theorem args x
+apply_fits before theorem args names certs x r =
+    let t = theorem_at before theorem in
+    let low = nat_lt theorem (length before) in
+    let choice = fills args (written args) && are_arguments t x.scope (written args) in
+    let all = certify_all x.scope x.facts (needs_of_use t (written args) x.scope) certs in
+    let h = (first_ready before (Apply theorem args names certs r.rest) x r.goal r.ready).0 in
+    let fit = and_left (low && choice) (all && has_no_blank args) h in
+    record {
+      place = ltb-true theorem (length before) (and_left low choice fit);
+      blank = and_right all (has_no_blank args) (and_right (low && choice) (all && has_no_blank args) h);
+      fit = and_right (fills args (written args)) (are_arguments t x.scope (written args)) (and_right low choice fit);
+    }
+
+-- the blocks inside
+pub claim_ready : (before : List StatementView) (shown : List Lit) (inner : Script) (x : StepState) → AreReady before (Claim shown inner) x → IsReady before inner x (goal_of shown)
+claim_ready before shown inner x r =
+    (both_ready before (Claim shown inner r.rest) x r.goal (steps_in_state before inner x (goal_of shown)) (steps_in_state before r.rest (state_with_facts (joined_all x.facts shown) x) r.goal) (claim_lines before shown inner x r.rest r.goal) r.ready).0
+
+pub superposed_ready : (before : List StatementView) (superposition : Superpose) (names : List (List ℕ)) (shown : List Lit) (certs : List Cert) (inner : Script) (x z : StepState) → z ≡ state_after_superposed superposition x
+    → AreReady before (Superposed superposition names shown certs inner) x → IsReady before inner z (goal_of shown)
+superposed_ready before superposition names shown certs inner x z begun r =
+    subst (λ w. IsReady before inner w (goal_of shown)) (sym begun) (both_ready before (Superposed superposition names shown certs inner r.rest) x r.goal (steps_in_state before inner (state_after_superposed superposition x) (goal_of shown)) (steps_in_state before r.rest (state_with_facts (joined_all x.facts shown) x) r.goal)
+    (superposed_lines before superposition names shown certs inner x r.rest r.goal) r.ready).0
+
+-- a step as the code has it
+pub ready_as : (before : List StatementView) (f g : Script → Script) (x : StepState) → ((rest : Script) → f rest ≡ g rest) → AreReady before f x → AreReady before g x
+ready_as before f g x e r = record { rest = r.rest; goal = r.goal; ready = subst (λ d. IsReady before d x r.goal) (e r.rest) r.ready }
+
 -- ---- steps of one line
 
 pub cite_numbered : (before : List StatementView) (by : By) (x after : StepState) (s : Step) → s ≡ CiteStep by → after ≡ state_with_facts (joined x.facts by.lit) x → IsNumberedStep before (Cite by) x (step_script s) after
@@ -103,6 +173,7 @@ cite_numbered before by x after s is end =
     (record {
       same = λ rest goal. cite_places before by x rest goal ∙ sym (ap (λ t. step_script t (places_at before rest (state_with_facts (joined x.facts by.lit) x) goal)) is ∙ step_script-Cite by _);
       few = λ few rest goal h. few_line before (Cite by rest) x goal rest (state_with_facts (joined x.facts by.lit) x) few (cite_lines before by x rest goal) h;
+      ready = λ rest goal h. rest_ready before (Cite by rest) x goal rest (state_with_facts (joined x.facts by.lit) x) (cite_lines before by x rest goal) h;
       kept = stay_joined x.facts by.lit;
     })
 
@@ -113,6 +184,7 @@ hence_numbered before lit cert x after s is end =
     (record {
       same = λ rest goal. hence_places before lit cert x rest goal ∙ sym (ap (λ t. step_script t (places_at before rest (state_with_facts (joined x.facts lit) x) goal)) is ∙ step_script-Hence lit (option_map (cert_with_places x.facts lit) cert) _);
       few = λ few rest goal h. few_line before (Hence lit cert rest) x goal rest (state_with_facts (joined x.facts lit) x) few (hence_lines before lit cert x rest goal) h;
+      ready = λ rest goal h. rest_ready before (Hence lit cert rest) x goal rest (state_with_facts (joined x.facts lit) x) (hence_lines before lit cert x rest goal) h;
       kept = stay_joined x.facts lit;
     })
 
@@ -124,6 +196,7 @@ make_numbered before construction names certs x after s is end =
       same = λ rest goal. make_places before construction names certs x rest goal
           ∙ sym (ap (λ t. step_script t (places_at before rest (state_after_make construction x) goal)) is ∙ step_script-Make construction names (certs_with_places x.facts (construct.needs_of_construction construction) certs) _);
       few = λ few rest goal h. few_line before (Make construction names certs rest) x goal rest (state_after_make construction x) few (make_lines before construction names certs x rest goal) h;
+      ready = λ rest goal h. rest_ready before (Make construction names certs rest) x goal rest (state_after_make construction x) (make_lines before construction names certs x rest goal) h;
       kept = stay_all x.facts (construct.gives_of_construction construction x.scope);
     })
 
@@ -137,6 +210,7 @@ apply_numbered before theorem args names certs x after s is end =
     (record {
       same = λ rest goal. apply_places before theorem args names certs x rest goal ∙ sym (ap (λ u. step_script u (places_at before rest (after_apply t (written args) x) goal)) is ∙ step_script-Apply theorem args names placed _);
       few = λ few rest goal h. few_line before (Apply theorem args names certs rest) x goal rest (after_apply t (written args) x) few (apply_lines before theorem args names certs x rest goal) h;
+      ready = λ rest goal h. rest_ready before (Apply theorem args names certs rest) x goal rest (after_apply t (written args) x) (apply_lines before theorem args names certs x rest goal) h;
       kept = stay_all x.facts (gives_of_use t (written args) x.scope);
     })
 
@@ -167,6 +241,7 @@ claim_numbered before shown inner numbered x z after o s placed few e k made end
       few = λ all rest goal h.
           ap (list_all has_few) (claim_lines before shown inner x rest goal)
           ∙ ap₂ {A = Bool} {B = Bool} (λ a b. a && b) (few_first x all) (all_both has_few (steps_in_state before inner x (goal_of shown)) (steps_in_state before rest later goal) few h);
+      ready = λ rest goal h. (both_ready before (Claim shown inner rest) x goal (steps_in_state before inner x (goal_of shown)) (steps_in_state before rest later goal) (claim_lines before shown inner x rest goal) h).1;
       kept = stay_all x.facts shown;
     })
 
@@ -189,6 +264,7 @@ superposed_numbered before superposition names shown certs placed inner numbered
       few = λ all rest goal h.
           ap (list_all has_few) (superposed_lines before superposition names shown certs inner x rest goal)
           ∙ ap₂ {A = Bool} {B = Bool} (λ a b. a && b) (few_first x all) (all_both has_few (steps_in_state before inner begin (goal_of shown)) (steps_in_state before rest later goal) block_few h);
+      ready = λ rest goal h. (both_ready before (Superposed superposition names shown certs inner rest) x goal (steps_in_state before inner begin (goal_of shown)) (steps_in_state before rest later goal) (superposed_lines before superposition names shown certs inner x rest goal) h).1;
       kept = stay_all x.facts shown;
     })
 
@@ -211,6 +287,7 @@ pub step_as : (before : List StatementView) (step : Step) (f g : Script → Scri
 step_as before step f g x after e h = record {
   same = λ rest goal. ap (λ d. places_at before d x goal) (e rest) ∙ h.same rest goal;
   few = λ all rest goal k. subst (λ d. HaveFew before d x goal) (sym (e rest)) (h.few all rest goal k);
+  ready = λ rest goal k. h.ready rest goal (subst (λ d. IsReady before d x goal) (e rest) k);
   kept = h.kept;
 }
 
@@ -251,6 +328,14 @@ pub contradiction_few : (before : List StatementView) (c : Close) (against : Opt
 contradiction_few before c against x goal is few =
     ap (λ d. list_all has_few (steps_in_state before d x goal)) (contradiction_is c against is) ∙ few_close before (Contradiction against) x goal few (contradiction_lines before against x goal)
 
+pub qed_fits : (before : List StatementView) (c : Close) (objects : List Obj) (certs : List Cert) (x : StepState) (goal : Goal) → c ≡ QedClose objects certs → IsReady before (close_script c) x goal
+    → are_for goal x.scope objects ≡ true
+qed_fits before c objects certs x goal is r =
+    let fit = are_for goal x.scope objects in
+    let all = certify_all x.scope x.facts (goal_with goal objects) certs in
+    let h = (first_ready before (Qed objects certs) x goal (subst (λ d. IsReady before d x goal) (qed_is c objects certs is) r)).0 in
+    and_left fit (all && true) h
+
 -- ---- a split
 
 -- what holds after the first block
@@ -283,6 +368,16 @@ cases_few before c lit first second b1 b2 x z after goal all is at1 at2 begun fe
     (all_both has_few (steps_in_state before (script_of first.value) one goal) (steps_in_state before (script_of second.value) two goal)
     (subst (λ b. HaveFew before (script_of b) one goal) at1 (subst (λ q. HaveFew before (script_of b1) q goal) begun few1)) (subst (λ b. HaveFew before (script_of b) two goal) at2 (subst (λ q. HaveFew before (script_of b2) q goal) back few2)))
 
+pub cases_ready : (before : List StatementView) (c : Close) (lit : Lit) (first second : Box Block Global) (x : StepState) (goal : Goal) → c ≡ CasesClose lit first second → IsReady before (close_script c) x goal
+    → IsReady before (script_of first.value) (state_with_facts (joined x.facts lit) x) goal × IsReady before (script_of second.value) (state_with_facts (joined x.facts (negation lit)) x) goal
+cases_ready before c lit first second x goal is r =
+    let d : Script = Cases lit (script_of first.value) (script_of second.value) in
+    both_ready before d x goal (steps_in_state before (script_of first.value) (state_with_facts (joined x.facts lit) x) goal) (steps_in_state before (script_of second.value) (state_with_facts (joined x.facts (negation lit)) x) goal) (cases_lines before lit (script_of first.value) (script_of second.value) x goal)
+    (subst (λ e. IsReady before e x goal) (ap close_script is ∙ close_script-Cases lit first second) r)
+
+pub block_ready : (before : List StatementView) (block : Block) (inner : Box Block Global) (y z : StepState) (goal : Goal) → block ≡ inner.value → z ≡ y → IsReady before (script_of inner.value) y goal → IsReady before (script_of block) z goal
+block_ready before block inner y z goal at begun r = subst (λ b. IsReady before (script_of b) z goal) (sym at) (subst (λ w. IsReady before (script_of inner.value) w goal) (sym begun) r)
+
 -- ---- the steps of a block
 
 pub steps_go_on : (before : List StatementView) (items seen : List Step) (close whole : Script) (i : ℕ) (step s : Step) (done pushed : List Step) (y z : StepState) (goal : Goal) → seen ≡ items → i < length seen → step ≡ get_or seen i step
@@ -300,3 +395,13 @@ pub few_go_on : (before : List StatementView) (items seen : List Step) (close wh
     → HaveFew before (steps_script (drop (i + 1) items) close) z goal → HaveFew before whole x goal
 few_go_on before items seen close whole i step s x y z goal same lt is all h e k =
     e (subst (λ d. HaveFew before d y goal) (sym (steps_at items seen close i step same lt is)) (h.few all (steps_script (drop (i + 1) items) close) goal k))
+
+pub step_ready : (before : List StatementView) (items seen : List Step) (close : Script) (i : ℕ) (step : Step) (y : StepState) (goal : Goal) → seen ≡ items → i < length seen → step ≡ get_or seen i step
+    → IsReady before (steps_script (drop i items) close) y goal → AreReady before (step_script step) y
+step_ready before items seen close i step y goal same lt is r =
+    record { rest = steps_script (drop (i + 1) items) close; goal = goal; ready = subst (λ d. IsReady before d y goal) (steps_at items seen close i step same lt is) r }
+
+pub next_ready : (before : List StatementView) (items seen : List Step) (close : Script) (i : ℕ) (step s : Step) (y z : StepState) (goal : Goal) → seen ≡ items → i < length seen → step ≡ get_or seen i step
+    → IsNumberedStep before (step_script step) y (step_script s) z → IsReady before (steps_script (drop i items) close) y goal → IsReady before (steps_script (drop (i + 1) items) close) z goal
+next_ready before items seen close i step s y z goal same lt is h r =
+    h.ready (steps_script (drop (i + 1) items) close) goal (subst (λ d. IsReady before d y goal) (steps_at items seen close i step same lt is) r)

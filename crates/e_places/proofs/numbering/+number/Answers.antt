@@ -1,14 +1,18 @@
-use Rattle.std.proofs.Common.{sym, ap, ◌∙◌, subst, arith}
+use Rattle.std.proofs.Common.{rules, ◌≡◌, true, sym, ap, ◌∙◌, subst, arith}
 use Rattle.std.specs.Prelude.{IfOk}
 use Rattle.e_literal.specs.Literal.{negation}
+use Rattle.e_literal.specs.Facts.{joined}
+use Rattle.e_construct.specs.Construct.{needs_of_construction}
 use Rattle.e_theorem.specs.Statements.{all_stated}
+use Rattle.e_deriv.specs.declared.block.Close.TheViews.{the_lemmas}
 use Rattle.e_deriv.specs.Script.{Cite, Hence, Make, Apply, Claim, Superposed, script_of, step_script, steps_script, close_script}
-use Rattle.e_deriv.specs.Goal.{goal_view}
+use Rattle.e_deriv.specs.Goal.{goal_view, goal_with, are_for}
 use Rattle.e_verify.specs.Checking.{KeepsFirstFacts}
-use Rattle.e_places.specs.inner.Numbering.{HaveFew, IsNumberedStep, places_at}
+use Rattle.e_verify.specs.StepStates.{state_with_facts}
+use Rattle.e_places.specs.inner.Numbering.{HaveFew, IsReady, IsApplied, IsNumberedStep, places_at}
 use Rattle.e_deriv.proofs.Keeping.{all_stay, stay_joined}
 use Rattle.e_verify.proofs.checking.InnerBlocks.{cite_is, hence_is, make_is, apply_is, claim_is, superposed_is, kept_on, steps_end}
-use Rattle.e_places.proofs.placing.NumberedSteps.{steps_go_on, few_go_on, step_ok, all_before, ok_with, if_ok, where_ok, claim_numbered, superposed_numbered, qed_same, qed_few, contradiction_same, contradiction_few, after_cases, cases_numbered, cases_few}
+use Rattle.e_places.proofs.placing.NumberedSteps.{steps_go_on, few_go_on, step_ok, all_before, ok_with, if_ok, where_ok, claim_numbered, superposed_numbered, qed_same, qed_few, contradiction_same, contradiction_few, after_cases, cases_numbered, cases_few, small_scope, apply_fits, claim_ready, superposed_ready, ready_as, qed_fits, cases_ready, block_ready, step_ready, next_ready}
 use Rattle.e_places.proofs.numbering.+number.Goals as goal
 
 -- ---- a block
@@ -17,6 +21,7 @@ pub number_block-loop-step-init : goal.number_block-loop-step-init
 number_block-loop-step-init t c = record {
   same = ap (λ ss. steps_script ss (places_at (all_stated c.args.before.now) (script_of c.args.block.now) c.args.state.now (goal_view c.args.goal.now))) c.new-steps.ensures.items;
   few = λ h. h;
+  ready = c.requires.ready;
   kept = all_stay c.args.state.now.facts;
 }
 
@@ -33,8 +38,27 @@ number_block-loop-step-preserved t c =
           c.deref-step-items.ensures.value c.loop-step-test.true c.step-item.is c.in-Ok.ensures.step c.in_ok-push-in-Ok.ensures.items c.loop-step.invariant.same;
       few = few_go_on before items seen close (script_of c.args.block.now) c.loop-step.step-index c.step-item.result c.in-Ok.numbered x c.loop-step.state c.number_step.new.state g
           c.deref-step-items.ensures.value c.loop-step-test.true c.step-item.is c.in-Ok.ensures.few c.in-Ok.ensures.step c.loop-step.invariant.few;
+      ready = next_ready before items seen close c.loop-step.step-index c.step-item.result c.in-Ok.numbered c.loop-step.state c.number_step.new.state g
+          c.deref-step-items.ensures.value c.loop-step-test.true c.step-item.is c.in-Ok.ensures.step c.loop-step.invariant.ready;
       kept = kept_on x c.loop-step.state c.number_step.new.state c.loop-step.invariant.kept c.in-Ok.ensures.step.kept;
     }
+
+pub number_block-number_step-requires : goal.number_block-number_step-requires
+number_block-number_step-requires t c = (
+  search (rules, the_lemmas),
+  (
+    step_ready (all_stated c.args.before.now) c.args.block.now.steps.items c.deref-step-items.result.now (close_script c.args.block.now.close) c.loop-step.step-index c.step-item.result c.loop-step.state (goal_view c.args.goal.now)
+        c.deref-step-items.ensures.value c.loop-step-test.true c.step-item.is c.loop-step.invariant.ready,
+    c.requires.statements,
+  ),
+)
+
+pub number_block-number_close-requires : goal.number_block-number_close-requires
+number_block-number_close-requires t c =
+    let end = steps_end c.args.block.now.steps.items c.deref-step-items.result.now (close_script c.args.block.now.close) c.loop-step.step-index c.deref-step-items.ensures.value c.loop-step-test.false in (
+      search (rules, the_lemmas),
+      (subst (λ d. IsReady (all_stated c.args.before.now) d c.loop-step.state (goal_view c.args.goal.now)) end c.loop-step.invariant.ready, c.requires.statements),
+    )
 
 pub number_block-returns-in-Ok-number_close-clause-same : goal.number_block-returns-in-Ok-number_close-clause-same
 number_block-returns-in-Ok-number_close-clause-same t c =
@@ -53,6 +77,71 @@ number_block-returns-in-Ok-number_close-clause-few t c =
 
 pub number_block-returns-in-Ok-number_close-clause-kept : goal.number_block-returns-in-Ok-number_close-clause-kept
 number_block-returns-in-Ok-number_close-clause-kept t c = kept_on c.args.state.now c.loop-step.state c.number_close.new.state c.loop-step.invariant.kept c.in-Ok-number_close.ensures.kept
+
+-- ---- what the parts of a step need
+
+pub number_step-hence-requires : goal.number_step-hence-requires
+number_step-hence-requires t c = omega (arith, c.len.ensures, c.if-len-ge-PLACES.false)
+
+pub number_step-make-requires-clause-few : goal.number_step-make-requires-clause-few
+number_step-make-requires-clause-few t c = omega (arith, c.len.ensures, c.if-len-ge-PLACES.false)
+
+pub number_step-make-requires-clause-scope : goal.number_step-make-requires-clause-scope
+number_step-make-requires-clause-scope t c = small_scope (all_stated c.args.before.now) (step_script c.args.step.now) c.args.state.now c.requires.ready
+
+pub number_step-apply-requires-clause-few : goal.number_step-apply-requires-clause-few
+number_step-apply-requires-clause-few t c = omega (arith, c.len.ensures, c.if-len-ge-PLACES.false)
+
+pub number_step-apply-requires-clause-scope : goal.number_step-apply-requires-clause-scope
+number_step-apply-requires-clause-scope t c = small_scope (all_stated c.args.before.now) (step_script c.args.step.now) c.args.state.now c.requires.ready
+
+pub number_step-apply-requires-clause-applied : goal.number_step-apply-requires-clause-applied
+number_step-apply-requires-clause-applied t c =
+    let y = c.in-Apply in
+    let before = all_stated c.args.before.now in
+    let x = c.args.state.now in
+    subst (λ os. IsApplied before y.theorem os x) (sym c.items-in-Apply.ensures)
+    (apply_fits before y.theorem y.args y.names y.certs x (ready_as before (step_script c.args.step.now) (Apply y.theorem y.args y.names y.certs) x (apply_is c.args.step.now y.theorem y.args y.names y.certs y.is) c.requires.ready))
+
+pub number_step-number_claim-requires : goal.number_step-number_claim-requires
+number_step-number_claim-requires t c =
+    let y = c.in-Claim in (
+      search (rules, the_lemmas),
+      (
+        ready_as (all_stated c.args.before.now) (step_script c.args.step.now) (Claim c.items-in-Claim.result.now (script_of c.deref.result.now)) c.args.state.now
+            (claim_is c.args.step.now y.shown c.items-in-Claim.result.now y.inner c.deref.result.now y.is c.items-in-Claim.ensures c.deref.ensures) c.requires.ready,
+        c.requires.statements,
+      ),
+    )
+
+pub number_claim-number_block-requires : goal.number_claim-number_block-requires
+number_claim-number_block-requires t c = (search (rules, the_lemmas), (claim_ready (all_stated c.args.before.now) c.args.shown.now (script_of c.args.inner.now) c.args.state.now c.requires.ready, c.requires.statements))
+
+pub number_step-number_superposed-requires : goal.number_step-number_superposed-requires
+number_step-number_superposed-requires t c =
+    let y = c.in-Superposed in
+    let ready =
+    ready_as (all_stated c.args.before.now) (step_script c.args.step.now)
+    (Superposed y.superposition c.items-in-Superposed.result.now c.items-in-Superposed-2.result.now c.items-in-Superposed-3.result.now (script_of c.deref-in-Superposed.result.now)) c.args.state.now
+    (λ rest. superposed_is c.args.step.now y.superposition y.names y.shown c.items-in-Superposed-2.result.now y.certs c.items-in-Superposed-3.result.now y.inner c.deref-in-Superposed.result.now y.is c.items-in-Superposed-2.ensures c.items-in-Superposed-3.ensures
+    c.deref-in-Superposed.ensures rest
+    ∙ ap (λ ns. Superposed y.superposition ns c.items-in-Superposed-2.result.now c.items-in-Superposed-3.result.now (script_of c.deref-in-Superposed.result.now) rest) (sym c.items-in-Superposed.ensures)) c.requires.ready
+    in (search (rules, the_lemmas), (ready, (omega (arith, c.len.ensures, c.if-len-ge-PLACES.false), c.requires.statements)))
+
+pub number_superposed-superpose-requires-clause-scope : goal.number_superposed-superpose-requires-clause-scope
+number_superposed-superpose-requires-clause-scope t c =
+    let h = c.args.parts.now in
+    small_scope (all_stated c.args.before.now) (Superposed h.superposition.now h.names.now h.shown.now h.certs.now (script_of c.args.inner.now)) c.args.state.now c.requires.ready
+
+pub number_superposed-number_block-requires : goal.number_superposed-number_block-requires
+number_superposed-number_block-requires t c =
+    let h = c.args.parts.now in (
+      search (rules, the_lemmas),
+      (
+        superposed_ready (all_stated c.args.before.now) h.superposition.now h.names.now h.shown.now h.certs.now (script_of c.args.inner.now) c.args.state.now c.superpose.new.state c.in-Ok.ensures.after c.requires.ready,
+        c.requires.statements,
+      ),
+    )
 
 -- ---- steps of one line
 
@@ -120,6 +209,48 @@ number_superposed-returns-in-Ok-number_block t c =
     c.in-Ok-number_block.ensures.kept made end)
 
 -- ---- closes
+
+pub number_close-number_qed-requires-clause-few : goal.number_close-number_qed-requires-clause-few
+number_close-number_qed-requires-clause-few t c = omega (arith, c.len.ensures, c.if-len-ge-PLACES.false)
+
+pub number_close-number_qed-requires-clause-objects : goal.number_close-number_qed-requires-clause-objects
+number_close-number_qed-requires-clause-objects t c =
+    let y = c.in-Qed in
+    let g = goal_view c.args.goal.now in
+    ap (are_for g c.args.state.now.scope) c.items.ensures ∙ qed_fits (all_stated c.args.before.now) c.args.close.now y.objects y.certs c.args.state.now g y.is c.requires.ready
+
+pub number_close-number_contradiction-requires : goal.number_close-number_contradiction-requires
+number_close-number_contradiction-requires t c = omega (arith, c.len.ensures, c.if-len-ge-PLACES.false)
+
+pub number_close-number_block-requires : goal.number_close-number_block-requires
+number_close-number_block-requires t c =
+    let y = c.in-Cases in
+    let x = c.args.state.now in
+    let g = goal_view c.args.goal.now in
+    let before = all_stated c.args.before.now in (
+      search (rules, the_lemmas),
+      (
+        block_ready before c.deref.result.now y.first (state_with_facts (joined x.facts y.lit) x) c.assume.new.self g c.deref.ensures c.in_ok-assume-in-Cases.ensures (cases_ready before c.args.close.now y.lit y.first y.second x g y.is c.requires.ready).0,
+        c.requires.statements,
+      ),
+    )
+
+pub number_close-number_block-requires-in-Cases : goal.number_close-number_block-requires-in-Cases
+number_close-number_block-requires-in-Cases t c =
+    let y = c.in-Cases in
+    let x = c.args.state.now in
+    let g = goal_view c.args.goal.now in
+    let before = all_stated c.args.before.now in
+    let back =
+    after_cases x c.assume.new.self c.number_block.new.state c.restore.new.self c.assume_not.new.self y.lit c.checkpoint-outer.result c.in_ok-assume-in-Cases.ensures c.checkpoint-outer.ensures c.in-Ok.ensures.kept c.restore.ensures
+    c.in-Ok-assume_not.ensures
+    in (
+      search (rules, the_lemmas),
+      (
+        block_ready before c.deref-in-Cases.result.now y.second (state_with_facts (joined x.facts (negation y.lit)) x) c.assume_not.new.self g c.deref-in-Cases.ensures back (cases_ready before c.args.close.now y.lit y.first y.second x g y.is c.requires.ready).1,
+        c.requires.statements,
+      ),
+    )
 
 pub number_close-returns-in-Qed-clause-same : goal.number_close-returns-in-Qed-clause-same
 number_close-returns-in-Qed-clause-same t c =

@@ -2,7 +2,7 @@ use Rattle.std.proofs.Common.{◌≡◌, ◌+◌, ◌*◌, drop}
 use Rattle.e_theorem.specs.Statements.{all_stated}
 use Rattle.e_deriv.specs.Script.{script_of, steps_script, close_script}
 use Rattle.e_deriv.specs.Goal.{goal_view}
-use Rattle.e_places.specs.inner.Numbering.{HaveFew, places_at}
+use Rattle.e_places.specs.inner.Numbering.{HaveFew, IsReady, places_at}
 use Rattle.e_verify.specs.Checking.{KeepsFirstFacts}
 use Rattle.e_places.proofs.numbering.+number.Given as goal
 
@@ -28,5 +28,6 @@ invariant-number_block-loop-step l =
       same : steps_script l.steps.items (places_at (all_stated l.before) (steps_script (drop l.step-index l.block.steps.items) (close_script l.block.close)) l.state (goal_view l.goal))
           ≡ places_at (all_stated l.before) (script_of l.block) l.initial.state (goal_view l.goal);
       few : HaveFew (all_stated l.before) (steps_script (drop l.step-index l.block.steps.items) (close_script l.block.close)) l.state (goal_view l.goal) → HaveFew (all_stated l.before) (script_of l.block) l.initial.state (goal_view l.goal);
+      ready : IsReady (all_stated l.before) (steps_script (drop l.step-index l.block.steps.items) (close_script l.block.close)) l.state (goal_view l.goal);
       kept : KeepsFirstFacts l.initial.state l.state;
     }

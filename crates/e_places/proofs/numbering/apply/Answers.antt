@@ -1,7 +1,8 @@
-use Rattle.std.proofs.Common.{ap, sym, ◌∙◌}
+use Rattle.std.proofs.Common.{ap, sym, ◌∙◌, subst, true≢false}
 use Rattle.std.specs.Prelude.{unwrap_or}
 use Rattle.std.specs.Option.{option_map}
-use Rattle.e_literal.specs.Use.{needs_of_use, gives_of_use}
+use Rattle.e_literal.specs.Use.{are_arguments, needs_of_use, gives_of_use}
+use Rattle.e_theorem.specs.Faults.{UseFaultIs}
 use Rattle.e_theorem.specs.Statements.{stated, all_stated}
 use Rattle.e_deriv.specs.declared.block.Step.TheVariants.{Apply as ApplyStep}
 use Rattle.e_deriv.specs.PlacedSteps.{no_statement}
@@ -17,39 +18,47 @@ pub use_of-requires-clause-few : goal.use_of-requires-clause-few
 use_of-requires-clause-few c =
     let y = c.args.application.now in
     let e = sym (ap (option_map (λ v. v.items)) c.in-Some-2.is) ∙ c.in_ok-objects.ensures in
-    let f = fits_of c.args.before.now y.theorem y.args.now c.in-Some.statement.now c.in-Some-2.objects.items c.requires c.in-Some.ensures.lookup.3.0 c.in-Some.ensures.lookup.1 e in
-    (few_new_of c.args.state.now.scope (stated c.in-Some.statement.now) (sym c.has_room.ensures ∙ c.if-not-has_room.false) f.small).0
+    let f = fits_of c.args.before.now y.theorem y.args.now c.in-Some.statement.now c.in-Some-2.objects.items c.requires.statements c.in-Some.ensures.lookup.3.0 c.in-Some.ensures.lookup.1 e in
+    (few_new_of c.args.state.now.scope (stated c.in-Some.statement.now) c.requires.scope f.small).0
 
 pub use_of-requires-clause-points : goal.use_of-requires-clause-points
 use_of-requires-clause-points c =
     let y = c.args.application.now in
     let e = sym (ap (option_map (λ v. v.items)) c.in-Some-2.is) ∙ c.in_ok-objects.ensures in
-    let f = fits_of c.args.before.now y.theorem y.args.now c.in-Some.statement.now c.in-Some-2.objects.items c.requires c.in-Some.ensures.lookup.3.0 c.in-Some.ensures.lookup.1 e in
-    (few_new_of c.args.state.now.scope (stated c.in-Some.statement.now) (sym c.has_room.ensures ∙ c.if-not-has_room.false) f.small).1
+    let f = fits_of c.args.before.now y.theorem y.args.now c.in-Some.statement.now c.in-Some-2.objects.items c.requires.statements c.in-Some.ensures.lookup.3.0 c.in-Some.ensures.lookup.1 e in
+    (few_new_of c.args.state.now.scope (stated c.in-Some.statement.now) c.requires.scope f.small).1
 
 pub use_of-requires-clause-lines : goal.use_of-requires-clause-lines
 use_of-requires-clause-lines c =
     let y = c.args.application.now in
     let e = sym (ap (option_map (λ v. v.items)) c.in-Some-2.is) ∙ c.in_ok-objects.ensures in
-    let f = fits_of c.args.before.now y.theorem y.args.now c.in-Some.statement.now c.in-Some-2.objects.items c.requires c.in-Some.ensures.lookup.3.0 c.in-Some.ensures.lookup.1 e in
-    (few_new_of c.args.state.now.scope (stated c.in-Some.statement.now) (sym c.has_room.ensures ∙ c.if-not-has_room.false) f.small).2
+    let f = fits_of c.args.before.now y.theorem y.args.now c.in-Some.statement.now c.in-Some-2.objects.items c.requires.statements c.in-Some.ensures.lookup.3.0 c.in-Some.ensures.lookup.1 e in
+    (few_new_of c.args.state.now.scope (stated c.in-Some.statement.now) c.requires.scope f.small).2
 
 pub use_of-requires-clause-circles : goal.use_of-requires-clause-circles
 use_of-requires-clause-circles c =
     let y = c.args.application.now in
     let e = sym (ap (option_map (λ v. v.items)) c.in-Some-2.is) ∙ c.in_ok-objects.ensures in
-    let f = fits_of c.args.before.now y.theorem y.args.now c.in-Some.statement.now c.in-Some-2.objects.items c.requires c.in-Some.ensures.lookup.3.0 c.in-Some.ensures.lookup.1 e in
-    (few_new_of c.args.state.now.scope (stated c.in-Some.statement.now) (sym c.has_room.ensures ∙ c.if-not-has_room.false) f.small).3
+    let f = fits_of c.args.before.now y.theorem y.args.now c.in-Some.statement.now c.in-Some-2.objects.items c.requires.statements c.in-Some.ensures.lookup.3.0 c.in-Some.ensures.lookup.1 e in
+    (few_new_of c.args.state.now.scope (stated c.in-Some.statement.now) c.requires.scope f.small).3
 
 pub take_use-step-requires-clause-statement : goal.take_use-step-requires-clause-statement
 take_use-step-requires-clause-statement c =
     let y = c.args.application.now in
     let e = sym (ap (option_map (λ v. v.items)) c.in-Some-2.is) ∙ c.in_ok-objects.ensures in
-    let f = fits_of c.args.before.now y.theorem y.args.now c.in-Some.statement.now c.in-Some-2.objects.items c.requires c.in-Some.ensures.lookup.3.0 c.in-Some.ensures.lookup.1 e in
+    let f = fits_of c.args.before.now y.theorem y.args.now c.in-Some.statement.now c.in-Some-2.objects.items c.requires.statements c.in-Some.ensures.lookup.3.0 c.in-Some.ensures.lookup.1 e in
     f.small
 
-pub take_use-step-requires-clause-scope : goal.take_use-step-requires-clause-scope
-take_use-step-requires-clause-scope c = sym c.has_room.ensures ∙ c.if-not-has_room.false
+pub unreachable-requires-in-Err-BadArgs : goal.unreachable-requires-in-Err-BadArgs
+unreachable-requires-in-Err-BadArgs c =
+    let y = c.args.application.now in
+    let t = stated c.in-Some.statement.now in
+    let s = c.args.state.now.scope in
+    let e = sym (ap (option_map (λ v. v.items)) c.in-Some-2.is) ∙ c.in_ok-objects.ensures in
+    let w = all_are_written c.in-Some-2.objects.items (written y.args.now) (has_no_blank y.args.now) e in
+    let there = ap (λ o. unwrap_or o no_statement) (theorem_there c.args.before.now y.theorem c.in-Some.statement.now c.in-Some.ensures.lookup.3.0 c.in-Some.ensures.lookup.1) in
+    let no = subst (UseFaultIs t c.deref.result.now s) c.in-Err-BadArgs.field-0-is c.in-Err-BadArgs.ensures.err in
+    true≢false (sym (ap (are_arguments t s) (c.deref.ensures.value ∙ w.1) ∙ ap (λ u. are_arguments u s (written y.args.now)) (sym there) ∙ c.requires.applied.fit) ∙ no)
 
 pub returns : goal.returns
 returns c =

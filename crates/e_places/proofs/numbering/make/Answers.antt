@@ -1,11 +1,8 @@
-use Rattle.std.proofs.Common.{ap, sym, ◌∙◌}
+use Rattle.std.proofs.Common.{ap, ◌∙◌}
 use Rattle.e_deriv.specs.declared.block.Step.TheVariants.{Make as MakeStep}
 use Rattle.e_places.specs.Numbered.{certs_with_places}
 use Rattle.e_places.proofs.placing.NumberedSteps.{make_numbered}
 use Rattle.e_places.proofs.numbering.make.Goals as goal
-
-pub add_construction-requires : goal.add_construction-requires
-add_construction-requires c = sym c.has_room.ensures ∙ c.if-not-has_room.false
 
 pub returns-in-Ok : goal.returns-in-Ok
 returns-in-Ok c before =

@@ -19,6 +19,7 @@ use Rattle.e_verify.specs.StepStates.{state_at_start}
 use Rattle.e_places.specs.inner.Numbering.{HaveFew, places_at}
 use Rattle.e_verify.proofs.checking.DerivationsOfStatements.{few_declared, few_more}
 use Rattle.e_places.proofs.placing.NumberedLines.{numbered_certified, numbered_erased, numbered_of_second}
+use Rattle.e_places.proofs.placing.NumberedSteps.{start_ready}
 use Rattle.e_places.proofs.numbering.numbered.Goals as goal
 
 abbrev as_goal : List Obj → List Lit → Goal
@@ -58,6 +59,13 @@ made_is t s declared made seen said is same like next at =
 
 goal_is : (t : StatementView) (made : List Obj) (shown : List Lit) → made ≡ next_objects (scope_of t) t.made → shown ≡ t.shown → as_goal made shown ≡ goal_of_statement t
 goal_is t made shown m e = ap (λ ms. as_goal ms shown) m ∙ ap (as_goal (next_objects (scope_of t) t.made)) e
+
+pub number_block-requires-clause-ready : goal.number_block-requires-clause-ready
+number_block-requires-clause-ready c =
+    let t = stated c.args.statement.now in
+    let made = made_is t c.grown-scope.result c.items.result.now c.items-2.result.now c.deref.result.now c.in_ok-made.made.items c.grown-scope.ensures c.items.ensures c.items-2.ensures c.in_ok-made.ensures c.deref.ensures.value in
+    start_ready (all_stated c.args.before.now) t (script_of c.args.deriv.now) c.in_ok-state.state (as_goal c.deref.result.now c.items-3.result.now) c.requires.certified c.requires.verifiable.scopes c.in_ok-state.ensures
+    (goal_is t c.deref.result.now c.items-3.result.now made c.items-3.ensures)
 
 -- with places from the start of the statement
 whole : (before : List StatementView) (t : StatementView) (d p : Script) (x : StepState) (g : Goal) → x ≡ state_at_start t → g ≡ goal_of_statement t → p ≡ places_at before d x g → p ≡ derivation_with_places before t d
@@ -119,5 +127,5 @@ returns-clause-version c =
     ∙ numbered_of_second before d (scope_of t) (facts_of_statement t) (goal_of_statement t) c.requires.verifiable.written
     (subst (λ h. HaveFew before d (state_at_start t) h) same (subst (λ y. HaveFew before d y g) c.in_ok-state.ensures few)))
 
-pub number_block-requires : goal.number_block-requires
-number_block-requires c = c.requires.verifiable.statements
+pub number_block-requires-clause-statements : goal.number_block-requires-clause-statements
+number_block-requires-clause-statements c = c.requires.verifiable.statements
