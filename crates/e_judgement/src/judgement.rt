@@ -3,7 +3,7 @@
 use e_text::Title;
 
 /// How a derivation text is judged.
-#[derive(Clone, Copy)]
+#[derive(Clone, Copy, Debug, PartialEq)]
 pub enum Judgement {
     /// No line is malformed at its place, and each certificate certifies at its own step.
     Verified { theorems: u32 },
