@@ -7,7 +7,7 @@ ghost use Rattle.e_literal.specs.Literal.{negation};
 ghost use Rattle.e_literal.specs.Same.{term_eq};
 ghost use Rattle.e_clause.specs.Assignment.{terms_of_wanted};
 ghost use Rattle.e_trim.specs.Looked;
-ghost use Rattle.e_trim.specs.Looked.{both, looked_up, first_that, has_written};
+ghost use Rattle.e_trim.specs.Looked.{both, wanted_lits, first_that, has_written};
 ghost use Rattle.e_trim.specs.Looked.{parts_ends, of_row, of_sum, of_sums, of_part};
 ghost use Rattle.e_trim.specs.Looked.{of_transfer, of_cert, of_certs, of_against, of_term};
 ghost use Rattle.e_trim.specs.inner.Wanted.{of_negated};
@@ -70,7 +70,7 @@ fn look_up_parting(
     out: &mut Wanted,
 ) -> Result<(), AllocError>
     ensures { OnOk result
-        (out.new ≡ both out.old (looked_up (first_that (Looked.parts_ends term) facts.now))) }
+        (out.new ≡ both out.old (wanted_lits (first_that (Looked.parts_ends term) facts.now))) }
 {
     for fact in facts.items() {
         if parts_ends(fact, term) {
@@ -88,7 +88,7 @@ fn look_up_written(
     out: &mut Wanted,
 ) -> Result<(), AllocError>
     ensures { OnOk result
-        (out.new ≡ both out.old (looked_up (first_that (Looked.has_written term) facts.now))) }
+        (out.new ≡ both out.old (wanted_lits (first_that (Looked.has_written term) facts.now))) }
 {
     for fact in facts.items() {
         if has_written(fact, term) {

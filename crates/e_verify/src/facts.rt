@@ -3,7 +3,7 @@
 ghost use Rattle.std.specs.Prelude.{◌≡◌, ◌≤◌, [], take, length, slice_get, OnOk};
 ghost use Rattle.std.specs.List.{list_any, position};
 ghost use Rattle.std.specs.Option.{option_copied};
-ghost use Rattle.e_literal.specs.Facts.{has as is_fact, has_all, joined, joined_all};
+ghost use Rattle.e_literal.specs.Facts.{has as is_fact, has_all, with_fact, with_facts};
 ghost use Rattle.e_literal.specs.Facts.{are_apart as say_apart, are_equal_points};
 ghost use Rattle.e_literal.specs.Literal.{negation};
 ghost use Rattle.e_literal.specs.Same.{same_lit, term_eq};
@@ -139,9 +139,9 @@ impl Facts {
     }
 
     /// Puts the literal last, unless one the same is there.
-    #[tactic(auto, unfolding(e_literal::specs::Facts::joined))]
+    #[tactic(auto, unfolding(e_literal::specs::Facts::with_fact))]
     pub(crate) fn add(&mut self, lit: Lit) -> Result<(), AllocError>
-        ensures { OnOk result (self.new ≡ joined self.old lit) }
+        ensures { OnOk result (self.new ≡ with_fact self.old lit) }
     {
         let fingerprint = fingerprint_of(&lit);
         if has_same(&self.lits, &lit, fingerprint) {
@@ -154,7 +154,7 @@ impl Facts {
 
     /// Puts the literals in, one after the other.
     pub(crate) fn join(&mut self, lits: Vec<Lit>) -> Result<(), AllocError>
-        ensures { OnOk result (self.new ≡ joined_all self.old lits.items) }
+        ensures { OnOk result (self.new ≡ with_facts self.old lits.items) }
     {
         for lit in lits {
             self.add(lit)?;
