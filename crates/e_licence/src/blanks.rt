@@ -272,7 +272,7 @@ pub fn images(
         (λ map. map ≡ BlankChoices.images_of_choice scope declared.now pattern.now part.now) }
 {
     let args = arguments(alloc, scope, declared, pattern, part)?;
-    let images = of_pairs(alloc, declared, &args)?;
+    let images = Map::of_pairs(alloc, declared, &args)?;
     Ok(images)
 }
 

@@ -49,7 +49,7 @@ impl Map {
     /// that of its first place.
     ///
     /// It fails only when out of memory.
-    pub fn pairs_of(alloc: Global, from: &[Obj], to: &[Obj]) -> Result<Self, AllocError>
+    pub fn of_pairs(alloc: Global, from: &[Obj], to: &[Obj]) -> Result<Self, AllocError>
         requires one_sort { map (λ o. o.sort) from.now ≡ map (λ o. o.sort) to.now }
         ensures { IfOk result (λ m. m ≡ pairs_of from.now to.now) }
     {

@@ -131,7 +131,7 @@ fn with_objects(
     ensures { IfOk result
         (λ ls. ls ≡ map (Rename.with_images (image_in (pairs_of made.now objects.now))) shown.now) }
 {
-    let images = Map::pairs_of(alloc, made, objects)?;
+    let images = Map::of_pairs(alloc, made, objects)?;
     let with = all_renamed(alloc, shown, &images)?;
     Ok(Items::new(with))
 }

@@ -132,7 +132,7 @@ fn images_declared(
         (λ m. (o : Object) → image_in m o ≡ image_in_use (as_stated notion.now) args.now scope o) }
 {
     let sources = next_objects(alloc, NOTHING, notion.declared.items())?;
-    let images = of_pairs(alloc, &sources, args)?;
+    let images = Map::of_pairs(alloc, &sources, args)?;
     Ok(images)
 }
 
@@ -154,7 +154,7 @@ fn images(
     let sources = objects(alloc, statement)?;
     let mut targets = Vec::from_slice(alloc, args)?;
     targets.extend_from_slice(&next_objects(alloc, scope, statement.made.items())?)?;
-    let images = of_pairs(alloc, &sources, &targets)?;
+    let images = Map::of_pairs(alloc, &sources, &targets)?;
     Ok(images)
 }
 

@@ -29,7 +29,7 @@ use Rattle.e_clause.specs.declared.cert.RowName.{RowName}
 use Rattle.e_clause.specs.declared.cert.RowName.TheVariants.{Fact, Pos, Top, Least}
 use Rattle.e_clause.specs.declared.cert.Sums.{Sums}
 use Rattle.e_clause.specs.declared.cert.Sums.TheVariants.{One, Two}
-use Rattle.e_clause.specs.Assignment.{terms_of_atom, terms_of_wanted}
+use Rattle.e_clause.specs.Assignment.{terms_of_wanted, lit_has_term}
 use Rattle.e_clause.specs.Instance.{Inst}
 use Rattle.e_deriv.specs.Script.{Script, Cite, Hence, Make, Apply, Claim, Superposed, Qed}
 use Rattle.e_deriv.specs.Script.{Contradiction, Cases}
@@ -74,10 +74,6 @@ abbrev pub first_that : (Lit → Bool) → List Lit → List Lit
 first_that p [] = []
 first_that p (f ∷ facts) = if p f then f ∷ [] else first_that p facts
 
--- the literal has the term, as it is written
-abbrev pub has_written : Term → Lit → Bool
-has_written t l = list_any (term_eq t) (terms_of_atom l.atom)
-
 -- the literal says that the ends of the segment differ, in one order or the other
 abbrev pub parts_ends : Term → Lit → Bool
 parts_ends (Seg a b) l =
@@ -88,7 +84,7 @@ parts_ends _ l = false
 abbrev pub of_term : List Lit → Option Lit → Term → Wants
 of_term facts wanted t = record {
   lits = if list_any (term_eq t) (terms_of_wanted wanted) then [] else
-      first_that (has_written t) facts;
+      first_that (lit_has_term t) facts;
   objects = objects_of_term t;
 }
 

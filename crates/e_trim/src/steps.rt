@@ -347,7 +347,7 @@ fn goal_with(alloc: Global, goal: &Goal, objects: &[Obj]) -> Result<Vec<Lit>, Al
     requires one_sort { map (λ o. o.sort) goal.now.made.now ≡ map (λ o. o.sort) objects.now }
     ensures { IfOk result (λ lits. lits.items ≡ goals.goal_with (goal_view goal.now) objects.now) }
 {
-    let images = of_pairs(alloc, goal.made, objects)?;
+    let images = Map::of_pairs(alloc, goal.made, objects)?;
     all_renamed(alloc, goal.shown, &images)
 }
 
