@@ -43,7 +43,8 @@ pub record Derived : Type 0 where
 pub record IsDerived (known : List TitledStatement) (d : Derived) : Type 0 where
   pub proves : IsProof (stated_by known) (stated d.theorem.statement) d.derivation
   pub certified : Certified (stated_by known) (stated d.theorem.statement) d.derivation
-  pub own : script_without_certs d.derivation ≡ filled_by (script_without_certs d.theorem.script) d.derivation
+  pub own : script_without_certs d.derivation
+      ≡ filled_by (script_without_certs d.theorem.script) d.derivation
   pub least : AllLicensed (stated_by known)
       (proof_steps (stated_by known) (stated d.theorem.statement) d.theorem.script d.derivation)
   pub written : IsTrue (is_written_well d.derivation)

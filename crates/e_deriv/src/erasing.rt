@@ -2,7 +2,8 @@
 ghost use Rattle.std.specs.Prelude.{◌≡◌, [], IfOk};
 ghost use Rattle.e_deriv.specs.declared.block.Step.TheVariants.{Make as MakeStep};
 ghost use Rattle.e_deriv.specs.declared.block.Step.TheVariants.{Apply as ApplyStep};
-ghost use Rattle.e_deriv.specs.Script.{Script, script_of, step_script, close_script, script_without_certs};
+ghost use Rattle.e_deriv.specs.Script.{Script, script_of, step_script};
+ghost use Rattle.e_deriv.specs.Script.{close_script, script_without_certs};
 
 use crate::block::{Block, Close, Step};
 use crate::inner::{claim, cases, superpose};
@@ -42,8 +43,8 @@ pub fn erase(alloc: Global, block: &Block) -> Result<Block, AllocError>
 #[cycle(erase)]
 #[tactic(auto, using(crate::proofs::Scripts::erasing))]
 fn erase_step(alloc: Global, step: &Step) -> Result<Step, AllocError>
-    ensures { IfOk result
-        (λ s. (rest : Script) → step_script s (script_without_certs rest) ≡ script_without_certs (step_script step.now rest)) }
+    ensures { IfOk result (λ s. (rest : Script) → step_script s (script_without_certs rest)
+        ≡ script_without_certs (step_script step.now rest)) }
 {
     match step {
         Step::Cite(by) => Ok(Step::Cite(copy_by(alloc, by)?)),

@@ -60,7 +60,8 @@ pub fn numbered(
         (script_of deriv.now) }
     ensures numbered { IfOk result (λ d. script_of d ≡ derivation_with_places
         (all_stated before.now) (stated statement.now) (script_of deriv.now)) }
-    ensures script { IfOk result (λ d. script_without_certs (script_of d) ≡ script_without_certs (script_of deriv.now)) }
+    ensures script { IfOk result
+        (λ d. script_without_certs (script_of d) ≡ script_without_certs (script_of deriv.now)) }
     ensures certified { IfOk result
         (λ d. Certified (all_stated before.now) (stated statement.now) (script_of d)) }
     ensures version { IfOk result (λ d. IsTrue (has_certs_of version.Two (script_of d))) }

@@ -128,9 +128,12 @@ abbrev pub TrimmedHasSpelling : Type 0
 TrimmedHasSpelling =
     (known : List TitledStatement) (t : TheoremView)
     → IsTrue (list_all is_small_statement (stated_by known))
-    → HasSpelling known (record t { script = script_without_certs t.script }) → IsTrue (has_certs_of One t.script)
+    → HasSpelling known (record t { script = script_without_certs t.script })
+    → IsTrue (has_certs_of One t.script)
     → Certified (stated_by known) (stated t.statement) t.script → HasSpelling known
-    (record t { script = script_without_certs (trimmed (stated_by known) (stated t.statement) t.script) })
+    (record t {
+      script = script_without_certs (trimmed (stated_by known) (stated t.statement) t.script);
+    })
 
 -- ---- what is written is judged
 

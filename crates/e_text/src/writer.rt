@@ -37,7 +37,8 @@ pub fn put(out: &mut Vec<u8>, word: &[u8]) -> Result<(), AllocError>
 
 /// Writes words in their order, each after a space.
 pub fn put_words(out: &mut Vec<u8>, words: &[&[u8]]) -> Result<(), AllocError>
-    ensures ok { OnOk result (out.new.items ≡ out.old.items ++ spaced (map (λ w. w.now) words.now)) }
+    ensures ok { OnOk result
+        (out.new.items ≡ out.old.items ++ spaced (map (λ w. w.now) words.now)) }
     ensures err { OnErr result (out.new.items ≡ out.old.items) }
 {
     let before = out.len();

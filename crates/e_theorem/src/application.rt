@@ -15,7 +15,9 @@ ghost use Rattle.e_theorem.specs.declared.application.UseFault.TheVariants.{NoMe
 
 use crate::notion::Notion;
 use crate::statement::Statement;
-use e_literal::{Items, Lit, Map, NOTHING, Obj, Scope, Sort, count, grown, next_objects, with_images};
+use e_literal::{
+    Items, Lit, Map, NOTHING, Obj, Scope, Sort, count, grown, next_objects, with_images,
+};
 use std::alloc::{AllocError, Global};
 use thiserror::Error;
 

@@ -68,8 +68,8 @@ fn look_up_written(
     term: Term,
     out: &mut Wanted,
 ) -> Result<(), AllocError>
-    ensures { OnOk result
-        (out.new ≡ both out.old (wanted_lits (first_that (Assignment.lit_has_term term) facts.now))) }
+    ensures { OnOk result (out.new
+        ≡ both out.old (wanted_lits (first_that (Assignment.lit_has_term term) facts.now))) }
 {
     for fact in facts.items() {
         if lit_has_term(fact, term) {

@@ -81,8 +81,8 @@ fn answered_by_known(
     answered
 }
 
-// The same as `word_for_goal`, where these facts come after the others, and the question is asked before
-// each too.
+// The same as `word_for_goal`, where these facts come after the others, and the question is asked
+// before each too.
 fn answered_after(
     rt: &impl Abort,
     alloc: Global,

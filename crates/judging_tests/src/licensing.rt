@@ -139,7 +139,11 @@ fn word_against(refuted: &Refuted) -> &'static str {
     }
 }
 
-fn word_of_facts_alone(rt: &impl Abort, alloc: Global, facts: &str) -> Result<&'static str, AllocError> {
+fn word_against_facts(
+    rt: &impl Abort,
+    alloc: Global,
+    facts: &str,
+) -> Result<&'static str, AllocError> {
     let context = context(rt, alloc, SCOPE, facts)?;
     let refuted = refute(alloc, &context);
     mem::drop(context);
@@ -152,7 +156,7 @@ fn word_of_facts_alone(rt: &impl Abort, alloc: Global, facts: &str) -> Result<&'
 #[test]
 fn what_contradicts(rt: HostRuntime) -> Result<(), Fail> {
     for step in contradictions().split('\n') {
-        let refuted = word_of_facts_alone(&rt, rt.alloc(), part(step, 0))?;
+        let refuted = word_against_facts(&rt, rt.alloc(), part(step, 0))?;
         assert_eq!(rt; refuted, part(step, 1), "{step}");
     }
     Ok(())

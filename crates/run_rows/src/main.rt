@@ -100,7 +100,12 @@ fn bytes_of_text(alloc: Global, text: &str) -> Result<Vec<u8>, AllocError> {
 }
 
 /// The written bytes and the exit status, in one line; of more bytes than these the last line alone.
-fn line_of_answer(alloc: Global, written: &[u8], exit: u8, most: usize) -> Result<String, AllocError> {
+fn line_of_answer(
+    alloc: Global,
+    written: &[u8],
+    exit: u8,
+    most: usize,
+) -> Result<String, AllocError> {
     let lines = str::from_utf8(written).unwrap_or("");
     let mut text = String::new(alloc);
     if lines.len() > most {

@@ -94,7 +94,11 @@ pub fn run_and_keep(
 }
 
 /// A run whose bytes are kept nowhere.
-pub fn run_without_sink(alloc: Global, asked: &Asked, reads: Calls) -> Result<Answered, AllocError> {
+pub fn run_without_sink(
+    alloc: Global,
+    asked: &Asked,
+    reads: Calls,
+) -> Result<Answered, AllocError> {
     let mut source = source_of(alloc, &asked.text, reads)?;
     let mut sink = NullSink::new();
     let status = run(alloc, &asked.words, &mut source, &mut sink);

@@ -48,7 +48,8 @@ pub record IsLicensedStep (before : List StatementView) (step : Step) (x : StepS
       (step_from_basis (step_script step rest) (step_script derived more) x.context goal)) →
       IsTrue (is_certified before
       (step_from_basis (step_script derived more) (step_script derived more) x.context goal))
-  pub erased : (rest more : Script) → script_without_certs more ≡ filled_by (script_without_certs rest) more →
+  pub erased : (rest more : Script)
+      → script_without_certs more ≡ filled_by (script_without_certs rest) more →
       script_without_certs (step_script derived more)
       ≡ filled_by (script_without_certs (step_script step rest)) (step_script derived more)
   pub written : (more : Script) → IsTrue (has_certs_of version.One more)
