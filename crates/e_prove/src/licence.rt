@@ -5,7 +5,7 @@ ghost use Rattle.e_literal.specs.Facts.{has, has_all, others};
 ghost use Rattle.e_literal.specs.Literal.{negation};
 ghost use Rattle.e_clause.specs.Certify.{certifies, certify_all};
 ghost use Rattle.e_clause.specs.LimitedFacts.{is_well_formed_in, are_well_formed_in};
-ghost use Rattle.e_deriv.specs.Steps.{instance_gives, is_cited as gives_cited};
+ghost use Rattle.e_deriv.specs.Steps.{is_cited as gives_cited};
 ghost use Rattle.e_clause.specs.declared.cert.Version.TheVariants as version;
 ghost use Rattle.e_clause.specs.Versions.{is_cert_of};
 ghost use Rattle.e_prove.specs.inner.StopsOfSteps.{StepStopsAmong};

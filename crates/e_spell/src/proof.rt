@@ -6,7 +6,7 @@ ghost use Rattle.e_deriv.specs.Script.{script_of, close_script};
 ghost use Rattle.e_names.specs.Canonical.{hence_raw_line, let_raw_line, apply_raw_line};
 ghost use Rattle.e_spell.specs.inner.Parts.{raw_line_text, certs_text, superposition_text};
 ghost use Rattle.e_spell.specs.inner.Parts.{qed_text, step_text, steps_text, names_after};
-ghost use Rattle.e_spell.specs.inner.Parts.{script_text, contradicted_text, proof_text};
+ghost use Rattle.e_spell.specs.inner.Parts.{script_text, contradicted_text};
 
 use crate::certificates::{put_against_of, put_cert_of, put_certs};
 use crate::literals::put_literal_line;
