@@ -59,7 +59,7 @@ fn answered_by(
     if goal.is_empty() {
         return Ok(word_of(known.absurd_in_turn(alloc, facts)?));
     }
-    known.bring_all(alloc, facts)?;
+    known.catch_up_all(alloc, facts)?;
     let goal = lit(alloc, goal)?;
     assert!(rt; is_metric_goal(&goal));
     let answered = known.follows(alloc, facts, &goal);
