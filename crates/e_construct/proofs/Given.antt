@@ -16,12 +16,12 @@ use Rattle.e_literal.specs.declared.literal.Lit.{Lit}
 use Rattle.e_literal.specs.Literal.{obj, count_of, is_in_scope, objects_of_atom, all_in_scope}
 use Rattle.e_literal.specs.Scopes.{same_sort, with_one, grown, next_objects, are_of_sorts}
 use Rattle.e_literal.specs.declared.map.Entry.{Entry}
-use Rattle.e_literal.specs.Rename.{renamed, same_obj, image_in, paired}
+use Rattle.e_literal.specs.Rename.{with_images, same_obj, image_in, pairs_of}
 use Rattle.e_construct.specs.declared.construction.Shape.{Shape}
 use Rattle.e_construct.specs.declared.construction.Shape.TheVariants.{Free}
 use Rattle.e_construct.specs.declared.construction.Construction.{Construction}
 use Rattle.e_construct.specs.Shapes.{ShapeRow, Avoids, NoObject, AnyObject, AnyApartFrom, shape_row}
-use Rattle.e_construct.specs.Construct.{row_of_construction, sorts_of, avoids_well, fits_construction, equation, unequal, argument, of_sort, needs_of_avoided, needs_of_construction, sorts_made, meeting, avoiding, gives_of_avoided, gives_of_construction}
+use Rattle.e_construct.specs.Construct.{row_of_construction, sorts_of, avoids_well, fits_construction, equation, inequality, argument, of_sort, needs_of_avoided, needs_of_construction, sorts_made, meeting, avoidance, gives_of_avoided, gives_of_construction}
 use Rattle.e_construct.specs.declared.superpose.Superpose.{Superpose}
 use Rattle.e_construct.specs.Superposing as superposing
 use Rattle.e_literal.specs.WellFormed.{is_well_formed_atom, is_well_formed}
@@ -86,7 +86,7 @@ other true y b e h = absurd cc
 other false y b e h = h
 
 lands_after : (s : Scope) (ls os : List Obj) (es : List Entry) (o : Obj) (b : Bool) → are_of_sorts s (sorts_of ls) os ≡ true → (is_letter ls o || b) ≡ true → (b ≡ true → lands s es o ≡ true)
-    → lands s (paired ls os ++ es) o ≡ true
+    → lands s (pairs_of ls os ++ es) o ≡ true
 lands_after s [] [] es o b f h k = k h
 lands_after s [] (t ∷ os) es o b f h k = absurd cc
 lands_after s (l ∷ ls) [] es o b f h k = absurd cc
@@ -95,15 +95,15 @@ lands_after s (l ∷ ls) (t ∷ os) es o b f h k =
     let q = and_parts (is_in_scope s t) (are_of_sorts s (sorts_of ls) os) p.1 in
     let here : same_obj l o ≡ true → suits s o t ≡ true = λ e.
     rw (subst (λ (y : Sort). same_sort y t.sort ≡ true) (same_sort_is l.sort o.sort (and_parts (same_sort l.sort o.sort) (eqb l.num o.num) e).0) p.0, q.0) refl in
-    first_or s o t (image_in (paired ls os ++ es) o) (same_obj l o) here
+    first_or s o t (image_in (pairs_of ls os ++ es) o) (same_obj l o) here
     (λ e. lands_after s ls os es o b q.1 (other (same_obj l o) (is_letter ls o) b e h) k)
 
 none_else : {X : Type 0} → false ≡ true → X
 none_else e = absurd cc
 
-lands_paired : (s : Scope) (ls os : List Obj) (o : Obj) → are_of_sorts s (sorts_of ls) os ≡ true → (is_letter ls o || false) ≡ true → lands s (paired ls os) o ≡ true
+lands_paired : (s : Scope) (ls os : List Obj) (o : Obj) → are_of_sorts s (sorts_of ls) os ≡ true → (is_letter ls o || false) ≡ true → lands s (pairs_of ls os) o ≡ true
 lands_paired s ls os o f h =
-    subst (λ (es : List Entry). lands s es o ≡ true) (append-nil (paired ls os)) (lands_after s ls os [] o false f h (λ e. none_else e))
+    subst (λ (es : List Entry). lands s es o ≡ true) (append-nil (pairs_of ls os)) (lands_after s ls os [] o false f h (λ e. none_else e))
 
 number_lands : (s : Scope) (sort : Sort) (n : ℕ) (v : Option Obj) → option_map_or (suits s (obj sort n)) v false ≡ true → ltb (option_map_or (λ (i : Obj). i.num) v n) (count_of s sort) ≡ true
 number_lands s sort n None h = absurd cc
@@ -116,7 +116,7 @@ lands_moved s es o h = number_lands s o.sort o.num (image_in es o) h
 
 -- literals over letters that have images in scope
 fine_renamed : (s : Scope) (es : List Entry) (args made : List Obj) → ((o : Obj) → (is_letter args o || is_letter made o) ≡ true → lands s es o ≡ true)
-    → (ls : List Lit) → list_all (is_over args made) ls ≡ true → list_all is_plain ls ≡ true → list_all (is_fine s) (map (renamed (image_in es)) ls) ≡ true
+    → (ls : List Lit) → list_all (is_over args made) ls ≡ true → list_all is_plain ls ≡ true → list_all (is_fine s) (map (with_images (image_in es)) ls) ≡ true
 fine_renamed s es args made land [] h d = refl
 fine_renamed s es args made land (l ∷ ls) h d =
     let p = and_parts (is_over args made l) (list_all (is_over args made) ls) h in
@@ -136,19 +136,19 @@ fine_meeting s Point m n h k = rw (h, k) refl
 fine_meeting s Line m n h k = rw (h, k) refl
 fine_meeting s Circle m n h k = rw (h, k) refl
 
-fine_next : (s : Scope) (x y : Obj) (rest : List Obj) (b : Bool) → (b ≡ true → is_fine s (unequal x y) ≡ true) → list_all (is_fine s) (map (unequal x) rest) ≡ true
-    → list_all (is_fine s) (map (unequal x) (cond b (y ∷ rest) rest)) ≡ true
+fine_next : (s : Scope) (x y : Obj) (rest : List Obj) (b : Bool) → (b ≡ true → is_fine s (inequality x y) ≡ true) → list_all (is_fine s) (map (inequality x) rest) ≡ true
+    → list_all (is_fine s) (map (inequality x) (cond b (y ∷ rest) rest)) ≡ true
 fine_next s x y rest true h k = rw (h refl, k) refl
 fine_next s x y rest false h k = k
 
-fine_unequal : (s : Scope) (x : Obj) (sort : Sort) (os : List Obj) → suits s (obj sort 0) x ≡ true → list_all (is_in_scope s) os ≡ true → list_all (is_fine s) (map (unequal x) (of_sort sort os)) ≡ true
-fine_unequal s x sort [] h k = refl
-fine_unequal s x sort (y ∷ os) h k =
+fine_inequality : (s : Scope) (x : Obj) (sort : Sort) (os : List Obj) → suits s (obj sort 0) x ≡ true → list_all (is_in_scope s) os ≡ true → list_all (is_fine s) (map (inequality x) (of_sort sort os)) ≡ true
+fine_inequality s x sort [] h k = refl
+fine_inequality s x sort (y ∷ os) h k =
     let p = and_parts (same_sort sort x.sort) (is_in_scope s x) h in
     let q = and_parts (is_in_scope s y) (list_all (is_in_scope s) os) k in
     fine_next s x y (of_sort sort os) (same_sort sort y.sort)
     (λ e. fine_equation s x.sort x.num y.num p.1 (subst (λ (z : Sort). ltb y.num (count_of s z) ≡ true) (sym (same_sort_is sort y.sort e) ∙ same_sort_is sort x.sort p.0) q.0))
-    (fine_unequal s x sort os h q.1)
+    (fine_inequality s x sort os h q.1)
 
 found : (s : Scope) (o : Obj) (v : Option Obj) → option_map_or (suits s o) v false ≡ true → suits s o (unwrap_or v o) ≡ true
 found s o None h = absurd cc
@@ -164,14 +164,14 @@ fine_needs_avoided s r NoObject args avoid f h k = refl
 fine_needs_avoided s r AnyObject args avoid f h k = refl
 fine_needs_avoided s r (AnyApartFrom o) args avoid f h k =
     let p = and_parts (is_letter r.args o) (is_point_first r.made) h in
-    fine_unequal s (argument r args o) o.sort avoid (found s o (image_in (paired r.args args) o) (lands_paired s r.args args o f (or_none (is_letter r.args o) p.0))) k
+    fine_inequality s (argument r args o) o.sort avoid (found s o (image_in (pairs_of r.args args) o) (lands_paired s r.args args o f (or_none (is_letter r.args o) p.0))) k
 
-fine_avoiding : (t : Scope) (p : Obj) (os : List Obj) → p.sort ≡ Point → is_in_scope t p ≡ true → list_all (is_in_scope t) os ≡ true → list_all (is_fine t) (map (avoiding p) os) ≡ true
-fine_avoiding t p [] e h k = refl
-fine_avoiding t p (y ∷ os) e h k =
+fine_avoidance : (t : Scope) (p : Obj) (os : List Obj) → p.sort ≡ Point → is_in_scope t p ≡ true → list_all (is_in_scope t) os ≡ true → list_all (is_fine t) (map (avoidance p) os) ≡ true
+fine_avoidance t p [] e h k = refl
+fine_avoidance t p (y ∷ os) e h k =
     let q = and_parts (is_in_scope t y) (list_all (is_in_scope t) os) k in
     let point : ltb p.num t.points ≡ true = subst (λ (z : Sort). ltb p.num (count_of t z) ≡ true) e h in
-    rw (fine_meeting t y.sort p.num y.num point q.0, fine_avoiding t p os e h q.1) refl
+    rw (fine_meeting t y.sort p.num y.num point q.0, fine_avoidance t p os e h q.1) refl
 
 -- ---- new objects
 
@@ -189,7 +189,7 @@ fine_points s t (o ∷ made) avoid h f k =
     let rest = next_objects (with_one s o.sort) (sorts_of made) in
     let p = and_parts (same_sort o.sort o.sort) (is_in_scope t new && are_of_sorts t (sorts_of made) rest) f in
     let q = and_parts (is_in_scope t new) (are_of_sorts t (sorts_of made) rest) p.1 in
-    fine_avoiding t new avoid (sym (same_sort_is Point o.sort h)) q.0 k
+    fine_avoidance t new avoid (sym (same_sort_is Point o.sort h)) q.0 k
 
 none_avoided : (t : Scope) (ps : List Obj) → list_all (is_fine t) (gives_of_avoided ps []) ≡ true
 none_avoided t [] = refl
@@ -210,9 +210,9 @@ fine_needs form s h =
     let r = row_of_construction form in
     let g = good_row form.shape in
     let p = and_parts (are_of_sorts s (sorts_of r.args) form.args) (avoids_well s r.avoids form.avoid) h in
-    let es = paired r.args form.args in
+    let es = pairs_of r.args form.args in
     let first = fine_renamed s es r.args [] (λ o i. lands_paired s r.args form.args o p.0 i) r.needs g.needs g.needs_plain in
-    list_all-append (is_fine s) (map (renamed (image_in es)) r.needs) (needs_of_avoided r.avoids (argument r form.args) form.avoid)
+    list_all-append (is_fine s) (map (with_images (image_in es)) r.needs) (needs_of_avoided r.avoids (argument r form.args) form.avoid)
     ∙ rw (first, fine_needs_avoided s r r.avoids form.args form.avoid p.0 g.avoids p.1) refl
 
 pub fine_gives : (form : Construction) (s : Scope) → fits_construction form s ≡ true → list_all (is_fine (grown s (sorts_made form))) (gives_of_construction form s) ≡ true
@@ -225,11 +225,11 @@ fine_gives form s h =
     let args = of_sorts_more s t w (sorts_of r.args) form.args p.0 in
     let new = next_objects s (sorts_of r.made) in
     let made_are : are_of_sorts t (sorts_of r.made) new ≡ true = new_of_sorts s t (sorts_of r.made) (λ sort. omega arith) in
-    let es = paired r.args form.args ++ paired r.made new in
+    let es = pairs_of r.args form.args ++ pairs_of r.made new in
     let land : (o : Obj) → (is_letter r.args o || is_letter r.made o) ≡ true → lands t es o ≡ true = λ o i.
-    lands_after t r.args form.args (paired r.made new) o (is_letter r.made o) args i (λ e. lands_paired t r.made new o made_are (or_none (is_letter r.made o) e)) in
+    lands_after t r.args form.args (pairs_of r.made new) o (is_letter r.made o) args i (λ e. lands_paired t r.made new o made_are (or_none (is_letter r.made o) e)) in
     let first = fine_renamed t es r.args r.made land r.gives g.gives g.gives_plain in
-    list_all-append (is_fine t) (map (renamed (image_in es)) r.gives) (gives_of_avoided new form.avoid)
+    list_all-append (is_fine t) (map (with_images (image_in es)) r.gives) (gives_of_avoided new form.avoid)
     ∙ rw (first, fine_gives_avoided s t r r.avoids form.avoid w g.avoids p.1 made_are) refl
 
 pub needs_in_scope : (form : Construction) (s : Scope) → fits_construction form s ≡ true → list_all (all_in_scope s) (needs_of_construction form) ≡ true
@@ -273,19 +273,19 @@ gives_good form s h =
 -- ---- a superposition
 
 good_renamed : (s : Scope) (es : List Entry) (args made : List Obj) → ((o : Obj) → (is_letter args o || is_letter made o) ≡ true → lands s es o ≡ true)
-    → (ls : List Lit) → list_all (is_over args made) ls ≡ true → list_all (λ l. is_well_formed (renamed (image_in es) l)) ls ≡ true
-    → list_all (is_well_formed_in s) (map (renamed (image_in es)) ls) ≡ true
+    → (ls : List Lit) → list_all (is_over args made) ls ≡ true → list_all (λ l. is_well_formed (with_images (image_in es) l)) ls ≡ true
+    → list_all (is_well_formed_in s) (map (with_images (image_in es)) ls) ≡ true
 good_renamed s es args made land [] h d = refl
 good_renamed s es args made land (l ∷ ls) h d =
     let p = and_parts (is_over args made l) (list_all (is_over args made) ls) h in
-    let q = and_parts (is_well_formed (renamed (image_in es) l)) (list_all (λ l. is_well_formed (renamed (image_in es) l)) ls) d in
+    let q = and_parts (is_well_formed (with_images (image_in es) l)) (list_all (λ l. is_well_formed (with_images (image_in es) l)) ls) d in
     let here = moved_lit s (image_in es) l (every (λ (o : Obj). is_letter args o || is_letter made o) (is_moved_in s (image_in es)) (λ o i. lands_moved s es o (land o i)) (objects_of_atom l.atom) p.0) in
     rw (here, q.0, good_renamed s es args made land ls p.1 q.1) refl
 
 pub superposition_needs : (x : Superpose) (s : Scope) → superposing.fits_superposition x s ≡ true → list_all (is_fine s) (superposing.needs_of_superposition x) ≡ true
 superposition_needs x s h =
     let os = superposing.objects_of x in
-    fine_renamed s (paired superposing.superposed_args os) superposing.superposed_args [] (λ o i. lands_paired s superposing.superposed_args os o h i) superposing.superposed_needs refl refl
+    fine_renamed s (pairs_of superposing.superposed_args os) superposing.superposed_args [] (λ o i. lands_paired s superposing.superposed_args os o h i) superposing.superposed_needs refl refl
 
 pub superposition_gives : (x : Superpose) (s : Scope) → superposing.fits_superposition x s ≡ true → list_all (is_well_formed_in (grown s superposing.sorts_copied)) (superposing.gives_of_superposition x s) ≡ true
 superposition_gives x s h =
@@ -295,9 +295,9 @@ superposition_gives x s h =
     let w : Within s t = grows s superposing.sorts_copied in
     let new = next_objects s superposing.sorts_copied in
     let made_are : are_of_sorts t superposing.sorts_copied new ≡ true = new_of_sorts s t superposing.sorts_copied (λ sort. omega arith) in
-    let es = paired ls os ++ paired superposing.copies new in
+    let es = pairs_of ls os ++ pairs_of superposing.copies new in
     let land : (o : Obj) → (is_letter ls o || is_letter superposing.copies o) ≡ true → lands t es o ≡ true = λ o i.
-    lands_after t ls os (paired superposing.copies new) o (is_letter superposing.copies o) (of_sorts_more s t w (sorts_of ls) os h) i
+    lands_after t ls os (pairs_of superposing.copies new) o (is_letter superposing.copies o) (of_sorts_more s t w (sorts_of ls) os h) i
     (λ e. lands_paired t superposing.copies new o made_are (or_none (is_letter superposing.copies o) e)) in
     good_renamed t es ls superposing.copies land superposing.superposed_gives refl refl
 

@@ -1,7 +1,7 @@
 -- The objects for variables.
 use Rattle.std.proofs.Common.{◌≡◌, ◌⊎◌, List, [], ◌∷◌, ◌++◌, map, inl, inr, refl, ap, ◌∙◌, None, true, false, cond}
 use Rattle.e_literal.specs.declared.object.Obj.{Obj}
-use Rattle.e_literal.specs.Rename.{image_in, paired, renamed}
+use Rattle.e_literal.specs.Rename.{image_in, pairs_of, with_images}
 use Rattle.e_literal.specs.Scopes.{same_sort}
 use Rattle.e_literal.specs.declared.literal.Lit.{Lit}
 use Rattle.e_construct.specs.Shapes.{ShapeRow}
@@ -25,7 +25,7 @@ pub ruleset namings = (common_steps, image_in_first, image_in_second)
 pub ruleset joining = (common_steps, append-nil)
 
 -- without variables or without objects nothing has an image
-pub no_image : (ls os : List Obj) (o : Obj) → (ls ≡ []) ⊎ (os ≡ []) → image_in (paired ls os) o ≡ None
+pub no_image : (ls os : List Obj) (o : Obj) → (ls ≡ []) ⊎ (os ≡ []) → image_in (pairs_of ls os) o ≡ None
 no_image [] os o e = refl
 no_image (l ∷ ls) [] o e = refl
 no_image (l ∷ ls) (x ∷ os) o (inl e) = absurd cc
@@ -33,9 +33,9 @@ no_image (l ∷ ls) (x ∷ os) o (inr e) = absurd cc
 
 -- the needs of a row, where they are written one part after the other
 pub needs_of : (r : ShapeRow) (args avoid : List Obj) (start first last : List Lit) → start ≡ [] →
-    first ≡ start ++ map (renamed (image_in (paired r.args args ++ []))) r.needs →
+    first ≡ start ++ map (with_images (image_in (pairs_of r.args args ++ []))) r.needs →
     last ≡ first ++ needs_of_avoided r.avoids (argument r args) avoid → last ≡ needs_of_row r args avoid
 needs_of r args avoid start first last n e k =
     k ∙ ap (λ xs. xs ++ needs_of_avoided r.avoids (argument r args) avoid)
-    (e ∙ ap (λ xs. xs ++ map (renamed (image_in (paired r.args args ++ []))) r.needs) n
-    ∙ ap (λ xs. map (renamed (image_in xs)) r.needs) (append-nil (paired r.args args)))
+    (e ∙ ap (λ xs. xs ++ map (with_images (image_in (pairs_of r.args args ++ []))) r.needs) n
+    ∙ ap (λ xs. map (with_images (image_in xs)) r.needs) (append-nil (pairs_of r.args args)))

@@ -12,7 +12,7 @@ use Rattle.e_literal.specs.declared.literal.Lit.{Lit}
 use Rattle.e_literal.specs.Literal.{count_of, is_in_scope, objects_of_atom, all_in_scope}
 use Rattle.e_literal.specs.Facts.{is_metric}
 use Rattle.e_literal.specs.Scopes.{same_sort, with_one, grown, are_of_sorts}
-use Rattle.e_literal.specs.Rename.{atom_at, number_at, renamed}
+use Rattle.e_literal.specs.Rename.{atom_at, number_at, with_images}
 use Rattle.e_literal.proofs.WithImages.{is_moved_in, renamed_scope}
 
 -- ---- tests that hold together
@@ -23,7 +23,7 @@ every p q f (x ∷ xs) h = let a = and_parts (p x) (list_all p xs) h in rw (f x 
 
 -- ---- in scope
 
-pub moved_lit : (s : Scope) (image : Obj → Option Obj) (l : Lit) → list_all (is_moved_in s image) (objects_of_atom l.atom) ≡ true → all_in_scope s (renamed image l) ≡ true
+pub moved_lit : (s : Scope) (image : Obj → Option Obj) (l : Lit) → list_all (is_moved_in s image) (objects_of_atom l.atom) ≡ true → all_in_scope s (with_images image l) ≡ true
 moved_lit s image l h = renamed_scope s image l ∙ h
 
 -- ---- no magnitudes
@@ -37,7 +37,7 @@ plain_moved p l c n (atoms.MagEq x y) h = absurd cc
 plain_moved p l c n (atoms.MagLt x y) h = absurd cc
 plain_moved p l c n a h = refl
 
-pub renamed_plain : (image : Obj → Option Obj) (l : Lit) → is_plain l ≡ true → is_plain (renamed image l) ≡ true
+pub renamed_plain : (image : Obj → Option Obj) (l : Lit) → is_plain l ≡ true → is_plain (with_images image l) ≡ true
 renamed_plain image l h = plain_moved (number_at image Point) (number_at image Line) (number_at image Circle) l.neg l.atom h
 
 -- ---- larger scopes

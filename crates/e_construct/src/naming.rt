@@ -1,7 +1,7 @@
 //! The objects for the variables of a shape.
 
 ghost use Rattle.std.specs.Prelude.{◌≡◌, false};
-ghost use Rattle.e_literal.specs.Rename.{image_in, paired, number_at, renamed};
+ghost use Rattle.e_literal.specs.Rename.{image_in, pairs_of, number_at, with_images};
 ghost use Rattle.e_literal.specs.declared.object.Sort.TheVariants.{Point, Line, Circle};
 ghost use Rattle.e_construct.specs.inner.Views.{atom_of_relation, lit_of_shape_pattern, image_of};
 
@@ -20,7 +20,7 @@ pub struct Naming<'a> {
 impl<'a> Naming<'a> {
     /// The literal with the objects for its variables.
     pub fn literal(&self, pattern: &Pattern) -> Lit
-        ensures { result ≡ renamed (image_of self.now) (lit_of_shape_pattern pattern.now) }
+        ensures { result ≡ with_images (image_of self.now) (lit_of_shape_pattern pattern.now) }
     {
         match pattern {
             Pattern::Is(relation) => Lit {
@@ -35,7 +35,7 @@ impl<'a> Naming<'a> {
     }
 
     fn atom(&self, relation: &Relation) -> Atom
-        ensures { result ≡ (renamed (image_of self.now) (record {
+        ensures { result ≡ (with_images (image_of self.now) (record {
           neg = false;
           atom = atom_of_relation relation.now;
         })).atom }
@@ -93,7 +93,7 @@ impl<'a> Naming<'a> {
 /// The object in the place that the variable has among the variables. Unlike a map it takes objects
 /// of any sorts and any number, as a construction that does not fit has them.
 pub fn image(letters: &[Obj], objects: &[Obj], letter: Obj) -> Option<Obj>
-    ensures { result ≡ image_in (paired letters.now objects.now) letter }
+    ensures { result ≡ image_in (pairs_of letters.now objects.now) letter }
 {
     for (name, object) in letters.iter().zip(objects) {
         if is_same_object(*name, letter) {

@@ -7,7 +7,7 @@ use Rattle.e_literal.specs.declared.literal.Lit.{Lit}
 use Rattle.e_literal.specs.declared.object.Obj.{Obj}
 use Rattle.e_literal.specs.declared.object.Scope.{Scope}
 use Rattle.e_literal.specs.Literal.{negation}
-use Rattle.e_literal.specs.Facts.{joined, joined_all}
+use Rattle.e_literal.specs.Facts.{with_fact, with_facts}
 use Rattle.e_literal.specs.Scopes.{grown}
 use Rattle.e_literal.specs.Use.{StatementView, are_arguments, needs_of_use, gives_of_use, scope_of}
 use Rattle.e_literal.proofs.Booleans.{and_left, and_right, all_left, all_right}
@@ -66,48 +66,48 @@ proves_of_certified : (before : List StatementView) (d : Script) (s : Scope) (fa
 unfolding placed_steps Proves
 proves_of_certified before (Cite by rest) s facts goal h =
     let x = placed_step (Cite by rest) (Cite by rest) s facts goal in
-    let q = parts_of before x (placed_steps before rest rest s (joined facts by.lit) goal) h in
-    (q.form, q.others, proves_of_certified before rest s (joined facts by.lit) goal q.rest)
+    let q = parts_of before x (placed_steps before rest rest s (with_fact facts by.lit) goal) h in
+    (q.form, q.others, proves_of_certified before rest s (with_fact facts by.lit) goal q.rest)
 proves_of_certified before (Hence lit None rest) s facts goal h =
     let x = placed_step (Hence lit None rest) (Hence lit None rest) s facts goal in
-    let q = parts_of before x (placed_steps before rest rest s (joined facts lit) goal) h in
+    let q = parts_of before x (placed_steps before rest rest s (with_fact facts lit) goal) h in
     absurd (true≢false (sym q.certs))
 proves_of_certified before (Hence lit (Some cert) rest) s facts goal h =
     let x = placed_step (Hence lit (Some cert) rest) (Hence lit (Some cert) rest) s facts goal in
-    let q = parts_of before x (placed_steps before rest rest s (joined facts lit) goal) h in
-    (q.form, (all_allowed_of_certified s facts (needs before x) (certs_of x.here) q.certs).0, proves_of_certified before rest s (joined facts lit) goal q.rest)
+    let q = parts_of before x (placed_steps before rest rest s (with_fact facts lit) goal) h in
+    (q.form, (all_allowed_of_certified s facts (needs before x) (certs_of x.here) q.certs).0, proves_of_certified before rest s (with_fact facts lit) goal q.rest)
 proves_of_certified before (Make construction names certs rest) s facts goal h =
     let x = placed_step (Make construction names certs rest) (Make construction names certs rest) s facts goal in
-    let after = joined_all facts (gives_of_construction construction s) in
+    let after = with_facts facts (gives_of_construction construction s) in
     let q = parts_of before x (placed_steps before rest rest (grown s (sorts_made construction)) after goal) h in
     (q.form, all_allowed_of_certified s facts (needs before x) certs q.certs, proves_of_certified before rest (grown s (sorts_made construction)) after goal q.rest)
 proves_of_certified before (Apply theorem args names certs rest) s facts goal h =
     let x = placed_step (Apply theorem args names certs rest) (Apply theorem args names certs rest) s facts goal in
     let t = theorem_at before theorem in
-    let after = joined_all facts (gives_of_use t (written args) s) in
+    let after = with_facts facts (gives_of_use t (written args) s) in
     let q = parts_of before x (placed_steps before rest rest (grown s t.made) after goal) h in
     (q.others, q.form, all_allowed_of_certified s facts (needs before x) certs q.certs, proves_of_certified before rest (grown s t.made) after goal q.rest)
 proves_of_certified before (Claim shown inner rest) s facts goal h =
     let x = placed_step (Claim shown inner rest) (Claim shown inner rest) s facts goal in
     let one = placed_steps before inner inner s facts (goal_of shown) in
-    let other = placed_steps before rest rest s (joined_all facts shown) goal in
+    let other = placed_steps before rest rest s (with_facts facts shown) goal in
     let q = parts_of before x (one ++ other) h in (
       q.form,
       proves_of_certified before inner s facts (goal_of shown) (all_left (is_certified before) one other q.rest),
-      proves_of_certified before rest s (joined_all facts shown) goal (all_right (is_certified before) one other q.rest),
+      proves_of_certified before rest s (with_facts facts shown) goal (all_right (is_certified before) one other q.rest),
     )
 proves_of_certified before (Superposed superposition names shown certs inner rest) s facts goal h =
     let x = placed_step (Superposed superposition names shown certs inner rest) (Superposed superposition names shown certs inner rest) s facts goal in
     let g = grown s superposing.sorts_copied in
-    let given = joined_all facts (superposing.gives_of_superposition superposition s) in
+    let given = with_facts facts (superposing.gives_of_superposition superposition s) in
     let one = placed_steps before inner inner g given (goal_of shown) in
-    let other = placed_steps before rest rest s (joined_all facts shown) goal in
+    let other = placed_steps before rest rest s (with_facts facts shown) goal in
     let q = parts_of before x (one ++ other) h in (
       and_left (superposing.fits_superposition superposition s) (are_over s shown) q.form,
       all_allowed_of_certified s facts (needs before x) certs q.certs,
       and_right (superposing.fits_superposition superposition s) (are_over s shown) q.form,
       proves_of_certified before inner g given (goal_of shown) (all_left (is_certified before) one other q.rest),
-      proves_of_certified before rest s (joined_all facts shown) goal (all_right (is_certified before) one other q.rest),
+      proves_of_certified before rest s (with_facts facts shown) goal (all_right (is_certified before) one other q.rest),
     )
 proves_of_certified before (Qed objects certs) s facts goal h =
     let x = placed_step (Qed objects certs) (Qed objects certs) s facts goal in
@@ -121,12 +121,12 @@ proves_of_certified before (Contradiction (Some a)) s facts goal h =
     contradictory_of_certified s facts a q.others
 proves_of_certified before (Cases lit first second) s facts goal h =
     let x = placed_step (Cases lit first second) (Cases lit first second) s facts goal in
-    let one = placed_steps before first first s (joined facts lit) goal in
-    let other = placed_steps before second second s (joined facts (negation lit)) goal in
+    let one = placed_steps before first first s (with_fact facts lit) goal in
+    let other = placed_steps before second second s (with_fact facts (negation lit)) goal in
     let q = parts_of before x (one ++ other) h in (
       q.form,
-      proves_of_certified before first s (joined facts lit) goal (all_left (is_certified before) one other q.rest),
-      proves_of_certified before second s (joined facts (negation lit)) goal (all_right (is_certified before) one other q.rest),
+      proves_of_certified before first s (with_fact facts lit) goal (all_left (is_certified before) one other q.rest),
+      proves_of_certified before second s (with_fact facts (negation lit)) goal (all_right (is_certified before) one other q.rest),
     )
 
 -- ---- licensed lines are a proof, with the blanks filled
@@ -141,10 +141,10 @@ applied_again before theorem s pattern args h =
 
 proves_of_licensed : (before : List StatementView) (d f : Script) (s : Scope) (facts : List Lit) (goal : Goal) → AllLicensed before (placed_steps before d f s facts goal) → Proves before s facts goal (filled_by d f)
 unfolding placed_steps Proves filled_by
-proves_of_licensed before (Cite by rest) f s facts goal h = (h.0.fits, h.0.others, proves_of_licensed before rest (rest_of f) s (joined facts by.lit) goal h.1)
-proves_of_licensed before (Hence lit cert rest) f s facts goal h = (h.0.fits, h.0.allowed.0, proves_of_licensed before rest (rest_of f) s (joined facts lit) goal h.1)
+proves_of_licensed before (Cite by rest) f s facts goal h = (h.0.fits, h.0.others, proves_of_licensed before rest (rest_of f) s (with_fact facts by.lit) goal h.1)
+proves_of_licensed before (Hence lit cert rest) f s facts goal h = (h.0.fits, h.0.allowed.0, proves_of_licensed before rest (rest_of f) s (with_fact facts lit) goal h.1)
 proves_of_licensed before (Make construction names certs rest) f s facts goal h =
-    (h.0.fits, h.0.allowed, proves_of_licensed before rest (rest_of f) (grown s (sorts_made construction)) (joined_all facts (gives_of_construction construction s)) goal h.1)
+    (h.0.fits, h.0.allowed, proves_of_licensed before rest (rest_of f) (grown s (sorts_made construction)) (with_facts facts (gives_of_construction construction s)) goal h.1)
 proves_of_licensed before (Apply theorem pattern names certs rest) f s facts goal h =
     let t = theorem_at before theorem in
     let args = args_of f in
@@ -152,72 +152,72 @@ proves_of_licensed before (Apply theorem pattern names certs rest) f s facts goa
       no_blank_again args,
       subst (λ xs. is_applied before theorem s (filled_in args) xs ≡ true) again (applied_again before theorem s pattern args h.0.fits),
       subst (λ xs. AllAllowed s facts (needs_of_use t xs s)) again h.0.allowed,
-      subst (λ xs. Proves before (grown s t.made) (joined_all facts (gives_of_use t xs s)) goal (filled_by rest (rest_of f))) again
-          (proves_of_licensed before rest (rest_of f) (grown s t.made) (joined_all facts (gives_of_use t args s)) goal h.1),
+      subst (λ xs. Proves before (grown s t.made) (with_facts facts (gives_of_use t xs s)) goal (filled_by rest (rest_of f))) again
+          (proves_of_licensed before rest (rest_of f) (grown s t.made) (with_facts facts (gives_of_use t args s)) goal h.1),
     )
 proves_of_licensed before (Claim shown inner rest) f s facts goal h =
     let one = placed_steps before inner (inner_of f) s facts (goal_of shown) in
-    let other = placed_steps before rest (rest_of f) s (joined_all facts shown) goal in (
+    let other = placed_steps before rest (rest_of f) s (with_facts facts shown) goal in (
       h.0.fits,
       proves_of_licensed before inner (inner_of f) s facts (goal_of shown) (first_licensed before one other h.1),
-      proves_of_licensed before rest (rest_of f) s (joined_all facts shown) goal (second_licensed before one other h.1),
+      proves_of_licensed before rest (rest_of f) s (with_facts facts shown) goal (second_licensed before one other h.1),
     )
 proves_of_licensed before (Superposed superposition names shown certs inner rest) f s facts goal h =
     let g = grown s superposing.sorts_copied in
-    let given = joined_all facts (superposing.gives_of_superposition superposition s) in
+    let given = with_facts facts (superposing.gives_of_superposition superposition s) in
     let one = placed_steps before inner (inner_of f) g given (goal_of shown) in
-    let other = placed_steps before rest (rest_of f) s (joined_all facts shown) goal in (
+    let other = placed_steps before rest (rest_of f) s (with_facts facts shown) goal in (
       and_left (superposing.fits_superposition superposition s) (are_over s shown) h.0.fits,
       h.0.allowed,
       and_right (superposing.fits_superposition superposition s) (are_over s shown) h.0.fits,
       proves_of_licensed before inner (inner_of f) g given (goal_of shown) (first_licensed before one other h.1),
-      proves_of_licensed before rest (rest_of f) s (joined_all facts shown) goal (second_licensed before one other h.1),
+      proves_of_licensed before rest (rest_of f) s (with_facts facts shown) goal (second_licensed before one other h.1),
     )
 proves_of_licensed before (Qed objects certs) f s facts goal h = (h.0.fits, h.0.allowed)
 proves_of_licensed before (Contradiction against) f s facts goal h = h.0.others
 proves_of_licensed before (Cases lit first second) f s facts goal h =
-    let one = placed_steps before first (inner_of f) s (joined facts lit) goal in
-    let other = placed_steps before second (rest_of f) s (joined facts (negation lit)) goal in (
+    let one = placed_steps before first (inner_of f) s (with_fact facts lit) goal in
+    let other = placed_steps before second (rest_of f) s (with_fact facts (negation lit)) goal in (
       h.0.fits,
-      proves_of_licensed before first (inner_of f) s (joined facts lit) goal (first_licensed before one other h.1),
-      proves_of_licensed before second (rest_of f) s (joined facts (negation lit)) goal (second_licensed before one other h.1),
+      proves_of_licensed before first (inner_of f) s (with_fact facts lit) goal (first_licensed before one other h.1),
+      proves_of_licensed before second (rest_of f) s (with_fact facts (negation lit)) goal (second_licensed before one other h.1),
     )
 
 -- ---- each line of a proof is licensed
 
 licensed_of_proves : (before : List StatementView) (d : Script) (s : Scope) (facts : List Lit) (goal : Goal) → Proves before s facts goal d → AllLicensed before (placed_steps before d d s facts goal)
 unfolding placed_steps Proves
-licensed_of_proves before (Cite by rest) s facts goal h = (record { fits = h.0; allowed = tt; others = h.1 }, licensed_of_proves before rest s (joined facts by.lit) goal h.2)
-licensed_of_proves before (Hence lit cert rest) s facts goal h = (record { fits = h.0; allowed = (h.1, tt); others = tt }, licensed_of_proves before rest s (joined facts lit) goal h.2)
+licensed_of_proves before (Cite by rest) s facts goal h = (record { fits = h.0; allowed = tt; others = h.1 }, licensed_of_proves before rest s (with_fact facts by.lit) goal h.2)
+licensed_of_proves before (Hence lit cert rest) s facts goal h = (record { fits = h.0; allowed = (h.1, tt); others = tt }, licensed_of_proves before rest s (with_fact facts lit) goal h.2)
 licensed_of_proves before (Make construction names certs rest) s facts goal h =
-    (record { fits = h.0; allowed = h.1; others = tt }, licensed_of_proves before rest (grown s (sorts_made construction)) (joined_all facts (gives_of_construction construction s)) goal h.2)
+    (record { fits = h.0; allowed = h.1; others = tt }, licensed_of_proves before rest (grown s (sorts_made construction)) (with_facts facts (gives_of_construction construction s)) goal h.2)
 licensed_of_proves before (Apply theorem args names certs rest) s facts goal h =
     let t = theorem_at before theorem in
     let good : IsAllowedChoice t s facts args (written args) = record { is_choice = and_right (ltb theorem (length before)) (is_choice t s args (written args)) h.1; allowed = h.2 } in (
       record { fits = h.1; allowed = h.2; others = least_of_good t s facts args (written args) h.0 good },
-      licensed_of_proves before rest (grown s t.made) (joined_all facts (gives_of_use t (written args) s)) goal h.3,
+      licensed_of_proves before rest (grown s t.made) (with_facts facts (gives_of_use t (written args) s)) goal h.3,
     )
 licensed_of_proves before (Claim shown inner rest) s facts goal h =
     let one = placed_steps before inner inner s facts (goal_of shown) in
-    let other = placed_steps before rest rest s (joined_all facts shown) goal in (
+    let other = placed_steps before rest rest s (with_facts facts shown) goal in (
       record { fits = h.0; allowed = tt; others = tt },
-      both_licensed before one other (licensed_of_proves before inner s facts (goal_of shown) h.1) (licensed_of_proves before rest s (joined_all facts shown) goal h.2),
+      both_licensed before one other (licensed_of_proves before inner s facts (goal_of shown) h.1) (licensed_of_proves before rest s (with_facts facts shown) goal h.2),
     )
 licensed_of_proves before (Superposed superposition names shown certs inner rest) s facts goal h =
     let g = grown s superposing.sorts_copied in
-    let given = joined_all facts (superposing.gives_of_superposition superposition s) in
+    let given = with_facts facts (superposing.gives_of_superposition superposition s) in
     let one = placed_steps before inner inner g given (goal_of shown) in
-    let other = placed_steps before rest rest s (joined_all facts shown) goal in (
+    let other = placed_steps before rest rest s (with_facts facts shown) goal in (
       record { fits = and_from (superposing.fits_superposition superposition s) (are_over s shown) h.0 h.2; allowed = h.1; others = tt },
-      both_licensed before one other (licensed_of_proves before inner g given (goal_of shown) h.3) (licensed_of_proves before rest s (joined_all facts shown) goal h.4),
+      both_licensed before one other (licensed_of_proves before inner g given (goal_of shown) h.3) (licensed_of_proves before rest s (with_facts facts shown) goal h.4),
     )
 licensed_of_proves before (Qed objects certs) s facts goal h = (record { fits = h.0; allowed = h.1; others = tt }, tt)
 licensed_of_proves before (Contradiction against) s facts goal h = (record { fits = refl; allowed = tt; others = h }, tt)
 licensed_of_proves before (Cases lit first second) s facts goal h =
-    let one = placed_steps before first first s (joined facts lit) goal in
-    let other = placed_steps before second second s (joined facts (negation lit)) goal in (
+    let one = placed_steps before first first s (with_fact facts lit) goal in
+    let other = placed_steps before second second s (with_fact facts (negation lit)) goal in (
       record { fits = h.0; allowed = tt; others = tt },
-      both_licensed before one other (licensed_of_proves before first s (joined facts lit) goal h.1) (licensed_of_proves before second s (joined facts (negation lit)) goal h.2),
+      both_licensed before one other (licensed_of_proves before first s (with_fact facts lit) goal h.1) (licensed_of_proves before second s (with_fact facts (negation lit)) goal h.2),
     )
 
 -- ---- the same of the proof of a statement

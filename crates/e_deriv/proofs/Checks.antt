@@ -6,7 +6,7 @@ use Rattle.e_literal.specs.declared.object.Scope.{Scope}
 use Rattle.e_literal.specs.declared.object.Term.TheVariants.{Right}
 use Rattle.e_literal.specs.declared.literal.Lit.{Lit}
 use Rattle.e_literal.specs.Literal.{obj}
-use Rattle.e_literal.specs.Facts.{joined}
+use Rattle.e_literal.specs.Facts.{with_fact}
 use Rattle.e_literal.specs.Use.{StatementView}
 use Rattle.e_clause.specs.declared.cert.Cert.{Cert}
 use Rattle.e_clause.specs.declared.cert.Cert.TheVariants.{Plain}
@@ -24,7 +24,7 @@ use Rattle.e_clause.specs.Table.Incidence.{incidence}
 use Rattle.e_clause.specs.Instance.{Inst}
 use Rattle.e_deriv.specs.declared.stop.Wanted.TheVariants.{Literal, Contradiction as AContradiction}
 use Rattle.e_deriv.specs.declared.names.Names.{Names}
-use Rattle.e_deriv.specs.Script.{Script, Cite, Hence, Make, Apply, Claim, Qed, Contradiction, Cases, size, depth, erased}
+use Rattle.e_deriv.specs.Script.{Script, Cite, Hence, Make, Apply, Claim, Qed, Contradiction, Cases, size, depth, script_without_certs}
 use Rattle.e_deriv.specs.PlacedSteps.{placed_step, placed_steps}
 use Rattle.e_deriv.specs.Goal.{goal_of_statement}
 use Rattle.e_deriv.specs.Licensed.{IsFirstUnlicensed}
@@ -58,25 +58,25 @@ three_lines = refl
 
 -- each of the three lines is certified
 four_certified : Certified [] four derivation
-unfolding placed_steps joined Inst table incidence
+unfolding placed_steps with_fact Inst table incidence
 four_certified = refl
 
 four_verified : verdict [] four derivation ≡ Ok 4
-unfolding placed_steps joined Inst table incidence
+unfolding placed_steps with_fact Inst table incidence
 four_verified = refl
 
 -- a script's hence has no certificate
-bare_at_two : verdict [] four (erased derivation) ≡ Err 2
-unfolding placed_steps joined Inst table incidence erased
+bare_at_two : verdict [] four (script_without_certs derivation) ≡ Err 2
+unfolding placed_steps with_fact Inst table incidence script_without_certs
 bare_at_two = refl
 
 -- with one premise less the first line is not licensed, and it lacks the literal cited
-one_less_stops : IsFirstUnlicensed [] one_less (erased derivation) 1 (Literal (between 0 1 3))
-unfolding placed_steps joined Inst table incidence erased
+one_less_stops : IsFirstUnlicensed [] one_less (script_without_certs derivation) 1 (Literal (between 0 1 3))
+unfolding placed_steps with_fact Inst table incidence script_without_certs
 one_less_stops =
     record {
-      step = placed_step (erased derivation) (erased derivation) (record { points = 4; lines = 0; circles = 0 }) (between 0 1 2 ∷ []) (goal_of_statement one_less);
-      context = record { filled = erased derivation; place = 0; number = refl; at = refl; earlier = tt };
+      step = placed_step (script_without_certs derivation) (script_without_certs derivation) (record { points = 4; lines = 0; circles = 0 }) (between 0 1 2 ∷ []) (goal_of_statement one_less);
+      context = record { filled = script_without_certs derivation; place = 0; number = refl; at = refl; earlier = tt };
       lacks = (refl, refl);
     }
 
@@ -103,12 +103,12 @@ abbrev made_derivation : Script
 made_derivation = made_between (Plain Fact ∷ []) (Plain Fact ∷ Plain Fact ∷ Plain Fact ∷ [])
 
 halfway_certified : Certified [] (halfway apart_points) made_derivation
-unfolding placed_steps joined shape_row
+unfolding placed_steps with_fact shape_row
 halfway_certified = refl
 
 -- a construction has one certificate for each of its needs
 one_less_certificate : verdict [] (halfway apart_points) (made_between (Plain Fact ∷ []) (Plain Fact ∷ Plain Fact ∷ [])) ≡ Err 2
-unfolding placed_steps joined shape_row
+unfolding placed_steps with_fact shape_row
 one_less_certificate = refl
 
 -- the points are `a` and `b`, and `c` is the statement's name of the point between them
@@ -162,7 +162,7 @@ abbrev split : Script
 split = Cases on_line (Qed [] (Plain Fact ∷ [])) (Contradiction (Some (Clash on_line)))
 
 split_certified : Certified [] stands_on split
-unfolding placed_steps joined
+unfolding placed_steps with_fact
 split_certified = refl
 
 three_lines_of_a_split : size split ≡ 3
@@ -175,7 +175,7 @@ two_deep = refl
 
 -- the first block has the literal for a fact, not its negation
 no_clash_in_the_first : verdict [] stands_on (Cases on_line (Contradiction (Some (Clash on_line))) (Qed [] (Plain Fact ∷ []))) ≡ Err 2
-unfolding placed_steps joined
+unfolding placed_steps with_fact
 no_clash_in_the_first = refl
 
 -- a claim whose block makes a point between the others
@@ -191,17 +191,17 @@ on_one_line =
     record { declared = Point ∷ Point ∷ Line ∷ []; given = apart (point 0) (point 1) ∷ on 0 0 ∷ on 1 0 ∷ []; made = []; shown = two_on_line }
 
 claim_certified : Certified [] on_one_line (with_point two_on_line (Qed [] (Plain Fact ∷ [])))
-unfolding placed_steps joined shape_row
+unfolding placed_steps with_fact shape_row
 claim_certified = refl
 
 -- after the claim the point is gone
 point_is_gone : verdict [] on_one_line (with_point two_on_line (Hence (between 0 2 1) (Some (Plain Fact)) (Qed [] (Plain Fact ∷ [])))) ≡ Err 4
-unfolding placed_steps joined shape_row
+unfolding placed_steps with_fact shape_row
 point_is_gone = refl
 
 -- what a claim shows cannot speak of it
 point_is_not_claimed : verdict [] on_one_line (with_point (between 0 2 1 ∷ []) (Qed [] (Plain Fact ∷ []))) ≡ Err 1
-unfolding placed_steps joined shape_row
+unfolding placed_steps with_fact shape_row
 point_is_not_claimed = refl
 
 -- ---- an earlier theorem: a point of a line is on it
@@ -216,14 +216,14 @@ abbrev applied : List (Option Obj) → Script
 applied args = Apply 0 args [] (Plain Fact ∷ []) (Qed [] (Plain Fact ∷ []))
 
 application_certified : Certified (about_lines ∷ []) two_lines (applied (Some (point 0) ∷ Some (obj Line 0) ∷ []))
-unfolding placed_steps joined
+unfolding placed_steps with_fact
 application_certified = refl
 
 -- a derivation has no blank, and applies an earlier theorem
 blank_is_left : verdict (about_lines ∷ []) two_lines (applied (Some (point 0) ∷ None ∷ [])) ≡ Err 1
-unfolding placed_steps joined
+unfolding placed_steps with_fact
 blank_is_left = refl
 
 no_such_theorem : verdict [] two_lines (applied (Some (point 0) ∷ Some (obj Line 0) ∷ [])) ≡ Err 1
-unfolding placed_steps joined
+unfolding placed_steps with_fact
 no_such_theorem = refl

@@ -3,7 +3,7 @@ use Rattle.std.proofs.Common.{◌≡◌, ◌≤◌, List, [], ◌∷◌, ◌++�
 use Rattle.std.specs.Prelude.{take, if◌then◌else◌}
 use Rattle.std.proofs.lemmas.List.{length-take}
 use Rattle.e_literal.specs.declared.literal.Lit.{Lit}
-use Rattle.e_literal.specs.Facts.{has, joined, joined_all}
+use Rattle.e_literal.specs.Facts.{has, with_fact, with_facts}
 
 pub all_stay : (facts : List Lit) → take (length facts) facts ≡ facts
 all_stay [] = refl
@@ -13,8 +13,8 @@ stay_before : (facts : List Lit) (l : Lit) → take (length facts) (facts ++ l �
 stay_before [] l = refl
 stay_before (k ∷ facts) l = ap (λ ls. k ∷ ls) (stay_before facts l)
 
-pub stay_joined : (facts : List Lit) (l : Lit) → take (length facts) (joined facts l) ≡ facts
-unfolding joined
+pub stay_joined : (facts : List Lit) (l : Lit) → take (length facts) (with_fact facts l) ≡ facts
+unfolding with_fact
 stay_joined facts l = by (has facts l)
   where
     by : (b : Bool) → take (length facts) (if b then facts else facts ++ l ∷ []) ≡ facts
@@ -40,9 +40,9 @@ stay_on (x ∷ a) (y ∷ b) (z ∷ c) h k =
     let rest = stay_on a b c (same_after y x (take (length a) b) a h) (same_after z y (take (length b) c) b k) in
     ap (λ l. l ∷ take (length a) c) first ∙ ap (λ ls. x ∷ ls) rest
 
-pub stay_all : (facts ls : List Lit) → take (length facts) (joined_all facts ls) ≡ facts
+pub stay_all : (facts ls : List Lit) → take (length facts) (with_facts facts ls) ≡ facts
 stay_all facts [] = all_stay facts
-stay_all facts (l ∷ ls) = stay_on facts (joined facts l) (joined_all (joined facts l) ls) (stay_joined facts l) (stay_all (joined facts l) ls)
+stay_all facts (l ∷ ls) = stay_on facts (with_fact facts l) (with_facts (with_fact facts l) ls) (stay_joined facts l) (stay_all (with_fact facts l) ls)
 
 pub no_fewer : (a b : List Lit) → take (length a) b ≡ a → length a ≤ length b
 no_fewer a b h = let e = sym (length-take (length a) b) ∙ ap (λ xs. length xs) h in omega (arith, e)

@@ -8,7 +8,7 @@ use Rattle.e_literal.specs.declared.literal.Lit.{Lit}
 use Rattle.e_literal.specs.declared.object.Obj.{Obj}
 use Rattle.e_literal.specs.declared.object.Scope.{Scope}
 use Rattle.e_literal.specs.Literal.{negation}
-use Rattle.e_literal.specs.Facts.{joined, joined_all}
+use Rattle.e_literal.specs.Facts.{with_fact, with_facts}
 use Rattle.e_literal.specs.Scopes.{grown}
 use Rattle.e_literal.specs.Use.{StatementView, are_arguments, needs_of_use, gives_of_use, scope_of}
 use Rattle.e_literal.proofs.Booleans.{and_left, and_right}
@@ -175,31 +175,31 @@ parted before (a ∷ xs) (b ∷ xs') ys ys' (suc p) x y n h k =
 
 pub lines_length : (before : List StatementView) (d f : Script) (s : Scope) (facts : List Lit) (goal : Goal) → length (placed_steps before d f s facts goal) ≡ size d
 unfolding placed_steps size
-lines_length before (Cite by rest) f s facts goal = let h = lines_length before rest (rest_of f) s (joined facts by.lit) goal in omega (arith, h)
-lines_length before (Hence lit cert rest) f s facts goal = let h = lines_length before rest (rest_of f) s (joined facts lit) goal in omega (arith, h)
+lines_length before (Cite by rest) f s facts goal = let h = lines_length before rest (rest_of f) s (with_fact facts by.lit) goal in omega (arith, h)
+lines_length before (Hence lit cert rest) f s facts goal = let h = lines_length before rest (rest_of f) s (with_fact facts lit) goal in omega (arith, h)
 lines_length before (Make construction names certs rest) f s facts goal =
-    let h = lines_length before rest (rest_of f) (grown s (sorts_made construction)) (joined_all facts (gives_of_construction construction s)) goal in omega (arith, h)
+    let h = lines_length before rest (rest_of f) (grown s (sorts_made construction)) (with_facts facts (gives_of_construction construction s)) goal in omega (arith, h)
 lines_length before (Apply theorem args names certs rest) f s facts goal =
-    let h = lines_length before rest (rest_of f) (grown s (theorem_at before theorem).made) (joined_all facts (gives_of_use (theorem_at before theorem) (args_of f) s)) goal in omega (arith, h)
+    let h = lines_length before rest (rest_of f) (grown s (theorem_at before theorem).made) (with_facts facts (gives_of_use (theorem_at before theorem) (args_of f) s)) goal in omega (arith, h)
 lines_length before (Claim shown inner rest) f s facts goal =
     let one = placed_steps before inner (inner_of f) s facts (goal_of shown) in
-    let other = placed_steps before rest (rest_of f) s (joined_all facts shown) goal in
+    let other = placed_steps before rest (rest_of f) s (with_facts facts shown) goal in
     let h = lines_length before inner (inner_of f) s facts (goal_of shown) in
-    let k = lines_length before rest (rest_of f) s (joined_all facts shown) goal in
+    let k = lines_length before rest (rest_of f) s (with_facts facts shown) goal in
     omega (arith, h, k, length-append one other)
 lines_length before (Superposed superposition names shown certs inner rest) f s facts goal =
-    let one = placed_steps before inner (inner_of f) (grown s superposing.sorts_copied) (joined_all facts (superposing.gives_of_superposition superposition s)) (goal_of shown) in
-    let other = placed_steps before rest (rest_of f) s (joined_all facts shown) goal in
-    let h = lines_length before inner (inner_of f) (grown s superposing.sorts_copied) (joined_all facts (superposing.gives_of_superposition superposition s)) (goal_of shown) in
-    let k = lines_length before rest (rest_of f) s (joined_all facts shown) goal in
+    let one = placed_steps before inner (inner_of f) (grown s superposing.sorts_copied) (with_facts facts (superposing.gives_of_superposition superposition s)) (goal_of shown) in
+    let other = placed_steps before rest (rest_of f) s (with_facts facts shown) goal in
+    let h = lines_length before inner (inner_of f) (grown s superposing.sorts_copied) (with_facts facts (superposing.gives_of_superposition superposition s)) (goal_of shown) in
+    let k = lines_length before rest (rest_of f) s (with_facts facts shown) goal in
     omega (arith, h, k, length-append one other)
 lines_length before (Qed objects certs) f s facts goal = refl
 lines_length before (Contradiction against) f s facts goal = refl
 lines_length before (Cases lit first second) f s facts goal =
-    let one = placed_steps before first (inner_of f) s (joined facts lit) goal in
-    let other = placed_steps before second (rest_of f) s (joined facts (negation lit)) goal in
-    let h = lines_length before first (inner_of f) s (joined facts lit) goal in
-    let k = lines_length before second (rest_of f) s (joined facts (negation lit)) goal in
+    let one = placed_steps before first (inner_of f) s (with_fact facts lit) goal in
+    let other = placed_steps before second (rest_of f) s (with_fact facts (negation lit)) goal in
+    let h = lines_length before first (inner_of f) s (with_fact facts lit) goal in
+    let k = lines_length before second (rest_of f) s (with_fact facts (negation lit)) goal in
     omega (arith, h, k, length-append one other)
 
 pub same_length : (before : List StatementView) (d f f' : Script) (s : Scope) (facts : List Lit) (goal : Goal) → length (placed_steps before d f s facts goal) ≡ length (placed_steps before d f' s facts goal)
@@ -217,71 +217,71 @@ same_context : (before : List StatementView) (d f f' : Script) (s : Scope) (fact
     Stands before (placed_steps before d f s facts goal) p x → Stands before (placed_steps before d f' s facts goal) p y → SamePlace x y
 unfolding placed_steps
 same_context before (Cite by rest) f f' s facts goal zero x y h k =
-    first_place before _ _ (placed_steps before rest (rest_of f) s (joined facts by.lit) goal) (placed_steps before rest (rest_of f') s (joined facts by.lit) goal) x y (alike (Cite by rest) f f' s facts goal) h k
+    first_place before _ _ (placed_steps before rest (rest_of f) s (with_fact facts by.lit) goal) (placed_steps before rest (rest_of f') s (with_fact facts by.lit) goal) x y (alike (Cite by rest) f f' s facts goal) h k
 same_context before (Cite by rest) f f' s facts goal (suc p) x y h k =
-    same_context before rest (rest_of f) (rest_of f') s (joined facts by.lit) goal p x y (stands_after before _ _ p x h) (stands_after before _ _ p y k)
+    same_context before rest (rest_of f) (rest_of f') s (with_fact facts by.lit) goal p x y (stands_after before _ _ p x h) (stands_after before _ _ p y k)
 same_context before (Hence lit cert rest) f f' s facts goal zero x y h k =
-    first_place before _ _ (placed_steps before rest (rest_of f) s (joined facts lit) goal) (placed_steps before rest (rest_of f') s (joined facts lit) goal) x y (alike (Hence lit cert rest) f f' s facts goal) h k
+    first_place before _ _ (placed_steps before rest (rest_of f) s (with_fact facts lit) goal) (placed_steps before rest (rest_of f') s (with_fact facts lit) goal) x y (alike (Hence lit cert rest) f f' s facts goal) h k
 same_context before (Hence lit cert rest) f f' s facts goal (suc p) x y h k =
-    same_context before rest (rest_of f) (rest_of f') s (joined facts lit) goal p x y (stands_after before _ _ p x h) (stands_after before _ _ p y k)
+    same_context before rest (rest_of f) (rest_of f') s (with_fact facts lit) goal p x y (stands_after before _ _ p x h) (stands_after before _ _ p y k)
 same_context before (Make construction names certs rest) f f' s facts goal zero x y h k =
-    let after = joined_all facts (gives_of_construction construction s) in
+    let after = with_facts facts (gives_of_construction construction s) in
     first_place before _ _ (placed_steps before rest (rest_of f) (grown s (sorts_made construction)) after goal) (placed_steps before rest (rest_of f') (grown s (sorts_made construction)) after goal) x y (alike (Make construction names certs rest) f f' s facts goal) h k
 same_context before (Make construction names certs rest) f f' s facts goal (suc p) x y h k =
-    same_context before rest (rest_of f) (rest_of f') (grown s (sorts_made construction)) (joined_all facts (gives_of_construction construction s)) goal p x y (stands_after before _ _ p x h) (stands_after before _ _ p y k)
+    same_context before rest (rest_of f) (rest_of f') (grown s (sorts_made construction)) (with_facts facts (gives_of_construction construction s)) goal p x y (stands_after before _ _ p x h) (stands_after before _ _ p y k)
 same_context before (Apply theorem pattern names certs rest) f f' s facts goal zero x y h k =
     let t = theorem_at before theorem in
-    first_place before _ _ (placed_steps before rest (rest_of f) (grown s t.made) (joined_all facts (gives_of_use t (args_of f) s)) goal)
-    (placed_steps before rest (rest_of f') (grown s t.made) (joined_all facts (gives_of_use t (args_of f') s)) goal) x y (alike (Apply theorem pattern names certs rest) f f' s facts goal) h k
+    first_place before _ _ (placed_steps before rest (rest_of f) (grown s t.made) (with_facts facts (gives_of_use t (args_of f) s)) goal)
+    (placed_steps before rest (rest_of f') (grown s t.made) (with_facts facts (gives_of_use t (args_of f') s)) goal) x y (alike (Apply theorem pattern names certs rest) f f' s facts goal) h k
 same_context before (Apply theorem pattern names certs rest) f f' s facts goal (suc p) x y h k =
     let t = theorem_at before theorem in
     let e : args_of f' ≡ args_of f = least_is_one t s facts pattern (args_of f') (args_of f) k.earlier.0.others h.earlier.0.others in
-    let below = stands_after before _ (placed_steps before rest (rest_of f') (grown s t.made) (joined_all facts (gives_of_use t (args_of f') s)) goal) p y k in
-    same_context before rest (rest_of f) (rest_of f') (grown s t.made) (joined_all facts (gives_of_use t (args_of f) s)) goal p x y (stands_after before _ _ p x h)
-    (subst (λ xs. Stands before (placed_steps before rest (rest_of f') (grown s t.made) (joined_all facts (gives_of_use t xs s)) goal) p y) e below)
+    let below = stands_after before _ (placed_steps before rest (rest_of f') (grown s t.made) (with_facts facts (gives_of_use t (args_of f') s)) goal) p y k in
+    same_context before rest (rest_of f) (rest_of f') (grown s t.made) (with_facts facts (gives_of_use t (args_of f) s)) goal p x y (stands_after before _ _ p x h)
+    (subst (λ xs. Stands before (placed_steps before rest (rest_of f') (grown s t.made) (with_facts facts (gives_of_use t xs s)) goal) p y) e below)
 same_context before (Claim shown inner rest) f f' s facts goal zero x y h k =
-    first_place before _ _ (placed_steps before inner (inner_of f) s facts (goal_of shown) ++ placed_steps before rest (rest_of f) s (joined_all facts shown) goal)
-    (placed_steps before inner (inner_of f') s facts (goal_of shown) ++ placed_steps before rest (rest_of f') s (joined_all facts shown) goal) x y (alike (Claim shown inner rest) f f' s facts goal) h k
+    first_place before _ _ (placed_steps before inner (inner_of f) s facts (goal_of shown) ++ placed_steps before rest (rest_of f) s (with_facts facts shown) goal)
+    (placed_steps before inner (inner_of f') s facts (goal_of shown) ++ placed_steps before rest (rest_of f') s (with_facts facts shown) goal) x y (alike (Claim shown inner rest) f f' s facts goal) h k
 same_context before (Claim shown inner rest) f f' s facts goal (suc p) x y h k =
     let one = placed_steps before inner (inner_of f) s facts (goal_of shown) in
     let one' = placed_steps before inner (inner_of f') s facts (goal_of shown) in
-    let other = placed_steps before rest (rest_of f) s (joined_all facts shown) goal in
-    let other' = placed_steps before rest (rest_of f') s (joined_all facts shown) goal in
+    let other = placed_steps before rest (rest_of f) s (with_facts facts shown) goal in
+    let other' = placed_steps before rest (rest_of f') s (with_facts facts shown) goal in
     elim (parted before one one' other other' p x y (same_length before inner (inner_of f) (inner_of f') s facts (goal_of shown)) (stands_after before _ _ p x h) (stands_after before _ _ p y k)) [
       | inl r ↦ same_context before inner (inner_of f) (inner_of f') s facts (goal_of shown) p x y r.one r.other
-      | inr r ↦ same_context before rest (rest_of f) (rest_of f') s (joined_all facts shown) goal r.place x y r.one r.other
+      | inr r ↦ same_context before rest (rest_of f) (rest_of f') s (with_facts facts shown) goal r.place x y r.one r.other
     ]
 same_context before (Superposed superposition names shown certs inner rest) f f' s facts goal zero x y h k =
     let g = grown s superposing.sorts_copied in
-    let given = joined_all facts (superposing.gives_of_superposition superposition s) in
-    first_place before _ _ (placed_steps before inner (inner_of f) g given (goal_of shown) ++ placed_steps before rest (rest_of f) s (joined_all facts shown) goal)
-    (placed_steps before inner (inner_of f') g given (goal_of shown) ++ placed_steps before rest (rest_of f') s (joined_all facts shown) goal) x y (alike (Superposed superposition names shown certs inner rest) f f' s facts goal) h k
+    let given = with_facts facts (superposing.gives_of_superposition superposition s) in
+    first_place before _ _ (placed_steps before inner (inner_of f) g given (goal_of shown) ++ placed_steps before rest (rest_of f) s (with_facts facts shown) goal)
+    (placed_steps before inner (inner_of f') g given (goal_of shown) ++ placed_steps before rest (rest_of f') s (with_facts facts shown) goal) x y (alike (Superposed superposition names shown certs inner rest) f f' s facts goal) h k
 same_context before (Superposed superposition names shown certs inner rest) f f' s facts goal (suc p) x y h k =
     let g = grown s superposing.sorts_copied in
-    let given = joined_all facts (superposing.gives_of_superposition superposition s) in
+    let given = with_facts facts (superposing.gives_of_superposition superposition s) in
     let one = placed_steps before inner (inner_of f) g given (goal_of shown) in
     let one' = placed_steps before inner (inner_of f') g given (goal_of shown) in
-    let other = placed_steps before rest (rest_of f) s (joined_all facts shown) goal in
-    let other' = placed_steps before rest (rest_of f') s (joined_all facts shown) goal in
+    let other = placed_steps before rest (rest_of f) s (with_facts facts shown) goal in
+    let other' = placed_steps before rest (rest_of f') s (with_facts facts shown) goal in
     elim (parted before one one' other other' p x y (same_length before inner (inner_of f) (inner_of f') g given (goal_of shown)) (stands_after before _ _ p x h) (stands_after before _ _ p y k)) [
       | inl r ↦ same_context before inner (inner_of f) (inner_of f') g given (goal_of shown) p x y r.one r.other
-      | inr r ↦ same_context before rest (rest_of f) (rest_of f') s (joined_all facts shown) goal r.place x y r.one r.other
+      | inr r ↦ same_context before rest (rest_of f) (rest_of f') s (with_facts facts shown) goal r.place x y r.one r.other
     ]
 same_context before (Qed objects certs) f f' s facts goal zero x y h k = first_place before _ _ [] [] x y (alike (Qed objects certs) f f' s facts goal) h k
 same_context before (Qed objects certs) f f' s facts goal (suc p) x y h k = absurd (nothing_after before _ p x h)
 same_context before (Contradiction against) f f' s facts goal zero x y h k = first_place before _ _ [] [] x y (alike (Contradiction against) f f' s facts goal) h k
 same_context before (Contradiction against) f f' s facts goal (suc p) x y h k = absurd (nothing_after before _ p x h)
 same_context before (Cases lit first second) f f' s facts goal zero x y h k =
-    first_place before _ _ (placed_steps before first (inner_of f) s (joined facts lit) goal ++ placed_steps before second (rest_of f) s (joined facts (negation lit)) goal)
-    (placed_steps before first (inner_of f') s (joined facts lit) goal ++ placed_steps before second (rest_of f') s (joined facts (negation lit)) goal) x y (alike (Cases lit first second) f f' s facts goal) h k
+    first_place before _ _ (placed_steps before first (inner_of f) s (with_fact facts lit) goal ++ placed_steps before second (rest_of f) s (with_fact facts (negation lit)) goal)
+    (placed_steps before first (inner_of f') s (with_fact facts lit) goal ++ placed_steps before second (rest_of f') s (with_fact facts (negation lit)) goal) x y (alike (Cases lit first second) f f' s facts goal) h k
 same_context before (Cases lit first second) f f' s facts goal (suc p) x y h k =
-    let one = placed_steps before first (inner_of f) s (joined facts lit) goal in
-    let one' = placed_steps before first (inner_of f') s (joined facts lit) goal in
-    let other = placed_steps before second (rest_of f) s (joined facts (negation lit)) goal in
-    let other' = placed_steps before second (rest_of f') s (joined facts (negation lit)) goal in
-    elim (parted before one one' other other' p x y (same_length before first (inner_of f) (inner_of f') s (joined facts lit) goal) (stands_after before _ _ p x h) (stands_after before _ _ p y k)) [
-      | inl r ↦ same_context before first (inner_of f) (inner_of f') s (joined facts lit) goal p x y r.one r.other
-      | inr r ↦ same_context before second (rest_of f) (rest_of f') s (joined facts (negation lit)) goal r.place x y r.one r.other
+    let one = placed_steps before first (inner_of f) s (with_fact facts lit) goal in
+    let one' = placed_steps before first (inner_of f') s (with_fact facts lit) goal in
+    let other = placed_steps before second (rest_of f) s (with_fact facts (negation lit)) goal in
+    let other' = placed_steps before second (rest_of f') s (with_fact facts (negation lit)) goal in
+    elim (parted before one one' other other' p x y (same_length before first (inner_of f) (inner_of f') s (with_fact facts lit) goal) (stands_after before _ _ p x h) (stands_after before _ _ p y k)) [
+      | inl r ↦ same_context before first (inner_of f) (inner_of f') s (with_fact facts lit) goal p x y r.one r.other
+      | inr r ↦ same_context before second (rest_of f) (rest_of f') s (with_fact facts (negation lit)) goal r.place x y r.one r.other
     ]
 
 -- ---- lists in which lines are licensed

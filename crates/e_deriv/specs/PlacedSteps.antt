@@ -5,7 +5,7 @@ use Rattle.e_literal.specs.declared.object.Obj.{Obj}
 use Rattle.e_literal.specs.declared.object.Scope.{Scope}
 use Rattle.e_literal.specs.declared.literal.Lit.{Lit}
 use Rattle.e_literal.specs.Literal.{negation}
-use Rattle.e_literal.specs.Facts.{joined, joined_all}
+use Rattle.e_literal.specs.Facts.{with_fact, with_facts}
 use Rattle.e_literal.specs.Scopes.{grown}
 use Rattle.e_literal.specs.Use.{StatementView, gives_of_use, scope_of}
 use Rattle.e_construct.specs.Construct.{sorts_made, gives_of_construction}
@@ -46,36 +46,36 @@ unfoldable pub placed_steps : List StatementView → Script → Script → Scope
     → Goal → List PlacedStep
 placed_steps before (Cite by rest) f s facts goal =
     placed_step (Cite by rest) f s facts goal
-    ∷ placed_steps before rest (rest_of f) s (joined facts by.lit) goal
+    ∷ placed_steps before rest (rest_of f) s (with_fact facts by.lit) goal
 placed_steps before (Hence lit cert rest) f s facts goal =
     placed_step (Hence lit cert rest) f s facts goal
-    ∷ placed_steps before rest (rest_of f) s (joined facts lit) goal
+    ∷ placed_steps before rest (rest_of f) s (with_fact facts lit) goal
 placed_steps before (Make construction names certs rest) f s facts goal =
     placed_step (Make construction names certs rest) f s facts goal
     ∷ placed_steps before rest (rest_of f)
     (grown s (sorts_made construction))
-    (joined_all facts (gives_of_construction construction s)) goal
+    (with_facts facts (gives_of_construction construction s)) goal
 placed_steps before (Apply theorem args names certs rest) f s facts goal =
     placed_step (Apply theorem args names certs rest) f s facts goal
     ∷ placed_steps before rest (rest_of f) (grown s (theorem_at before theorem).made)
-    (joined_all facts (gives_of_use (theorem_at before theorem) (args_of f) s)) goal
+    (with_facts facts (gives_of_use (theorem_at before theorem) (args_of f) s)) goal
 placed_steps before (Claim shown inner rest) f s facts goal =
     placed_step (Claim shown inner rest) f s facts goal
     ∷ (placed_steps before inner (inner_of f) s facts (goal_of shown)
-    ++ placed_steps before rest (rest_of f) s (joined_all facts shown) goal)
+    ++ placed_steps before rest (rest_of f) s (with_facts facts shown) goal)
 placed_steps before (Superposed superposition names shown certs inner rest) f s facts goal =
     placed_step (Superposed superposition names shown certs inner rest) f s facts goal
     ∷ (placed_steps before inner (inner_of f) (grown s superposing.sorts_copied)
-    (joined_all facts (superposing.gives_of_superposition superposition s)) (goal_of shown)
-    ++ placed_steps before rest (rest_of f) s (joined_all facts shown) goal)
+    (with_facts facts (superposing.gives_of_superposition superposition s)) (goal_of shown)
+    ++ placed_steps before rest (rest_of f) s (with_facts facts shown) goal)
 placed_steps before (Qed objects certs) f s facts goal =
     placed_step (Qed objects certs) f s facts goal ∷ []
 placed_steps before (Contradiction against) f s facts goal =
     placed_step (Contradiction against) f s facts goal ∷ []
 placed_steps before (Cases lit first second) f s facts goal =
     placed_step (Cases lit first second) f s facts goal
-    ∷ (placed_steps before first (inner_of f) s (joined facts lit) goal
-    ++ placed_steps before second (rest_of f) s (joined facts (negation lit)) goal)
+    ∷ (placed_steps before first (inner_of f) s (with_fact facts lit) goal
+    ++ placed_steps before second (rest_of f) s (with_fact facts (negation lit)) goal)
 
 -- the steps of a statement's proof
 abbrev pub proof_steps : List StatementView → StatementView → Script → Script → List PlacedStep

@@ -3,7 +3,7 @@ use Rattle.std.specs.Prelude.{List, IsTrue}
 use Rattle.e_literal.specs.declared.object.Scope.{Scope}
 use Rattle.e_literal.specs.declared.literal.Lit.{Lit}
 use Rattle.e_literal.specs.Literal.{negation, all_in_scope}
-use Rattle.e_literal.specs.Facts.{joined, joined_all}
+use Rattle.e_literal.specs.Facts.{with_fact, with_facts}
 use Rattle.e_literal.specs.Scopes.{grown}
 use Rattle.e_literal.specs.Use.{StatementView, needs_of_use, gives_of_use, scope_of}
 use Rattle.e_clause.specs.Allowed.{Allowed, AllAllowed}
@@ -23,31 +23,31 @@ unfoldable pub Proves : List StatementView → Scope → List Lit → Goal → S
 -- the literal is one of the instance, the negation of each other is a fact; it joins the facts
 Proves before s facts goal (Cite by rest) =
     IsTrue (is_citation s by) × IsTrue (is_cited facts by)
-    × Proves before s (joined facts by.lit) goal rest
+    × Proves before s (with_fact facts by.lit) goal rest
 -- the literal is allowed; it joins the facts
 Proves before s facts goal (Hence lit cert rest) =
     IsTrue (all_in_scope s lit) × Allowed s facts lit
-    × Proves before s (joined facts lit) goal rest
+    × Proves before s (with_fact facts lit) goal rest
 -- each literal that the construction needs is allowed; the new objects come into scope, and what it
 -- gives joins the facts
 Proves before s facts goal (Make construction names certs rest) =
     IsTrue (fits_construction construction s)
     × AllAllowed s facts (needs_of_construction construction)
     × Proves before (grown s (sorts_made construction))
-    (joined_all facts (gives_of_construction construction s)) goal rest
+    (with_facts facts (gives_of_construction construction s)) goal rest
 -- no argument is a blank, they fit the theorem, which is an earlier one, and each given literal is
 -- allowed; the made objects come into scope, and the shown literals join the facts
 Proves before s facts goal (Apply theorem args names certs rest) =
     IsTrue (has_no_blank args) × IsTrue (is_applied before theorem s args (written args))
     × AllAllowed s facts (needs_of_use (theorem_at before theorem) (written args) s)
     × Proves before (grown s (theorem_at before theorem).made)
-    (joined_all facts (gives_of_use (theorem_at before theorem) (written args) s)) goal rest
+    (with_facts facts (gives_of_use (theorem_at before theorem) (written args) s)) goal rest
 -- the inner block proves the claimed literals, and these join the facts; the inner objects and
 -- facts are gone
 Proves before s facts goal (Claim shown inner rest) =
     IsTrue (are_over s shown)
     × Proves before s facts (goal_of shown) inner
-    × Proves before s (joined_all facts shown) goal rest
+    × Proves before s (with_facts facts shown) goal rest
 -- each literal that the superposition needs is allowed, and the inner block proves the shown
 -- literals with the copy; these join the facts, and the copy is gone
 Proves before s facts goal (Superposed superposition names shown certs inner rest) =
@@ -55,8 +55,8 @@ Proves before s facts goal (Superposed superposition names shown certs inner res
     × AllAllowed s facts (superposing.needs_of_superposition superposition)
     × IsTrue (are_over s shown)
     × Proves before (grown s superposing.sorts_copied)
-    (joined_all facts (superposing.gives_of_superposition superposition s)) (goal_of shown) inner
-    × Proves before s (joined_all facts shown) goal rest
+    (with_facts facts (superposing.gives_of_superposition superposition s)) (goal_of shown) inner
+    × Proves before s (with_facts facts shown) goal rest
 -- each goal literal, with the objects for the made ones, is allowed
 Proves before s facts goal (Qed objects certs) =
     IsTrue (are_for goal s objects) × AllAllowed s facts (goal_with goal objects)
@@ -65,8 +65,8 @@ Proves before s facts goal (Contradiction against) = Contradictory facts
 -- the first block proves the goal with the literal, and the second with its negation
 Proves before s facts goal (Cases lit first second) =
     IsTrue (all_in_scope s lit)
-    × Proves before s (joined facts lit) goal first
-    × Proves before s (joined facts (negation lit)) goal second
+    × Proves before s (with_fact facts lit) goal first
+    × Proves before s (with_fact facts (negation lit)) goal second
 
 -- the script proves the statement, where these are the theorems before it
 abbrev pub IsProof : List StatementView → StatementView → Script → Type 0

@@ -89,14 +89,18 @@ depth (Contradiction against) = 1
 depth (Cases lit first second) = 1 + max (depth first) (depth second)
 
 -- without its certificates
-unfoldable pub erased : Script → Script
-erased (Cite by rest) = Cite by (erased rest)
-erased (Hence lit cert rest) = Hence lit None (erased rest)
-erased (Make construction names certs rest) = Make construction names [] (erased rest)
-erased (Apply theorem args names certs rest) = Apply theorem args names [] (erased rest)
-erased (Claim shown inner rest) = Claim shown (erased inner) (erased rest)
-erased (Superposed superposition names shown certs inner rest) =
-    Superposed superposition names shown [] (erased inner) (erased rest)
-erased (Qed objects certs) = Qed objects []
-erased (Contradiction against) = Contradiction None
-erased (Cases lit first second) = Cases lit (erased first) (erased second)
+unfoldable pub script_without_certs : Script → Script
+script_without_certs (Cite by rest) = Cite by (script_without_certs rest)
+script_without_certs (Hence lit cert rest) = Hence lit None (script_without_certs rest)
+script_without_certs (Make construction names certs rest) =
+    Make construction names [] (script_without_certs rest)
+script_without_certs (Apply theorem args names certs rest) =
+    Apply theorem args names [] (script_without_certs rest)
+script_without_certs (Claim shown inner rest) =
+    Claim shown (script_without_certs inner) (script_without_certs rest)
+script_without_certs (Superposed superposition names shown certs inner rest) =
+    Superposed superposition names shown [] (script_without_certs inner) (script_without_certs rest)
+script_without_certs (Qed objects certs) = Qed objects []
+script_without_certs (Contradiction against) = Contradiction None
+script_without_certs (Cases lit first second) =
+    Cases lit (script_without_certs first) (script_without_certs second)

@@ -95,7 +95,7 @@ pub enum Close {
 }
 
 /// Two blocks, boxed. It fails only out of memory.
-pub fn boxed(
+pub fn box_blocks(
     alloc: Global,
     first: Block,
     second: Block,

@@ -2,10 +2,11 @@
 ghost use Rattle.std.specs.Prelude.{◌≡◌, [], IfOk};
 ghost use Rattle.e_deriv.specs.declared.block.Step.TheVariants.{Make as MakeStep};
 ghost use Rattle.e_deriv.specs.declared.block.Step.TheVariants.{Apply as ApplyStep};
-ghost use Rattle.e_deriv.specs.Script.{Script, script_of, step_script, close_script, erased};
+ghost use Rattle.e_deriv.specs.Script.{Script, script_of, step_script};
+ghost use Rattle.e_deriv.specs.Script.{close_script, script_without_certs};
 
 use crate::block::{Block, Close, Step};
-use crate::inner::{claim, split, superpose};
+use crate::inner::{claim, cases, superpose};
 use e_clause::By;
 use e_construct::Construction;
 use e_literal::{Items, Lit, Obj, copy};
@@ -17,7 +18,7 @@ use std::mem;
 #[cycle(erase)]
 #[tactic(auto, using(crate::proofs::Scripts::erasing))]
 pub fn erase(alloc: Global, block: &Block) -> Result<Block, AllocError>
-    ensures { IfOk result (λ b. script_of b ≡ erased (script_of block.now)) }
+    ensures { IfOk result (λ b. script_of b ≡ script_without_certs (script_of block.now)) }
 {
     let mut steps = Vec::new(alloc);
     for step in &block.steps {
@@ -42,8 +43,8 @@ pub fn erase(alloc: Global, block: &Block) -> Result<Block, AllocError>
 #[cycle(erase)]
 #[tactic(auto, using(crate::proofs::Scripts::erasing))]
 fn erase_step(alloc: Global, step: &Step) -> Result<Step, AllocError>
-    ensures { IfOk result
-        (λ s. (rest : Script) → step_script s (erased rest) ≡ erased (step_script step.now rest)) }
+    ensures { IfOk result (λ s. (rest : Script) → step_script s (script_without_certs rest)
+        ≡ script_without_certs (step_script step.now rest)) }
 {
     match step {
         Step::Cite(by) => Ok(Step::Cite(copy_by(alloc, by)?)),
@@ -90,7 +91,7 @@ fn erase_step(alloc: Global, step: &Step) -> Result<Step, AllocError>
 #[cycle(erase)]
 #[tactic(auto, using(crate::proofs::Scripts::erasing))]
 fn erase_close(alloc: Global, close: &Close) -> Result<Close, AllocError>
-    ensures { IfOk result (λ c. close_script c ≡ erased (close_script close.now)) }
+    ensures { IfOk result (λ c. close_script c ≡ script_without_certs (close_script close.now)) }
 {
     match close {
         Close::Qed { objects, .. } => {
@@ -104,7 +105,7 @@ fn erase_close(alloc: Global, close: &Close) -> Result<Close, AllocError>
         Close::Cases { lit, first, second } => {
             let first = erase(alloc, first)?;
             match erase(alloc, second) {
-                Ok(second) => split(alloc, lit, first, second),
+                Ok(second) => cases(alloc, lit, first, second),
                 Err(error) => {
                     mem::drop(first);
                     Err(error)

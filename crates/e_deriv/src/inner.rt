@@ -3,7 +3,7 @@ ghost use Rattle.std.specs.Prelude.{◌≡◌, IfOk};
 ghost use Rattle.e_deriv.specs.Script.{Script, Claim, Superposed, Cases};
 ghost use Rattle.e_deriv.specs.Script.{script_of, step_script, close_script};
 
-use crate::block::{Block, Close, Step, boxed};
+use crate::block::{Block, Close, Step, box_blocks};
 use crate::erasing::{copy_lits, copy_names};
 use e_clause::Cert;
 use e_construct::Superpose;
@@ -81,11 +81,11 @@ fn copy_head(
 
 /// A split by an equal literal.
 #[tactic(auto, using(crate::proofs::Scripts::scripts))]
-pub fn split(alloc: Global, lit: &Lit, first: Block, second: Block) -> Result<Close, AllocError>
+pub fn cases(alloc: Global, lit: &Lit, first: Block, second: Block) -> Result<Close, AllocError>
     ensures { IfOk result
         (λ c. close_script c ≡ Cases lit.now (script_of first) (script_of second)) }
 {
-    let (first, second) = boxed(alloc, first, second)?;
+    let (first, second) = box_blocks(alloc, first, second)?;
     match copy(alloc, lit) {
         Ok(lit) => Ok(Close::Cases { lit, first, second }),
         Err(error) => {

@@ -5,7 +5,7 @@ use Rattle.std.specs.List.{list_all}
 use Rattle.std.proofs.lemmas.Bool.{and_parts, and_from}
 use Rattle.e_literal.specs.declared.literal.Lit.{Lit}
 use Rattle.e_literal.specs.declared.object.Scope.{Scope}
-use Rattle.e_literal.specs.Facts.{has, has_all, joined, joined_all}
+use Rattle.e_literal.specs.Facts.{has, has_all, with_fact, with_facts}
 use Rattle.e_literal.specs.Literal.{negation}
 use Rattle.e_deriv.specs.Script.{Script, Cite, Hence, Make, Apply, Claim, Superposed, Qed, Contradiction, Cases}
 use Rattle.e_figure.specs.Figure.{FigureView, is_figure}
@@ -47,19 +47,19 @@ module _ (d : FigureView) (figure : IsTrue (is_figure d)) (s : Scope) where
       let p = and_parts (is_true d f) (list_all (is_true d) facts) h in
       and_from (is_true d f) (list_all (is_true d) (facts ++ l ∷ [])) p.0 (one_more facts l p.1 e)
 
-  joined_true : (facts : List Lit) (l : Lit) → list_all (is_true d) facts ≡ true → is_true d l ≡ true → list_all (is_true d) (joined facts l) ≡ true
-  unfolding joined
+  joined_true : (facts : List Lit) (l : Lit) → list_all (is_true d) facts ≡ true → is_true d l ≡ true → list_all (is_true d) (with_fact facts l) ≡ true
+  unfolding with_fact
   joined_true facts l h e = by (has facts l)
     where
       by : (b : Bool) → list_all (is_true d) (cond b facts (facts ++ l ∷ [])) ≡ true
       by true = h
       by false = one_more facts l h e
 
-  all_joined : (facts ls : List Lit) → list_all (is_true d) facts ≡ true → list_all (is_true d) ls ≡ true → list_all (is_true d) (joined_all facts ls) ≡ true
+  all_joined : (facts ls : List Lit) → list_all (is_true d) facts ≡ true → list_all (is_true d) ls ≡ true → list_all (is_true d) (with_facts facts ls) ≡ true
   all_joined facts [] h e = h
   all_joined facts (l ∷ ls) h e =
       let p = and_parts (is_true d l) (list_all (is_true d) ls) e in
-      all_joined (joined facts l) ls (joined_true facts l h p.0) p.1
+      all_joined (with_fact facts l) ls (joined_true facts l h p.0) p.1
 
   each_fact : (facts goal : List Lit) → list_all (is_true d) facts ≡ true → has_all facts goal ≡ true → list_all (is_true d) goal ≡ true
   each_fact facts [] h e = refl
@@ -68,12 +68,12 @@ module _ (d : FigureView) (figure : IsTrue (is_figure d)) (s : Scope) where
       and_from (is_true d l) (list_all (is_true d) goal) (one facts l h (inl p.0)) (each_fact facts goal h p.1)
 
   shown_true : (facts goal : List Lit) (script : Script) → list_all (is_true d) facts ≡ true → ShowsByCiting s facts goal script → list_all (is_true d) goal ≡ true
-  shown_true facts goal (Cite by rest) h c = shown_true (joined facts by.lit) goal rest (joined_true facts by.lit h (one facts by.lit h (inr c.0))) c.1
-  shown_true facts goal (Claim shown inner rest) h c = shown_true (joined_all facts shown) goal rest (all_joined facts shown h (shown_true facts shown inner h c.0)) c.1
+  shown_true facts goal (Cite by rest) h c = shown_true (with_fact facts by.lit) goal rest (joined_true facts by.lit h (one facts by.lit h (inr c.0))) c.1
+  shown_true facts goal (Claim shown inner rest) h c = shown_true (with_facts facts shown) goal rest (all_joined facts shown h (shown_true facts shown inner h c.0)) c.1
   shown_true facts goal (Qed objects certs) h c = each_fact facts goal h c
   shown_true facts goal (Contradiction against) h c = absurd (not_both d c.0 (one facts c.0 h (inl c.1)) (one facts (negation c.0) h (inl c.2)))
   shown_true facts goal (Cases lit first second) h c =
-      by (is_true d lit) refl (λ e. shown_true (joined facts lit) goal first (joined_true facts lit h e) c.0) (λ e. shown_true (joined facts (negation lit)) goal second (joined_true facts (negation lit) h (turned d lit e)) c.1)
+      by (is_true d lit) refl (λ e. shown_true (with_fact facts lit) goal first (joined_true facts lit h e) c.0) (λ e. shown_true (with_fact facts (negation lit)) goal second (joined_true facts (negation lit) h (turned d lit e)) c.1)
     where
       by : (b : Bool) → is_true d lit ≡ b → (is_true d lit ≡ true → list_all (is_true d) goal ≡ true) → (is_true d lit ≡ false → list_all (is_true d) goal ≡ true) → list_all (is_true d) goal ≡ true
       by true e first second = first e

@@ -50,19 +50,19 @@ round_of words = do
   none ← end_at q.1
   rounded n.0 (record { x = x.0; y = y.0; square = q.0 })
 
-abbrev pub alone : List (List ℕ) → RawLine → Result RawLine FaultKind
-alone words line = end_at words >>= λ none. Ok line
+abbrev pub line_of_one_word : List (List ℕ) → RawLine → Result RawLine FaultKind
+line_of_one_word words line = end_at words >>= λ none. Ok line
 
 -- by the first word
 unfoldable pub plan_line_named : List ℕ → List (List ℕ) → Result RawLine FaultKind
 plan_line_named w ws =
-    if bytes_eq w (codes "figure") then alone ws raw.Figure else
+    if bytes_eq w (codes "figure") then line_of_one_word ws raw.Figure else
     if bytes_eq w (codes "point") then plan_point_of ws else
     if bytes_eq w (codes "line") then straight_of ws else
     if bytes_eq w (codes "circle") then round_of ws else
     if bytes_eq w (codes "given") then (diagram_lits_of ws >>= λ ls. Ok (raw.Given ls)) else
     if bytes_eq w (codes "show") then (diagram_lits_of ws >>= λ ls. Ok (raw.Show ls)) else
-    if bytes_eq w (codes "end") then alone ws raw.End else Err Malformed
+    if bytes_eq w (codes "end") then line_of_one_word ws raw.End else Err Malformed
 
 unfoldable pub plan_line_of : List (List ℕ) → Result RawLine FaultKind
 plan_line_of [] = Err Malformed

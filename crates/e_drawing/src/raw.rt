@@ -3,7 +3,7 @@ ghost use Rattle.std.specs.Prelude.{IfOk};
 ghost use Rattle.e_line.specs.Reading.{texts, Gives};
 ghost use Rattle.e_drawing.specs.inner.Nondegenerate.{IsNondegenerate};
 ghost use Rattle.e_drawing.specs.Lines.{plan_point_of, straight_of, round_of};
-ghost use Rattle.e_drawing.specs.Lines.{alone, plan_line_named, plan_line_of};
+ghost use Rattle.e_drawing.specs.Lines.{line_of_one_word, plan_line_named, plan_line_of};
 
 use crate::number::{coordinate, square};
 use e_figure::{Point, Round, Straight, has_direction, has_inside};
@@ -80,9 +80,9 @@ fn round_of(words: &[&[u8]]) -> Result<RawLine, LineError>
 }
 
 /// A line of one word.
-fn alone(words: &[&[u8]], line: RawLine) -> Result<RawLine, LineError>
+fn line_of_one_word(words: &[&[u8]], line: RawLine) -> Result<RawLine, LineError>
     requires { IsNondegenerate line }
-    ensures value { Gives (λ l. l) result (alone (texts words.now) line) }
+    ensures value { Gives (λ l. l) result (line_of_one_word (texts words.now) line) }
     ensures good { IfOk result IsNondegenerate }
 {
     match Words::new(words).end() {
@@ -101,7 +101,7 @@ fn line_named(alloc: Global, word: &[u8], rest: &[&[u8]]) -> Result<RawLine, Lin
     ensures good { IfOk result IsNondegenerate }
 {
     if is(word, b"figure") {
-        return alone(rest, RawLine::Figure);
+        return line_of_one_word(rest, RawLine::Figure);
     }
     if is(word, b"point") {
         return point_of(rest);
@@ -121,7 +121,7 @@ fn line_named(alloc: Global, word: &[u8], rest: &[&[u8]]) -> Result<RawLine, Lin
         return Ok(RawLine::Show(lits));
     }
     if is(word, b"end") {
-        return alone(rest, RawLine::End);
+        return line_of_one_word(rest, RawLine::End);
     }
     Err(LineError::Fault(FaultKind::Malformed))
 }

@@ -76,10 +76,10 @@ impl Figure {
             mem::drop(circles);
             return None;
         }
-        Some(Figure::drawn(points, lines, circles))
+        Some(Figure::of_objects(points, lines, circles))
     }
 
-    fn drawn(points: Vec<Point>, lines: Vec<Straight>, circles: Vec<Round>) -> Figure
+    fn of_objects(points: Vec<Point>, lines: Vec<Straight>, circles: Vec<Round>) -> Figure
         requires { IsTrue
             (spec.can_be_drawn (spec.view_of_figure points.items lines.items circles.items)) }
         ensures { result ≡ spec.view_of_figure points.items lines.items circles.items }

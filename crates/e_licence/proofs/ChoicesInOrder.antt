@@ -5,7 +5,7 @@ use Rattle.std.specs.List.{list_all}
 use Rattle.std.proofs.lemmas.Bool.{and_from}
 use Rattle.e_literal.specs.declared.object.Obj.{Obj}
 use Rattle.e_literal.specs.declared.literal.Lit.{Lit}
-use Rattle.e_literal.specs.Rename.{paired}
+use Rattle.e_literal.specs.Rename.{pairs_of}
 use Rattle.e_literal.specs.Scopes.{nothing}
 use Rattle.e_literal.specs.Use.{StatementView}
 use Rattle.e_clause.specs.Wide.{IsTooWideLit}
@@ -150,12 +150,12 @@ any_wide b t pattern c w asked some starts wide =
     record {
       args = args;
       is_choice = start_choice b t pattern c asked some starts;
-      lit = at (paired (objects t) args) wide.lit;
-      is_given = subst (λ (ls : List Lit). Contains ls (at (paired (objects t) args) wide.lit)) (sym (needs_declared t args b.scope asked.states fit))
-          (contains_at (at (paired (objects t) args)) t.given wide.lit wide.is_one);
+      lit = at (pairs_of (objects t) args) wide.lit;
+      is_given = subst (λ (ls : List Lit). Contains ls (at (pairs_of (objects t) args) wide.lit)) (sym (needs_declared t args b.scope asked.states fit))
+          (contains_at (at (pairs_of (objects t) args)) t.given wide.lit wide.is_one);
       is_wide = subst (λ (l : Lit). IsTooWideLit b.scope b.facts l w)
           (stays b.scope nothing t.declared pattern c [] wide.lit wide.is_wide.good
-          ∙ ap (λ d. at (paired (objects t) (filled_arguments nothing (objects t) pattern d)) wide.lit) (append-nil c)) wide.is_wide.is_wide;
+          ∙ ap (λ d. at (pairs_of (objects t) (filled_arguments nothing (objects t) pattern d)) wide.lit) (append-nil c)) wide.is_wide.is_wide;
     }
 
 -- where a blank has no number there is none

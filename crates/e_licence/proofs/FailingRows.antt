@@ -9,7 +9,7 @@ use Rattle.e_literal.specs.declared.object.Sort.{Sort}
 use Rattle.e_literal.specs.declared.literal.Lit.{Lit}
 use Rattle.e_literal.specs.Literal.{obj, count_of, all_in_scope}
 use Rattle.e_literal.specs.WellFormed.{is_well_formed}
-use Rattle.e_literal.specs.Rename.{same_obj, image_in, renamed}
+use Rattle.e_literal.specs.Rename.{same_obj, image_in, with_images}
 use Rattle.e_literal.specs.Scopes.{same_sort, nothing, with_one, next_objects}
 use Rattle.e_literal.proofs.WithImages.{is_moved_in, renamed_scope}
 use Rattle.e_literal.proofs.Sorts.{same_sort_is}
@@ -97,7 +97,7 @@ agrees_at s sorts entries c d l agrees good =
     let f = image_in (images_of_choice s (next_objects nothing sorts) entries c) in
     let g = image_in (images_of_choice s (next_objects nothing sorts) entries d) in
     same_renamed f g (is_moved_in s f) (λ o h. bound_agrees s nothing sorts entries c d o agrees h) l
-    (sym (renamed_scope s f l) ∙ and_left (all_in_scope s (renamed f l)) (is_well_formed (renamed f l)) good)
+    (sym (renamed_scope s f l) ∙ and_left (all_in_scope s (with_images f l)) (is_well_formed (with_images f l)) good)
 
 -- ---- two numbers
 

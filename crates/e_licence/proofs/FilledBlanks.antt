@@ -4,7 +4,7 @@ use Rattle.std.specs.Prelude.{Contains}
 use Rattle.std.proofs.lemmas.Bool.{and_from, cases_Bool}
 use Rattle.e_literal.specs.declared.object.Obj.{Obj}
 use Rattle.e_literal.specs.declared.literal.Lit.{Lit}
-use Rattle.e_literal.specs.Rename.{paired}
+use Rattle.e_literal.specs.Rename.{pairs_of}
 use Rattle.e_literal.specs.Scopes.{nothing, next_objects}
 use Rattle.e_literal.specs.Use.{StatementView, are_arguments, needs_of_use, is_statement}
 use Rattle.e_literal.proofs.Booleans.{and_left, and_right}
@@ -62,7 +62,7 @@ pub good_wanted : (b : Basis) (t : StatementView) (pattern : List (Option Obj)) 
     → Wanted b t pattern (chosen pattern args)
 good_wanted b t pattern args states good = (
   good_fits b t pattern args good,
-  subst (λ (os : List Obj). AllAllowed b.scope b.facts (map (at (paired (objects t) os)) t.given)) (sym (good_filled b t pattern args good))
+  subst (λ (os : List Obj). AllAllowed b.scope b.facts (map (at (pairs_of (objects t) os)) t.given)) (sym (good_filled b t pattern args good))
       (subst (λ (ls : List Lit). AllAllowed b.scope b.facts ls) (needs_declared t args b.scope states (and_right (fills pattern args) _ good.is_choice)) good.allowed),
 )
 
@@ -101,9 +101,9 @@ pub kept_allowed : (b : Basis) (t : StatementView) (pattern : List (Option Obj))
     → are_arguments t b.scope args ≡ true → FitsSpans (spans b t pattern) c → EachKept (Kept b t pattern) [] c → AllAllowed b.scope b.facts (needs_of_use t args b.scope)
 kept_allowed b t pattern c args states is fit fits kept =
     subst (λ (ls : List Lit). AllAllowed b.scope b.facts ls) (sym (needs_declared t args b.scope states fit))
-    (subst (λ (os : List Obj). AllAllowed b.scope b.facts (map (at (paired (objects t) os)) t.given)) is
+    (subst (λ (os : List Obj). AllAllowed b.scope b.facts (map (at (pairs_of (objects t) os)) t.given)) is
     (allowed_all b (images_of_choice b.scope (objects t) pattern c) t.given (all_bound b (objects t) pattern t.given c fits kept)
-    (ap (λ os. are_well_formed_in b.scope (map (at (paired (objects t) os)) t.given)) is ∙ declared_good t args b.scope states fit)))
+    (ap (λ os. are_well_formed_in b.scope (map (at (pairs_of (objects t) os)) t.given)) is ∙ declared_good t args b.scope states fit)))
 
 least_at : (b : Basis) (t : StatementView) (pattern : List (Option Obj)) (c : List ℕ) → IsAsked b t pattern → has_empty (spans b t pattern) ≡ false → FitsSpans (spans b t pattern) c
     → EachKept (Kept b t pattern) [] c → NoneBelow (Wanted b t pattern) [] (spans b t pattern) c → IsLeastChoice t b.scope b.facts pattern (filled_arguments nothing (objects t) pattern c)
@@ -134,12 +134,12 @@ too_wide b t pattern c w asked some starts wide none =
       args = args;
       is_choice = start_choice b t pattern c asked some starts;
       not_above = λ other h. none_below b t pattern c other asked.states none h.good;
-      lit = at (paired (objects t) args) wide.lit;
-      is_given = subst (λ (ls : List Lit). Contains ls (at (paired (objects t) args) wide.lit)) (sym (needs_declared t args b.scope asked.states fit))
-          (contains_at (at (paired (objects t) args)) t.given wide.lit wide.is_one);
+      lit = at (pairs_of (objects t) args) wide.lit;
+      is_given = subst (λ (ls : List Lit). Contains ls (at (pairs_of (objects t) args) wide.lit)) (sym (needs_declared t args b.scope asked.states fit))
+          (contains_at (at (pairs_of (objects t) args)) t.given wide.lit wide.is_one);
       is_wide = subst (λ (l : Lit). IsTooWideLit b.scope b.facts l w)
           (stays b.scope nothing t.declared pattern c [] wide.lit wide.is_wide.good
-          ∙ ap (λ d. at (paired (objects t) (filled_arguments nothing (objects t) pattern d)) wide.lit) (append-nil c)) wide.is_wide.is_wide;
+          ∙ ap (λ d. at (pairs_of (objects t) (filled_arguments nothing (objects t) pattern d)) wide.lit) (append-nil c)) wide.is_wide.is_wide;
     }
 
 -- ---- the outcome of a search over the objects

@@ -4,7 +4,7 @@ use Rattle.std.specs.Prelude.{map, slice_get, IfSome, IfOk, OnOk, OnErr, Bool, f
 use Rattle.std.proofs.lemmas.List.{length-append, length-take, take_all, take-take, take-append-le, map_push, same_from_push}
 use Rattle.e_literal.specs.declared.object.Scope.{Scope}
 use Rattle.e_literal.specs.declared.literal.Lit.{Lit}
-use Rattle.e_literal.specs.Facts.{has, joined}
+use Rattle.e_literal.specs.Facts.{has, with_fact}
 use Rattle.e_clause.specs.LimitedFacts.{are_limited_facts}
 use Rattle.e_facts.specs.declared.facts.Added.{Added}
 use Rattle.e_facts.specs.Adding.{AddedIs}
@@ -113,29 +113,29 @@ more_states : (s : Scope) (facts new more : List Lit) (held : List Held) (metric
 more_states s facts new more held metric_facts e h =
     ap (λ fs. map (held_in fs) held) e ∙ states_stay 0 (length facts) facts (facts ++ more) held (front_stays facts more) h.states
 
-joins : (facts : List Lit) (l : Lit) → (more : List Lit) × (joined facts l ≡ facts ++ more)
-unfolding joined
+joins : (facts : List Lit) (l : Lit) → (more : List Lit) × (with_fact facts l ≡ facts ++ more)
+unfolding with_fact
 joins facts l = by (has facts l)
   where
     by : (b : Bool) → (more : List Lit) × ((if b then facts else facts ++ l ∷ []) ≡ facts ++ more)
     by true = ([], sym (append-nil facts))
     by false = (l ∷ [], refl)
 
-pub after_add : {E : Type 0} (r : Result Added E) (s : Scope) (facts new : List Lit) (l : Lit) (held : List Held) (metric_facts : Option MetricFacts) → OnOk r (new ≡ joined facts l) → OnErr r (new ≡ facts) →
-    are_limited_facts s (joined facts l) ≡ true → IsHeldContext s facts held metric_facts → IsHeldContext s new held metric_facts
+pub after_add : {E : Type 0} (r : Result Added E) (s : Scope) (facts new : List Lit) (l : Lit) (held : List Held) (metric_facts : Option MetricFacts) → OnOk r (new ≡ with_fact facts l) → OnErr r (new ≡ facts) →
+    are_limited_facts s (with_fact facts l) ≡ true → IsHeldContext s facts held metric_facts → IsHeldContext s new held metric_facts
 after_add (Ok a) s facts new l held metric_facts ok err g h =
     let j = joins facts l in
     more_facts s facts new j.0 held metric_facts (ok ∙ j.1) (subst (λ fs. are_limited_facts s fs ≡ true) (sym ok) g) h
 after_add (Err e) s facts new l held metric_facts ok err g h = subst (λ fs. IsHeldContext s fs held metric_facts) (sym err) h
 
-pub add_joins : {E : Type 0} (r : Result Added E) (s : Scope) (facts new : List Lit) (l : Lit) (held : List Held) (metric_facts : Option MetricFacts) (b : Basis) → basis_of s facts held ≡ b → OnOk r (new ≡ joined facts l) →
-    IsHeldContext s facts held metric_facts → OnOk r (basis_of s new held ≡ record b { facts = joined b.facts l })
+pub add_joins : {E : Type 0} (r : Result Added E) (s : Scope) (facts new : List Lit) (l : Lit) (held : List Held) (metric_facts : Option MetricFacts) (b : Basis) → basis_of s facts held ≡ b → OnOk r (new ≡ with_fact facts l) →
+    IsHeldContext s facts held metric_facts → OnOk r (basis_of s new held ≡ record b { facts = with_fact b.facts l })
 add_joins (Ok a) s facts new l held metric_facts b is ok h =
     let j = joins facts l in
     let states = more_states s facts new j.0 held metric_facts (ok ∙ j.1) h in
     let first : basis_of s new held ≡ record (basis_of s facts held) { facts = new } = ap (λ hs. record { scope = s; facts = new; held = hs }) states in
-    let second : record (basis_of s facts held) { facts = new } ≡ record (basis_of s facts held) { facts = joined facts l } = ap (λ fs. record { scope = s; facts = fs; held = map (held_in facts) held }) ok in
-    first ∙ second ∙ ap (λ (c : Basis). record c { facts = joined c.facts l }) is
+    let second : record (basis_of s facts held) { facts = new } ≡ record (basis_of s facts held) { facts = with_fact facts l } = ap (λ fs. record { scope = s; facts = fs; held = map (held_in facts) held }) ok in
+    first ∙ second ∙ ap (λ (c : Basis). record c { facts = with_fact c.facts l }) is
 add_joins (Err e) s facts new l held metric_facts b is ok h = tt
 
 pub add_keeps : {E : Type 0} (r : Result Added E) (s : Scope) (facts new : List Lit) (held : List Held) (b : Basis) → basis_of s facts held ≡ b → OnErr r (new ≡ facts) → OnErr r (basis_of s new held ≡ b)

@@ -7,7 +7,7 @@ use Rattle.e_literal.specs.declared.literal.Atom.{Atom}
 use Rattle.e_literal.specs.declared.literal.Atom.TheVariants.{MagEq, MagLt}
 use Rattle.e_literal.specs.Literal.{kind_of_atom}
 use Rattle.e_literal.specs.Same.{same_neg, same_atom, same_lit}
-use Rattle.e_literal.specs.Facts.{has, joined, is_metric}
+use Rattle.e_literal.specs.Facts.{has, with_fact, is_metric}
 use Rattle.e_literal.proofs.Booleans.{and_left, and_right, same_neg_is}
 use Rattle.e_facts.proofs.Joining.{joined_present, joined_new}
 use Rattle.e_clause.specs.Allowed.{Allowed}
@@ -42,14 +42,14 @@ has_last facts l x h =
       | inr here ↦ elim (or_cases (same_lit l x) false here) [ inl is ↦ inr is | inr none ↦ absurd (true≢false (sym none)) ]
     ]
 
-has_joined : (facts : List Lit) (l x : Lit) → has (joined facts l) x ≡ true → (has facts x ≡ true) ⊎ (same_lit l x ≡ true)
+has_joined : (facts : List Lit) (l x : Lit) → has (with_fact facts l) x ≡ true → (has facts x ≡ true) ⊎ (same_lit l x ≡ true)
 has_joined facts l x h =
     elim (cases_Bool (has facts l)) [
       | inl there ↦ inl (sym (ap (λ fs. has fs x) (joined_present facts l there)) ∙ h)
       | inr new ↦ has_last facts l x (sym (ap (λ fs. has fs x) (joined_new facts l new)) ∙ h)
     ]
 
-joins : (P : Lit → Type 0) (old new : List Lit) (l : Lit) → is_metric l ≡ false → new ≡ joined old l → ((x : Lit) → has old x ≡ true → P x) → P l → (x : Lit) → has new x ≡ true → P x
+joins : (P : Lit → Type 0) (old new : List Lit) (l : Lit) → is_metric l ≡ false → new ≡ with_fact old l → ((x : Lit) → has old x ≡ true → P x) → P l → (x : Lit) → has new x ≡ true → P x
 joins P old new l m is all here x h =
     elim (has_joined old l x (sym (ap (λ fs. has fs x) is) ∙ h)) [
       | inl there ↦ all x there
@@ -67,14 +67,14 @@ none_kept b v allowed refused = record {
   refused = λ l h. absurd (none_has v.refused l refused h);
 }
 
-pub allowed_joins : (b : Basis) (old new : Verdicts) (l : Lit) (o : Verdict (Unit {0})) (p : Unit {0}) → is_metric l ≡ false → new.allowed ≡ joined old.allowed l → new.refused ≡ old.refused
+pub allowed_joins : (b : Basis) (old new : Verdicts) (l : Lit) (o : Verdict (Unit {0})) (p : Unit {0}) → is_metric l ≡ false → new.allowed ≡ with_fact old.allowed l → new.refused ≡ old.refused
     → o ≡ verdict.Yes p → AreRight b old → JudgedIs b l o → AreRight b new
 allowed_joins b old new l o p m is rest keep right judged = record {
   allowed = joins (Allowed b.scope b.facts) old.allowed new.allowed l m is right.allowed (subst (λ v. JudgedIs b l v) keep judged);
   refused = λ x h. right.refused x (sym (ap (λ fs. has fs x) rest) ∙ h);
 }
 
-pub refused_joins : (b : Basis) (old new : Verdicts) (l : Lit) (o : Verdict (Unit {0})) → is_metric l ≡ false → new.refused ≡ joined old.refused l → new.allowed ≡ old.allowed
+pub refused_joins : (b : Basis) (old new : Verdicts) (l : Lit) (o : Verdict (Unit {0})) → is_metric l ≡ false → new.refused ≡ with_fact old.refused l → new.allowed ≡ old.allowed
     → o ≡ verdict.No → AreRight b old → JudgedIs b l o → AreRight b new
 refused_joins b old new l o m is rest refuse right judged = record {
   allowed = λ x h. right.allowed x (sym (ap (λ fs. has fs x) rest) ∙ h);

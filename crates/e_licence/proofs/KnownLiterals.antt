@@ -13,7 +13,7 @@ use Rattle.e_literal.specs.declared.map.Entry.{Entry}
 use Rattle.e_literal.specs.Literal.{obj, count_of, all_in_scope}
 use Rattle.e_literal.specs.WellFormed.{is_well_formed}
 use Rattle.e_literal.specs.Facts.{is_metric}
-use Rattle.e_literal.specs.Rename.{same_obj, image_in, paired, renamed}
+use Rattle.e_literal.specs.Rename.{same_obj, image_in, pairs_of, with_images}
 use Rattle.e_literal.specs.Scopes.{same_sort, nothing, with_one, next_objects}
 use Rattle.e_clause.specs.Allowed.{Allowed, AllAllowed}
 use Rattle.e_clause.specs.LimitedFacts.{is_well_formed_in, are_well_formed_in}
@@ -49,7 +49,7 @@ not_in_scope s sort o num y is less =
 -- the image of an object that is known stays
 bound_stays : (s m b : Scope) (sorts : List Sort) (entries : List (Option Obj)) (part rest : List ℕ) (o : Obj)
     → ltb (number_of (image_in (images_of_choice s (next_objects b sorts) entries part) o) o.num) (count_of s o.sort) ≡ true
-    → number_of (image_in (images_of_choice s (next_objects b sorts) entries part) o) o.num ≡ number_of (image_in (paired (next_objects b sorts) (filled_arguments m (next_objects b sorts) entries (part ++ rest))) o) o.num
+    → number_of (image_in (images_of_choice s (next_objects b sorts) entries part) o) o.num ≡ number_of (image_in (pairs_of (next_objects b sorts) (filled_arguments m (next_objects b sorts) entries (part ++ rest))) o) o.num
 bound_stays s m b [] entries part rest o h = refl
 bound_stays s m b (sort ∷ sorts) [] part rest o h = refl
 bound_stays s m b (sort ∷ sorts) (Some p ∷ entries) part rest o h =
@@ -66,16 +66,16 @@ bound_stays s m b (sort ∷ sorts) (None ∷ entries) [] (v ∷ rest) o h =
 -- ---- one literal
 
 abbrev pub at : List Entry → Lit → Lit
-at es l = renamed (image_in es) l
+at es l = with_images (image_in es) l
 
 pub stays : (s m : Scope) (sorts : List Sort) (entries : List (Option Obj)) (part rest : List ℕ) (l : Lit)
     → is_well_formed_in s (at (images_of_choice s (next_objects nothing sorts) entries part) l) ≡ true
-    → at (images_of_choice s (next_objects nothing sorts) entries part) l ≡ at (paired (next_objects nothing sorts) (filled_arguments m (next_objects nothing sorts) entries (part ++ rest))) l
+    → at (images_of_choice s (next_objects nothing sorts) entries part) l ≡ at (pairs_of (next_objects nothing sorts) (filled_arguments m (next_objects nothing sorts) entries (part ++ rest))) l
 stays s m sorts entries part rest l good =
     let f = image_in (images_of_choice s (next_objects nothing sorts) entries part) in
-    let g = image_in (paired (next_objects nothing sorts) (filled_arguments m (next_objects nothing sorts) entries (part ++ rest))) in
+    let g = image_in (pairs_of (next_objects nothing sorts) (filled_arguments m (next_objects nothing sorts) entries (part ++ rest))) in
     same_renamed f g (is_moved_in s f) (λ o h. bound_stays s m nothing sorts entries part rest o h) l
-    (sym (renamed_scope s f l) ∙ and_left (all_in_scope s (renamed f l)) (is_well_formed (renamed f l)) good)
+    (sym (renamed_scope s f l) ∙ and_left (all_in_scope s (with_images f l)) (is_well_formed (with_images f l)) good)
 
 -- ---- the literals of a list
 

@@ -21,7 +21,7 @@ use crate::context::Context;
 use crate::licensing::Question;
 use crate::ready::{Ready, ready_places};
 use crate::verdicts::Verdicts;
-use e_literal::{Items, Lit, Map, NOTHING, Obj, Scope, count, kind, next_objects, renamed};
+use e_literal::{Items, Lit, Map, NOTHING, Obj, Scope, count, kind, next_objects, with_images};
 use e_metric::{MetricFacts, StepFacts};
 use e_theorem::Statement;
 use e_transfer::{Prepared, Span, Task, Verdict, is_well_formed_in, prepare, search};
@@ -272,7 +272,7 @@ pub fn images(
         (λ map. map ≡ BlankChoices.images_of_choice scope declared.now pattern.now part.now) }
 {
     let args = arguments(alloc, scope, declared, pattern, part)?;
-    let images = Map::paired(alloc, declared, &args)?;
+    let images = Map::of_pairs(alloc, declared, &args)?;
     Ok(images)
 }
 
@@ -342,7 +342,7 @@ impl<'a> Blanks<'a> {
         ensures verdict { IfOk result (OneIs self.now.context.now images.now lit.now) }
         ensures memory { OnOk result (AreRight self.now.context.now memory.new) }
     {
-        let image = renamed(alloc, lit, images)?;
+        let image = with_images(alloc, lit, images)?;
         self.license_image(alloc, memory, image)
     }
 

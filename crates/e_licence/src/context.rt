@@ -2,7 +2,7 @@
 
 ghost use Rattle.std.specs.Prelude.{◌≡◌, ◌<◌, [], ◌∷◌, ◌++◌, length, IsTrue, IfOk};
 ghost use Rattle.std.specs.Prelude.{IfErr, IfSome, OnOk, OnErr, option_copied};
-ghost use Rattle.e_literal.specs.Facts.{joined};
+ghost use Rattle.e_literal.specs.Facts.{with_fact};
 ghost use Rattle.e_clause.specs.LimitedFacts.{are_limited_facts, is_well_formed_in};
 ghost use Rattle.e_facts.specs.Adding.{AddedIs};
 ghost use Rattle.e_metric.specs.Fronts.{AreFronts};
@@ -100,10 +100,10 @@ impl Context {
     ///
     /// It fails only out of memory, and then all is as before.
     pub fn add(&mut self, lit: Lit) -> Result<Added, AllocError>
-        requires { IsTrue (are_limited_facts self.old.scope (joined self.old.facts lit)) }
+        requires { IsTrue (are_limited_facts self.old.scope (with_fact self.old.facts lit)) }
         ensures added { IfOk result (AddedIs self.old.facts lit self.new.facts) }
         ensures joined { OnOk result
-            (self.new ≡ record self.old { facts = joined self.old.facts lit }) }
+            (self.new ≡ record self.old { facts = with_fact self.old.facts lit }) }
         ensures err { OnErr result (self.new ≡ self.old) }
     {
         self.facts.add(lit)
@@ -165,7 +165,7 @@ impl Context {
     {
         let own = self.solved.take();
         let mut metric_facts = metric_facts_before(alloc, own, &self.held)?;
-        let brought = metric_facts.bring_all(alloc, &self.facts);
+        let brought = metric_facts.catch_up_all(alloc, &self.facts);
         mem::drop(mem::replace(&mut self.solved, Some(metric_facts)));
         brought
     }

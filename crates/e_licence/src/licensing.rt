@@ -74,7 +74,7 @@ pub(crate) fn licence_in_turn(
     if let Some(cert) = find_by_facts(alloc, context.scope(), facts, lit)? {
         return Ok(Licensed::Yes(Cert::Transfer(cert)));
     }
-    metric_facts.bring_all(alloc, facts)?;
+    metric_facts.catch_up_all(alloc, facts)?;
     let prepared = prepare(alloc, facts, metric_facts)?;
     let step_facts = StepFacts::new(facts, metric_facts);
     let question = Question {

@@ -7,7 +7,7 @@ ghost use Rattle.e_theorem.specs.Pattern.{is_pattern};
 ghost use Rattle.e_theorem.specs.Statements.{stated};
 
 use crate::blanks::images;
-use e_literal::{Lit, Map, Obj, Scope, kind, renamed};
+use e_literal::{Lit, Map, Obj, Scope, kind, with_images};
 use e_theorem::Statement;
 use e_transfer::{Span, is_well_formed_in};
 use std::alloc::{AllocError, Global};
@@ -77,7 +77,7 @@ fn mark_blank(
 ) -> Result<(), AllocError> {
     for (at, lit) in given.iter().enumerate() {
         if at < ready.len() {
-            let image = renamed(alloc, lit, images)?;
+            let image = with_images(alloc, lit, images)?;
             if !is_well_formed_in(scope, &image) {
                 ready[at] = with_blank(ready[at], blank);
             }

@@ -45,7 +45,7 @@ pub fn copy_or_new(
         → AreFronts facts copy) }
 {
     match metric_facts {
-        Some(metric_facts) => metric_facts.copied(alloc),
+        Some(metric_facts) => metric_facts.copy(alloc),
         None => Ok(MetricFacts::new()),
     }
 }

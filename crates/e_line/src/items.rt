@@ -1,15 +1,15 @@
 //! The lines of a book, known from their words by spelling alone: those of theorems, with items
 //! among their literals, and the first line of a definition.
-ghost use Rattle.std.specs.Prelude.{◌≡◌, ◌&&◌, [], ◌∷◌};
+ghost use Rattle.std.specs.Prelude.{◌≡◌, ◌&&◌};
 ghost use Rattle.std.specs.Str.{bytes_eq};
 ghost use Rattle.e_line.specs.Reading.{texts, Gives, Moves, with_front};
 ghost use Rattle.e_line.specs.Items.{as_of, item_of, items_of, begins_item, has_item, define_of};
-ghost use Rattle.e_line.specs.Items.{placing_of, line_with_items, line_named, book_line_of};
+ghost use Rattle.e_line.specs.Items.{placing_of, line_with_items, book_line_of};
 
 use crate::fault::LineError;
 use crate::lets::{Place, are_words_of, names_at};
 use crate::literal::{RawLit, lit_of};
-use crate::raw_line::{RawLine, raw_line_of};
+use crate::raw_line::{RawLine, raw_line_named};
 use crate::superposes::{head_and_lits, superposition_pieces};
 use crate::words::{Words, names_of, place_of};
 use e_literal::Items;
@@ -175,18 +175,14 @@ fn lists(word: &[u8], name: &[u8], literals: &[&[u8]]) -> bool
     is(word, name) && has_item(literals)
 }
 
-/// A line of a book with this first word and this rest: `words` are both, since a plain line, which
-/// most are, is read from all its words.
-#[tactic(auto, unfolding(crate::specs::Items::line_named, crate::specs::RawLines::raw_line_of))]
-fn line_named(
-    alloc: Global,
-    word: &[u8],
-    rest: &[&[u8]],
-    words: &[&[u8]],
-) -> Result<BookLine, LineError>
-    requires { texts words.now ≡ word.now ∷ texts rest.now }
-    ensures { Gives (λ l. l) result (line_named word.now (texts rest.now)) }
+/// A line of a book, by its words alone.
+#[tactic(auto, unfolding(crate::specs::Items::book_line_of, crate::specs::Items::line_named))]
+pub fn book_line_of(alloc: Global, words: &[&[u8]]) -> Result<BookLine, LineError>
+    ensures { Gives (λ l. l) result (book_line_of (texts words.now)) }
 {
+    let [word, rest @ ..] = words else {
+        return Err(LineError::MALFORMED);
+    };
     if is(word, b"define") {
         return define_of(Words::new(rest));
     }
@@ -203,16 +199,5 @@ fn line_named(
     if lists(word, b"superpose", after) {
         return line_with_items(alloc, placing_of(alloc, head)?, after);
     }
-    Ok(BookLine::Plain(raw_line_of(alloc, words)?))
-}
-
-/// A line of a book, by its words alone.
-#[tactic(auto, unfolding(crate::specs::Items::book_line_of))]
-pub fn book_line_of(alloc: Global, words: &[&[u8]]) -> Result<BookLine, LineError>
-    ensures { Gives (λ l. l) result (book_line_of (texts words.now)) }
-{
-    match words {
-        [] => Err(LineError::MALFORMED),
-        [word, rest @ ..] => line_named(alloc, word, rest, words),
-    }
+    Ok(BookLine::Plain(raw_line_named(alloc, word, rest)?))
 }

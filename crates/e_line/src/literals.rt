@@ -6,7 +6,7 @@ ghost use Rattle.e_line.specs.Canonical.{atom_words, not_words, lit_words, more_
 
 use crate::literal::{RawAtom, RawLit};
 use crate::sum::{RawMono, RawTerm};
-use e_text::{Name, put, put_coefficient, put_four, put_three};
+use e_text::{Name, put, put_coefficient, put_words};
 use std::alloc::AllocError;
 
 /// Writes a term, each word after a space. It fails only out of memory.
@@ -14,9 +14,9 @@ pub fn put_term(out: &mut Vec<u8>, term: &RawTerm) -> Result<(), AllocError>
     ensures { OnOk result (out.new.items ≡ out.old.items ++ spaced (term_words term.now)) }
 {
     match term {
-        RawTerm::Seg(x, y) => put_three(out, b"seg", x.bytes(), y.bytes()),
-        RawTerm::Ang(x, y, z) => put_four(out, b"ang", x.bytes(), y.bytes(), z.bytes()),
-        RawTerm::Area(x, y, z) => put_four(out, b"area", x.bytes(), y.bytes(), z.bytes()),
+        RawTerm::Seg(x, y) => put_words(out, &[b"seg", x.bytes(), y.bytes()]),
+        RawTerm::Ang(x, y, z) => put_words(out, &[b"ang", x.bytes(), y.bytes(), z.bytes()]),
+        RawTerm::Area(x, y, z) => put_words(out, &[b"area", x.bytes(), y.bytes(), z.bytes()]),
         RawTerm::Right => put(out, b"right"),
     }
 }
@@ -82,20 +82,20 @@ fn put_sums(
 fn put_of_three(out: &mut Vec<u8>, word: &[u8], x: Name, y: Name, z: Name) -> Result<(), AllocError>
     ensures { OnOk result (out.new.items ≡ out.old.items ++ spaced (word.now ∷ x ∷ y ∷ z ∷ [])) }
 {
-    put_four(out, word, x.bytes(), y.bytes(), z.bytes())
+    put_words(out, &[word, x.bytes(), y.bytes(), z.bytes()])
 }
 
 fn put_atom(out: &mut Vec<u8>, atom: &RawAtom) -> Result<(), AllocError>
     ensures { OnOk result (out.new.items ≡ out.old.items ++ spaced (atom_words atom.now)) }
 {
     match atom {
-        RawAtom::On(x, y) => put_three(out, b"on", x.bytes(), y.bytes()),
-        RawAtom::Inside(x, y) => put_three(out, b"inside", x.bytes(), y.bytes()),
-        RawAtom::Center(x, y) => put_three(out, b"center", x.bytes(), y.bytes()),
+        RawAtom::On(x, y) => put_words(out, &[b"on", x.bytes(), y.bytes()]),
+        RawAtom::Inside(x, y) => put_words(out, &[b"inside", x.bytes(), y.bytes()]),
+        RawAtom::Center(x, y) => put_words(out, &[b"center", x.bytes(), y.bytes()]),
         RawAtom::Between(x, y, z) => put_of_three(out, b"between", *x, *y, *z),
         RawAtom::Same(x, y, z) => put_of_three(out, b"same-side", *x, *y, *z),
-        RawAtom::Meets(x, y) => put_three(out, b"meets", x.bytes(), y.bytes()),
-        RawAtom::Equal(x, y) => put_three(out, x.bytes(), b"=", y.bytes()),
+        RawAtom::Meets(x, y) => put_words(out, &[b"meets", x.bytes(), y.bytes()]),
+        RawAtom::Equal(x, y) => put_words(out, &[x.bytes(), b"=", y.bytes()]),
         RawAtom::SumsEqual(x, y) => put_sums(out, x.items(), b"=", y.items()),
         RawAtom::SumsLess(x, y) => put_sums(out, x.items(), b"<", y.items()),
         RawAtom::SumsAtMost(x, y) => put_sums(out, x.items(), b"<=", y.items()),
@@ -107,7 +107,7 @@ fn put_not(out: &mut Vec<u8>, atom: &RawAtom) -> Result<(), AllocError>
     ensures { OnOk result (out.new.items ≡ out.old.items ++ spaced (not_words atom.now)) }
 {
     match atom {
-        RawAtom::Equal(x, y) => put_three(out, x.bytes(), b"!=", y.bytes()),
+        RawAtom::Equal(x, y) => put_words(out, &[x.bytes(), b"!=", y.bytes()]),
         RawAtom::SumsEqual(x, y) => put_sums(out, x.items(), b"!=", y.items()),
         _ => {
             put(out, b"not")?;

@@ -132,8 +132,13 @@ fn bare_line(words: Words, raw_line: RawLine) -> Result<RawLine, LineError>
     }
 }
 
+/// The raw line of a line with this first word and this rest.
 #[tactic(auto, unfolding(crate::specs::RawLines::raw_line_named))]
-fn raw_line_named(alloc: Global, word: &[u8], rest: &[&[u8]]) -> Result<RawLine, LineError>
+pub(crate) fn raw_line_named(
+    alloc: Global,
+    word: &[u8],
+    rest: &[&[u8]],
+) -> Result<RawLine, LineError>
     ensures { Gives (λ f. f) result (raw_line_named word.now (texts rest.now)) }
 {
     let words = Words::new(rest);

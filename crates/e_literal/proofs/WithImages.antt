@@ -18,7 +18,7 @@ use Rattle.e_literal.specs.declared.literal.Lit.{Lit}
 use Rattle.e_literal.specs.declared.map.Entry.{Entry}
 use Rattle.e_literal.specs.Literal.{obj, is_in_scope, objects_of_term, objects_of_sum, objects_of_atom, all_in_scope, kind_of_term, kind_of_sums}
 use Rattle.e_literal.specs.WellFormed.{same_kind, is_bounded_coefficient, are_well_formed_sums, is_well_formed_atom, is_well_formed}
-use Rattle.e_literal.specs.Rename.{term_at, mono_at, atom_at, number_at, renamed, same_obj, image_in}
+use Rattle.e_literal.specs.Rename.{term_at, mono_at, atom_at, number_at, with_images, same_obj, image_in}
 
 -- ---- in scope
 
@@ -55,7 +55,7 @@ atom_scope s f (atoms.MagEq x y) = sums_scope s f x y
 atom_scope s f (atoms.MagLt x y) = sums_scope s f x y
 atom_scope s f a = refl
 
-pub renamed_scope : (s : Scope) (f : Obj → Option Obj) (l : Lit) → all_in_scope s (renamed f l) ≡ list_all (is_moved_in s f) (objects_of_atom l.atom)
+pub renamed_scope : (s : Scope) (f : Obj → Option Obj) (l : Lit) → all_in_scope s (with_images f l) ≡ list_all (is_moved_in s f) (objects_of_atom l.atom)
 renamed_scope s f l = atom_scope s f l.atom
 
 -- ---- well formed
@@ -100,7 +100,7 @@ good_atom_stays p l c (atoms.MagEq x y) = good_sums_stay p x y
 good_atom_stays p l c (atoms.MagLt x y) = good_sums_stay p x y
 good_atom_stays p l c a = refl
 
-pub renamed_well_formed : (f : Obj → Option Obj) (l : Lit) → is_well_formed (renamed f l) ≡ is_well_formed l
+pub renamed_well_formed : (f : Obj → Option Obj) (l : Lit) → is_well_formed (with_images f l) ≡ is_well_formed l
 renamed_well_formed f l = good_atom_stays (number_at f Point) (number_at f Line) (number_at f Circle) l.atom
 
 -- ---- images in two lists, one after the other

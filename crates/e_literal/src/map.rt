@@ -4,7 +4,7 @@ ghost use Rattle.std.specs.Prelude.{◌≡◌, [], ◌∷◌, if◌then◌else�
 ghost use Rattle.std.specs.Prelude.{is_some, map};
 ghost use Rattle.e_literal.specs.declared.object.Obj.{Obj};
 ghost use Rattle.e_literal.specs.Literal.{obj};
-ghost use Rattle.e_literal.specs.Rename.{image_in, number_at, paired, same_obj};
+ghost use Rattle.e_literal.specs.Rename.{image_in, number_at, pairs_of, same_obj};
 
 use crate::object::{Obj, Sort};
 use std::alloc::{AllocError, Global};
@@ -49,9 +49,9 @@ impl Map {
     /// that of its first place.
     ///
     /// It fails only when out of memory.
-    pub fn paired(alloc: Global, from: &[Obj], to: &[Obj]) -> Result<Self, AllocError>
+    pub fn of_pairs(alloc: Global, from: &[Obj], to: &[Obj]) -> Result<Self, AllocError>
         requires one_sort { map (λ o. o.sort) from.now ≡ map (λ o. o.sort) to.now }
-        ensures { IfOk result (λ m. m ≡ paired from.now to.now) }
+        ensures { IfOk result (λ m. m ≡ pairs_of from.now to.now) }
     {
         let mut entries = Vec::new(alloc);
         for (source, target) in from.iter().zip(to) {

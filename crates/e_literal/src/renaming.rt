@@ -23,15 +23,15 @@ pub fn rename(alloc: Global, lit: &Lit, map: &Map) -> Result<Option<Lit>, AllocE
     if !atom_has_images(map, &lit.atom) {
         return Ok(None);
     }
-    let lit = renamed(alloc, lit, map)?;
+    let lit = with_images(alloc, lit, map)?;
     Ok(Some(lit))
 }
 
 /// The literal with the image of each object for it, where an object without image stays.
 ///
 /// It fails only when out of memory.
-pub fn renamed(alloc: Global, lit: &Lit, map: &Map) -> Result<Lit, AllocError>
-    ensures { IfOk result (λ r. r ≡ Rename.renamed (image_in map.now) lit.now) }
+pub fn with_images(alloc: Global, lit: &Lit, map: &Map) -> Result<Lit, AllocError>
+    ensures { IfOk result (λ r. r ≡ Rename.with_images (image_in map.now) lit.now) }
 {
     let atom = renamed_atom(alloc, &lit.atom, map)?;
     Ok(Lit { neg: lit.neg, atom })

@@ -78,7 +78,7 @@ impl Slot {
 
     // Brings what is solved up to all facts. No contract promises that it does, since what is there
     // is right in any case.
-    fn bring(&mut self, alloc: Global, which: Kind, facts: &Facts) -> Result<(), AllocError>
+    fn catch_up(&mut self, alloc: Global, which: Kind, facts: &Facts) -> Result<(), AllocError>
         requires front { IsFrontSystem which facts.now self.old }
         requires facts { IsTrue (list_all is_well_formed facts.now) }
         requires few { length (terms_of_lits facts.now) ≤ most_terms_of_step }
@@ -235,7 +235,7 @@ impl MetricFacts {
         ensures { IfOk result (AreFronts facts.now) }
     {
         let mut metric_facts = MetricFacts::new();
-        match metric_facts.bring_all(alloc, facts) {
+        match metric_facts.catch_up_all(alloc, facts) {
             Ok(()) => Ok(metric_facts),
             Err(error) => {
                 mem::drop(metric_facts);
@@ -245,29 +245,29 @@ impl MetricFacts {
     }
 
     /// Brings what is solved of one kind up to all facts. It fails only out of memory.
-    pub fn bring(&mut self, alloc: Global, which: Kind, facts: &Facts) -> Result<(), AllocError>
+    pub fn catch_up(&mut self, alloc: Global, which: Kind, facts: &Facts) -> Result<(), AllocError>
         requires fronts { AreFronts facts.now self.old }
         requires facts { IsTrue (list_all is_well_formed facts.now) }
         requires few { length (terms_of_lits facts.now) ≤ most_terms_of_step }
         ensures { AreFronts facts.now self.new }
     {
         match which {
-            Kind::Segment => self.systems.segments.bring(alloc, Kind::Segment, facts),
-            Kind::Angle => self.systems.angles.bring(alloc, Kind::Angle, facts),
-            Kind::Area => self.systems.areas.bring(alloc, Kind::Area, facts),
+            Kind::Segment => self.systems.segments.catch_up(alloc, Kind::Segment, facts),
+            Kind::Angle => self.systems.angles.catch_up(alloc, Kind::Angle, facts),
+            Kind::Area => self.systems.areas.catch_up(alloc, Kind::Area, facts),
         }
     }
 
     /// Brings what is solved of each kind up to all facts.
-    pub fn bring_all(&mut self, alloc: Global, facts: &Facts) -> Result<(), AllocError>
+    pub fn catch_up_all(&mut self, alloc: Global, facts: &Facts) -> Result<(), AllocError>
         requires fronts { AreFronts facts.now self.old }
         requires facts { IsTrue (list_all is_well_formed facts.now) }
         requires few { length (terms_of_lits facts.now) ≤ most_terms_of_step }
         ensures { AreFronts facts.now self.new }
     {
-        self.bring(alloc, Kind::Segment, facts)?;
-        self.bring(alloc, Kind::Angle, facts)?;
-        self.bring(alloc, Kind::Area, facts)
+        self.catch_up(alloc, Kind::Segment, facts)?;
+        self.catch_up(alloc, Kind::Angle, facts)?;
+        self.catch_up(alloc, Kind::Area, facts)
     }
 
     /// Forgets what is solved of more than the first `count` facts, where the others are taken
@@ -283,7 +283,7 @@ impl MetricFacts {
 
     /// A copy. It is made where a block of a proof begins, so that what is solved of the facts
     /// before it is there again after it.
-    pub fn copied(&self, alloc: Global) -> Result<MetricFacts, AllocError>
+    pub fn copy(&self, alloc: Global) -> Result<MetricFacts, AllocError>
         ensures { IfOk result (λ m. (facts : List Lit) → AreFronts facts self.now
             → AreFronts facts m) }
     {
@@ -487,7 +487,7 @@ impl MetricFacts {
         ensures fronts { AreFronts facts.now self.new }
     {
         let which = kind_of_goal(goal);
-        self.bring(alloc, which, facts)?;
+        self.catch_up(alloc, which, facts)?;
         match self.answer_for_kind(alloc, which, facts, goal)? {
             Metric::Yes(cert) => Ok(Some(cert)),
             Metric::No(_) | Metric::TooWide(_) => Ok(None),
@@ -546,7 +546,7 @@ impl MetricFacts {
         ensures cert { IfOk result (λ o. IfSome o (IsMetricCertificate facts.now None)) }
         ensures fronts { AreFronts facts.now self.new }
     {
-        self.bring(alloc, which, facts)?;
+        self.catch_up(alloc, which, facts)?;
         self.systems.get(which).contradiction(alloc, facts)
     }
 

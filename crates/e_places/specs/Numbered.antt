@@ -11,7 +11,7 @@ use Rattle.e_literal.specs.declared.literal.Atom.{Atom}
 use Rattle.e_literal.specs.declared.literal.Atom.TheVariants.{MagEq}
 use Rattle.e_literal.specs.Literal.{negation}
 use Rattle.e_literal.specs.Same.{same_lit, agree_at}
-use Rattle.e_literal.specs.Facts.{joined, joined_all, others}
+use Rattle.e_literal.specs.Facts.{with_fact, with_facts, others}
 use Rattle.e_literal.specs.Rows.{is_degenerate}
 use Rattle.e_literal.specs.Scopes.{grown}
 use Rattle.e_literal.specs.Use.{StatementView, gives_of_use, scope_of}
@@ -149,38 +149,38 @@ needs_of before d s facts goal = needs before (placed_step d d s facts goal)
 -- what holds before each step is as in its steps.
 unfoldable pub with_places : List StatementView → Script → Scope → List Lit → Goal → Script
 with_places before (Cite by rest) s facts goal =
-    Cite by (with_places before rest s (joined facts by.lit) goal)
+    Cite by (with_places before rest s (with_fact facts by.lit) goal)
 with_places before (Hence lit cert rest) s facts goal =
     Hence lit (option_map (cert_with_places facts lit) cert)
-    (with_places before rest s (joined facts lit) goal)
+    (with_places before rest s (with_fact facts lit) goal)
 with_places before (Make construction names certs rest) s facts goal =
     Make construction names
     (certs_with_places facts
     (needs_of before (Make construction names certs rest) s facts goal) certs)
     (with_places before rest (grown s (sorts_made construction))
-    (joined_all facts (gives_of_construction construction s)) goal)
+    (with_facts facts (gives_of_construction construction s)) goal)
 with_places before (Apply theorem args names certs rest) s facts goal =
     Apply theorem args names (certs_with_places facts
     (needs_of before (Apply theorem args names certs rest) s facts goal) certs)
     (with_places before rest (grown s (theorem_at before theorem).made)
-    (joined_all facts (gives_of_use (theorem_at before theorem)
+    (with_facts facts (gives_of_use (theorem_at before theorem)
     (args_of (Apply theorem args names certs rest)) s)) goal)
 with_places before (Claim shown inner rest) s facts goal =
     Claim shown (with_places before inner s facts (goal_of shown))
-    (with_places before rest s (joined_all facts shown) goal)
+    (with_places before rest s (with_facts facts shown) goal)
 with_places before (Superposed superposition names shown certs inner rest) s facts goal =
     Superposed superposition names shown
     (certs_with_places facts (superposing.needs_of_superposition superposition) certs)
     (with_places before inner (grown s superposing.sorts_copied)
-    (joined_all facts (superposing.gives_of_superposition superposition s)) (goal_of shown))
-    (with_places before rest s (joined_all facts shown) goal)
+    (with_facts facts (superposing.gives_of_superposition superposition s)) (goal_of shown))
+    (with_places before rest s (with_facts facts shown) goal)
 with_places before (Qed objects certs) s facts goal =
     Qed objects (certs_with_places facts (needs_of before (Qed objects certs) s facts goal) certs)
 with_places before (Contradiction against) s facts goal =
     Contradiction (option_map (against_with_places facts) against)
 with_places before (Cases lit first second) s facts goal =
-    Cases lit (with_places before first s (joined facts lit) goal)
-    (with_places before second s (joined facts (negation lit)) goal)
+    Cases lit (with_places before first s (with_fact facts lit) goal)
+    (with_places before second s (with_fact facts (negation lit)) goal)
 
 -- the derivation of a statement, where certificates have the places of facts
 abbrev pub derivation_with_places : List StatementView → StatementView → Script → Script

@@ -1,7 +1,7 @@
 //! What is left of an inner block that has its places.
 
 ghost use Rattle.std.specs.Prelude.{◌≡◌, IfOk, OnOk};
-ghost use Rattle.e_literal.specs.Facts.{joined_all};
+ghost use Rattle.e_literal.specs.Facts.{with_facts};
 ghost use Rattle.e_deriv.specs.Script.{Script, Claim, Superposed};
 ghost use Rattle.e_deriv.specs.Script.{script_of, step_script};
 ghost use Rattle.e_verify.specs.StepStates.{state_restored, state_with_facts};
@@ -33,7 +33,7 @@ pub fn end_claim(
 ) -> Result<Step, AllocError>
     ensures step { IfOk result (λ s. (rest : Script)
         → step_script s rest ≡ Claim shown.now (script_of block) rest) }
-    ensures after { OnOk result (state.new ≡ state_with_facts (joined_all
+    ensures after { OnOk result (state.new ≡ state_with_facts (with_facts
         (state_restored outer state.old).facts shown.now) (state_restored outer state.old)) }
 {
     state.restore(outer);
@@ -58,7 +58,7 @@ pub fn end_superposition(
     ensures step { IfOk result (λ s. (rest : Script)
         → step_script s rest ≡ Superposed head.entry.superposition.now head.entry.names.now
         shown.now head.entry.certs (script_of block) rest) }
-    ensures after { OnOk result (state.new ≡ state_with_facts (joined_all
+    ensures after { OnOk result (state.new ≡ state_with_facts (with_facts
         (state_restored outer state.old).facts shown.now) (state_restored outer state.old)) }
 {
     let Head {

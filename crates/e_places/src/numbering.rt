@@ -3,7 +3,7 @@
 ghost use Rattle.std.specs.Prelude.{◌≡◌, ◌<◌, ◌^◌, List, length, IfOk, OnOk, IsTrue};
 ghost use Rattle.std.specs.List.{list_all};
 ghost use Rattle.std.specs.Option.{option_map};
-ghost use Rattle.e_literal.specs.Facts.{joined};
+ghost use Rattle.e_literal.specs.Facts.{with_fact};
 ghost use Rattle.e_literal.specs.Use.{StatementView};
 ghost use Rattle.e_construct.specs.Superposing as superposing;
 ghost use Rattle.e_theorem.specs.Statements.{stated, all_stated};
@@ -15,7 +15,7 @@ ghost use Rattle.e_deriv.specs.declared.block.Close.TheVariants.{
 };
 ghost use Rattle.e_deriv.specs.declared.block.Step.TheVariants.{Apply as ApplyStep};
 ghost use Rattle.e_deriv.specs.Script.{Cite, Hence, Make, Apply, Claim, Superposed, Qed};
-ghost use Rattle.e_deriv.specs.Script.{script_of, step_script, close_script, erased};
+ghost use Rattle.e_deriv.specs.Script.{script_of, step_script, close_script, script_without_certs};
 ghost use Rattle.e_deriv.specs.Versions.{has_certs_of};
 ghost use Rattle.e_places.specs.Numbered;
 ghost use Rattle.e_places.specs.Numbered.{derivation_with_places};
@@ -32,7 +32,7 @@ use crate::ending::{Head, end_claim, end_superposition};
 use crate::places::{placed_against, placed_cert, placed_certs};
 use e_clause::{Against, By, Cert};
 use e_construct::{Construction, Superpose};
-use e_deriv::{Block, Close, Goal, Step, copy_by, copy_construction, split};
+use e_deriv::{Block, Close, Goal, Step, copy_by, copy_construction, cases};
 use e_literal::{Items, Lit, NOTHING, Obj, Scope, copy, grown, next_objects};
 use e_text::Name;
 use e_theorem::{Applied, Statement, UseFault, use_of};
@@ -60,7 +60,8 @@ pub fn numbered(
         (script_of deriv.now) }
     ensures numbered { IfOk result (λ d. script_of d ≡ derivation_with_places
         (all_stated before.now) (stated statement.now) (script_of deriv.now)) }
-    ensures script { IfOk result (λ d. erased (script_of d) ≡ erased (script_of deriv.now)) }
+    ensures script { IfOk result
+        (λ d. script_without_certs (script_of d) ≡ script_without_certs (script_of deriv.now)) }
     ensures certified { IfOk result
         (λ d. Certified (all_stated before.now) (stated statement.now) (script_of d)) }
     ensures version { IfOk result (λ d. IsTrue (has_certs_of version.Two (script_of d))) }
@@ -291,7 +292,7 @@ fn number_close(
                 }
             }
             match number_block(alloc, before, second, goal, state) {
-                Ok(other) => split(alloc, lit, one, other),
+                Ok(other) => cases(alloc, lit, one, other),
                 Err(_) => {
                     mem::drop(one);
                     Err(AllocError)
@@ -336,7 +337,7 @@ fn hence(
 fn add_fact(alloc: Global, lit: &Lit, state: &mut StepState) -> Result<Lit, AllocError>
     ensures lit { IfOk result (λ l. l ≡ lit.now) }
     ensures after { OnOk result
-        (state.new ≡ state_with_facts (joined state.old.facts lit.now) state.old) }
+        (state.new ≡ state_with_facts (with_fact state.old.facts lit.now) state.old) }
 {
     state.assume(alloc, lit)?;
     copy(alloc, lit)

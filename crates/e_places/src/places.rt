@@ -3,9 +3,9 @@
 ghost use Rattle.std.specs.Prelude.{◌≡◌, ◌<◌, ◌^◌, ◌++◌, length, IfOk, OnOk, false};
 ghost use Rattle.e_places.specs.Numbered;
 
-use e_clause::{Against, Cert, MetricCert, Part, RowName, Sum, Sums, TransferCert};
+use e_clause::{Against, Cert, MetricCert, Part, RowName, Sum, Sums, TransferCert, instance_of};
 use e_literal::{Atom, Items, Lit, Mono, agree_at, copy, is_degenerate};
-use e_verify::{Facts, instance_of, negated_others};
+use e_verify::{Facts, negated_others};
 use std::alloc::{AllocError, Global};
 use std::mem;
 

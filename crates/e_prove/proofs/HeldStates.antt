@@ -3,7 +3,7 @@ use Rattle.std.proofs.Common.{◌≡◌, ℕ, ◌<◌, List, [], ◌∷◌, ◌+
 use Rattle.std.specs.Prelude.{IfErr, OnOk}
 use Rattle.std.proofs.lemmas.List.{length-append, same_from_push}
 use Rattle.e_literal.specs.declared.literal.Lit.{Lit}
-use Rattle.e_literal.specs.Facts.{joined_all}
+use Rattle.e_literal.specs.Facts.{with_facts}
 use Rattle.e_literal.specs.Use.{StatementView}
 use Rattle.e_clause.specs.LimitedFacts.{are_limited_facts}
 use Rattle.e_deriv.specs.declared.names.Names.{Names}
@@ -73,16 +73,16 @@ pub left_so : (names : Names) (x : StepState) (k : Basis) → ((before : List St
 left_so names x k h before last e = ap (λ (b : Basis). record { context = b; names = names }) (h before last e)
 
 -- after it literals may join
-pub can_join : (names : Names) (x y : StepState) (shown : List Lit) → 0 < length x.context.held → IsLeft names x y → CanJoinLast shown x → are_limited_facts y.context.scope (joined_all y.context.facts shown) ≡ true
+pub can_join : (names : Names) (x y : StepState) (shown : List Lit) → 0 < length x.context.held → IsLeft names x y → CanJoinLast shown x → are_limited_facts y.context.scope (with_facts y.context.facts shown) ≡ true
 can_join names x y shown some left can =
     let p = last_of x.context.held some in
-    subst (λ z. are_limited_facts z.context.scope (joined_all z.context.facts shown) ≡ true) (sym (left p.0 p.1 p.2)) (can p.0 p.1 p.2)
+    subst (λ z. are_limited_facts z.context.scope (with_facts z.context.facts shown) ≡ true) (sym (left p.0 p.1 p.2)) (can p.0 p.1 p.2)
 
-pub left_joins : {E : Type 0} (r : Result (Unit {0}) E) (names : Names) (x y : StepState) (k : Basis) (shown : List Lit) → IsLeft names x y → OnOk r (k ≡ record y.context { facts = joined_all y.context.facts shown }) →
+pub left_joins : {E : Type 0} (r : Result (Unit {0}) E) (names : Names) (x y : StepState) (k : Basis) (shown : List Lit) → IsLeft names x y → OnOk r (k ≡ record y.context { facts = with_facts y.context.facts shown }) →
     OnOk r (IsLeftWith names shown x (record y { context = k }))
 left_joins (Err e) names x y k shown left is = tt
 left_joins (Ok u) names x y k shown left is = λ before last e.
-    ap (λ (b : Basis). record y { context = b }) is ∙ ap (λ (z : StepState). record z { context = record z.context { facts = joined_all z.context.facts shown } }) (left before last e)
+    ap (λ (b : Basis). record y { context = b }) is ∙ ap (λ (z : StepState). record z { context = record z.context { facts = with_facts z.context.facts shown } }) (left before last e)
 
 -- ---- a block that is left
 
@@ -102,8 +102,8 @@ pub after_is : (names : Names) (x z w : StepState) (shown seen : List Lit) → n
 after_is names x z w shown seen same k are left =
     left x.context.held (state_of x.context) k ∙ ap (λ ns. record (after_block seen x) { names = ns }) same ∙ ap (λ ls. after_block ls x) are
 
-pub good_after : (x z : StepState) (shown seen : List Lit) → KeepsHeld (held_at x) z → seen ≡ shown → are_limited_facts x.context.scope (joined_all x.context.facts shown) ≡ true → CanJoinLast seen z
+pub good_after : (x z : StepState) (shown seen : List Lit) → KeepsHeld (held_at x) z → seen ≡ shown → are_limited_facts x.context.scope (with_facts x.context.facts shown) ≡ true → CanJoinLast seen z
 good_after x z shown seen k are h before last e =
     let same = same_from_push x.context.held before (state_of x.context) last (sym k ∙ e) in
-    subst (λ (s : State). are_limited_facts s.scope (joined_all s.facts seen) ≡ true) same.1
-    (subst (λ ls. are_limited_facts x.context.scope (joined_all x.context.facts ls) ≡ true) (sym are) h)
+    subst (λ (s : State). are_limited_facts s.scope (with_facts s.facts seen) ≡ true) same.1
+    (subst (λ ls. are_limited_facts x.context.scope (with_facts x.context.facts ls) ≡ true) (sym are) h)

@@ -5,7 +5,7 @@ use Rattle.std.specs.List.{list_all}
 use Rattle.std.proofs.lemmas.Bool.{and_from}
 use Rattle.e_literal.specs.declared.literal.Lit.{Lit}
 use Rattle.e_literal.specs.Literal.{negation, all_in_scope}
-use Rattle.e_literal.specs.Facts.{joined, joined_all}
+use Rattle.e_literal.specs.Facts.{with_fact, with_facts}
 use Rattle.e_literal.specs.Scopes.{grown}
 use Rattle.e_literal.specs.Use.{StatementView}
 use Rattle.e_literal.proofs.Booleans.{and_left, and_right, all_left, all_right}
@@ -19,7 +19,7 @@ use Rattle.e_construct.specs.declared.superpose.Superpose.{Superpose}
 use Rattle.e_construct.specs.Superposing as superposing
 use Rattle.e_deriv.specs.declared.names.Names.{Names}
 use Rattle.e_deriv.specs.declared.stop.Stop.{Stop}
-use Rattle.e_deriv.specs.Script.{Script, Claim, Superposed, Cases, size, erased}
+use Rattle.e_deriv.specs.Script.{Script, Claim, Superposed, Cases, size, script_without_certs}
 use Rattle.e_deriv.specs.Goal.{Goal, goal_of}
 use Rattle.e_deriv.specs.PlacedSteps.{PlacedStep, placed_steps}
 use Rattle.e_deriv.specs.Steps.{are_over}
@@ -59,7 +59,7 @@ claim_ready before shown inner rest x goal r =
     let facts = x.context.facts in
     let y = step_from_basis (Claim shown inner rest) (Claim shown inner rest) x.context goal in
     let one = placed_steps before inner inner s facts (goal_of shown) in
-    let other = placed_steps before rest rest s (joined_all facts shown) goal in
+    let other = placed_steps before rest rest s (with_facts facts shown) goal in
     let over = and_left (fits_here before y) (list_all (fits_here before) (one ++ other)) r.forms in
     record {
       over = over;
@@ -79,29 +79,29 @@ claim_rest before shown inner derived rest x goal d r =
     let facts = x.context.facts in
     let y = step_from_basis (Claim shown inner rest) (Claim shown inner rest) x.context goal in
     let one = placed_steps before inner inner s facts (goal_of shown) in
-    let other = placed_steps before rest rest s (joined_all facts shown) goal in
+    let other = placed_steps before rest rest s (with_facts facts shown) goal in
     let over = and_left (fits_here before y) (list_all (fits_here before) (one ++ other)) r.forms in
     record {
       forms = all_right (fits_here before) one other (and_right (fits_here before y) (list_all (fits_here before) (one ++ other)) r.forms);
-      lits = λ w. lits_second before (placed_steps before inner derived s facts (goal_of shown)) (placed_steps before rest w s (joined_all facts shown) goal) d.licensed ((r.lits (Claim shown derived w)).1 over).1;
+      lits = λ w. lits_second before (placed_steps before inner derived s facts (goal_of shown)) (placed_steps before rest w s (with_facts facts shown) goal) d.licensed ((r.lits (Claim shown derived w)).1 over).1;
       scopes = all_right few_before one other (and_right (few_before y) (list_all few_before (one ++ other)) r.scopes);
       statements = r.statements;
     }
 
 claim_derives : (before : List StatementView) (shown : List Lit) (inner derived rest more : Script) (x : StepState) (goal : Goal) → are_over x.context.scope shown ≡ true → IsDerivedFrom before inner x (goal_of shown) derived →
     IsDerivedFrom before rest (after_block shown x) goal more → IsDerivedFrom before (Claim shown inner rest) x goal (Claim shown derived more)
-unfolding placed_steps erased filled_by has_certs_of
+unfolding placed_steps script_without_certs filled_by has_certs_of
 claim_derives before shown inner derived rest more x goal over d m =
     let s = x.context.scope in
     let facts = x.context.facts in
     record {
       licensed = (
         record { fits = over; allowed = tt; others = tt },
-        both_licensed before (placed_steps before inner derived s facts (goal_of shown)) (placed_steps before rest more s (joined_all facts shown) goal) d.licensed m.licensed,
+        both_licensed before (placed_steps before inner derived s facts (goal_of shown)) (placed_steps before rest more s (with_facts facts shown) goal) d.licensed m.licensed,
       );
       certified =
           and_from _ _ (and_from _ _ over refl)
-          (all_both (is_certified before) (placed_steps before derived derived s facts (goal_of shown)) (placed_steps before more more s (joined_all facts shown) goal) d.certified m.certified);
+          (all_both (is_certified before) (placed_steps before derived derived s facts (goal_of shown)) (placed_steps before more more s (with_facts facts shown) goal) d.certified m.certified);
       erased = ap₂ (Claim shown) d.erased m.erased;
       written = and_from _ _ d.written m.written;
     }
@@ -114,7 +114,7 @@ claim_reaches before shown inner rest x goal n a i seen over k =
     let s = x.context.scope in
     let facts = x.context.facts in
     let one = placed_steps before inner k.filled s facts (goal_of shown) in
-    let other = placed_steps before rest rest s (joined_all facts shown) goal in
+    let other = placed_steps before rest rest s (with_facts facts shown) goal in
     let ns = names_of_steps before x.names inner in
     let ms = names_of_steps before x.names rest in
     record {
@@ -137,7 +137,7 @@ claim_reaches_later before shown inner derived rest x goal n next a i seen over 
     let s = x.context.scope in
     let facts = x.context.facts in
     let one = placed_steps before inner derived s facts (goal_of shown) in
-    let other = placed_steps before rest k.filled s (joined_all facts shown) goal in
+    let other = placed_steps before rest k.filled s (with_facts facts shown) goal in
     let ns = names_of_steps before x.names inner in
     let ms = names_of_steps before x.names rest in
     record {
@@ -188,9 +188,9 @@ superposed_ready before superposition names shown certs inner rest x goal r =
     let here = Superposed superposition names shown certs inner rest in
     let y = step_from_basis here here x.context goal in
     let t = grown s superposing.sorts_copied in
-    let given = joined_all facts (superposing.gives_of_superposition superposition s) in
+    let given = with_facts facts (superposing.gives_of_superposition superposition s) in
     let one = placed_steps before inner inner t given (goal_of shown) in
-    let other = placed_steps before rest rest s (joined_all facts shown) goal in
+    let other = placed_steps before rest rest s (with_facts facts shown) goal in
     let fits_with_blanks = and_left (fits_here before y) (list_all (fits_here before) (one ++ other)) r.forms in
     record {
       fits = and_left (superposing.fits_superposition superposition s) (are_over s shown) fits_with_blanks;
@@ -214,14 +214,14 @@ superposed_rest before superposition names shown certs inner derived rest x goal
     let here = Superposed superposition names shown certs inner rest in
     let y = step_from_basis here here x.context goal in
     let t = grown s superposing.sorts_copied in
-    let given = joined_all facts (superposing.gives_of_superposition superposition s) in
+    let given = with_facts facts (superposing.gives_of_superposition superposition s) in
     let one = placed_steps before inner inner t given (goal_of shown) in
-    let other = placed_steps before rest rest s (joined_all facts shown) goal in
+    let other = placed_steps before rest rest s (with_facts facts shown) goal in
     let fits_with_blanks = and_left (fits_here before y) (list_all (fits_here before) (one ++ other)) r.forms in
     record {
       forms = all_right (fits_here before) one other (and_right (fits_here before y) (list_all (fits_here before) (one ++ other)) r.forms);
       lits = λ w.
-          lits_second before (placed_steps before inner derived t given (goal_of shown)) (placed_steps before rest w s (joined_all facts shown) goal) d.licensed
+          lits_second before (placed_steps before inner derived t given (goal_of shown)) (placed_steps before rest w s (with_facts facts shown) goal) d.licensed
           ((r.lits (Superposed superposition names shown certs derived w)).1 fits_with_blanks).1;
       scopes = all_right few_before one other (and_right (few_before y) (list_all few_before (one ++ other)) r.scopes);
       statements = r.statements;
@@ -240,20 +240,20 @@ superposed_licensed before superposition names shown written certs inner rest f 
 superposed_derives : (before : List StatementView) (superposition : Superpose) (names : List (List ℕ)) (shown : List Lit) (written certs : List Cert) (inner derived rest more : Script) (x : StepState) (goal : Goal) →
     superposing.fits_superposition superposition x.context.scope ≡ true → are_over x.context.scope shown ≡ true → Certifies superposition x certs → IsDerivedFrom before inner (after_superposed superposition names x) (goal_of shown) derived →
     IsDerivedFrom before rest (after_block shown x) goal more → IsDerivedFrom before (Superposed superposition names shown written inner rest) x goal (Superposed superposition names shown certs derived more)
-unfolding placed_steps erased filled_by has_certs_of
+unfolding placed_steps script_without_certs filled_by has_certs_of
 superposed_derives before superposition names shown written certs inner derived rest more x goal fit over c d m =
     let s = x.context.scope in
     let facts = x.context.facts in
     let t = grown s superposing.sorts_copied in
-    let given = joined_all facts (superposing.gives_of_superposition superposition s) in
+    let given = with_facts facts (superposing.gives_of_superposition superposition s) in
     record {
       licensed = (
         superposed_licensed before superposition names shown written certs inner rest (Superposed superposition names shown certs derived more) x goal fit over c,
-        both_licensed before (placed_steps before inner derived t given (goal_of shown)) (placed_steps before rest more s (joined_all facts shown) goal) d.licensed m.licensed,
+        both_licensed before (placed_steps before inner derived t given (goal_of shown)) (placed_steps before rest more s (with_facts facts shown) goal) d.licensed m.licensed,
       );
       certified =
           and_from _ _ (and_from _ _ (and_from _ _ fit over) (and_from _ _ c.0 refl))
-          (all_both (is_certified before) (placed_steps before derived derived t given (goal_of shown)) (placed_steps before more more s (joined_all facts shown) goal) d.certified m.certified);
+          (all_both (is_certified before) (placed_steps before derived derived t given (goal_of shown)) (placed_steps before more more s (with_facts facts shown) goal) d.certified m.certified);
       erased = ap₂ (Superposed superposition names shown []) d.erased m.erased;
       written = and_from _ _ c.1 (and_from _ _ d.written m.written);
     }
@@ -267,9 +267,9 @@ superposed_reaches before superposition names shown written certs inner rest x g
     let s = x.context.scope in
     let facts = x.context.facts in
     let t = grown s superposing.sorts_copied in
-    let given = joined_all facts (superposing.gives_of_superposition superposition s) in
+    let given = with_facts facts (superposing.gives_of_superposition superposition s) in
     let one = placed_steps before inner k.filled t given (goal_of shown) in
-    let other = placed_steps before rest rest s (joined_all facts shown) goal in
+    let other = placed_steps before rest rest s (with_facts facts shown) goal in
     let ns = names_of_steps before (named x.names superposing.sorts_copied names) inner in
     let ms = names_of_steps before x.names rest in
     let f = Superposed superposition names shown certs k.filled rest in
@@ -294,9 +294,9 @@ superposed_reaches_later before superposition names shown written certs inner de
     let s = x.context.scope in
     let facts = x.context.facts in
     let t = grown s superposing.sorts_copied in
-    let given = joined_all facts (superposing.gives_of_superposition superposition s) in
+    let given = with_facts facts (superposing.gives_of_superposition superposition s) in
     let one = placed_steps before inner derived t given (goal_of shown) in
-    let other = placed_steps before rest k.filled s (joined_all facts shown) goal in
+    let other = placed_steps before rest k.filled s (with_facts facts shown) goal in
     let inside = named x.names superposing.sorts_copied names in
     let ns = names_of_steps before inside inner in
     let ms = names_of_steps before x.names rest in
@@ -356,14 +356,14 @@ split_ready before lit first second x goal r =
     let s = x.context.scope in
     let facts = x.context.facts in
     let y = step_from_basis (Cases lit first second) (Cases lit first second) x.context goal in
-    let one = placed_steps before first first s (joined facts lit) goal in
-    let other = placed_steps before second second s (joined facts (negation lit)) goal in
+    let one = placed_steps before first first s (with_fact facts lit) goal in
+    let other = placed_steps before second second s (with_fact facts (negation lit)) goal in
     let over = and_left (fits_here before y) (list_all (fits_here before) (one ++ other)) r.forms in
     record {
       over = over;
       one = record {
         forms = all_left (fits_here before) one other (and_right (fits_here before y) (list_all (fits_here before) (one ++ other)) r.forms);
-        lits = λ w. lits_first before (placed_steps before first w s (joined facts lit) goal) other ((r.lits (Cases lit w second)).1 over).1;
+        lits = λ w. lits_first before (placed_steps before first w s (with_fact facts lit) goal) other ((r.lits (Cases lit w second)).1 over).1;
         scopes = all_left few_before one other (and_right (few_before y) (list_all few_before (one ++ other)) r.scopes);
         statements = r.statements;
       };
@@ -377,30 +377,30 @@ split_other before lit first second derived x goal d r =
     let s = x.context.scope in
     let facts = x.context.facts in
     let y = step_from_basis (Cases lit first second) (Cases lit first second) x.context goal in
-    let one = placed_steps before first first s (joined facts lit) goal in
-    let other = placed_steps before second second s (joined facts (negation lit)) goal in
+    let one = placed_steps before first first s (with_fact facts lit) goal in
+    let other = placed_steps before second second s (with_fact facts (negation lit)) goal in
     let over = and_left (fits_here before y) (list_all (fits_here before) (one ++ other)) r.forms in
     record {
       forms = all_right (fits_here before) one other (and_right (fits_here before y) (list_all (fits_here before) (one ++ other)) r.forms);
-      lits = λ w. lits_second before (placed_steps before first derived s (joined facts lit) goal) (placed_steps before second w s (joined facts (negation lit)) goal) d.licensed ((r.lits (Cases lit derived w)).1 over).1;
+      lits = λ w. lits_second before (placed_steps before first derived s (with_fact facts lit) goal) (placed_steps before second w s (with_fact facts (negation lit)) goal) d.licensed ((r.lits (Cases lit derived w)).1 over).1;
       scopes = all_right few_before one other (and_right (few_before y) (list_all few_before (one ++ other)) r.scopes);
       statements = r.statements;
     }
 
 pub split_derives : (before : List StatementView) (lit : Lit) (first second one other : Script) (x : StepState) (goal : Goal) → all_in_scope x.context.scope lit ≡ true → IsDerivedFrom before first (after_literal lit x) goal one →
     IsDerivedFrom before second (after_literal (negation lit) x) goal other → IsDerivedFrom before (Cases lit first second) x goal (Cases lit one other)
-unfolding placed_steps erased filled_by has_certs_of
+unfolding placed_steps script_without_certs filled_by has_certs_of
 split_derives before lit first second one other x goal over d e =
     let s = x.context.scope in
     let facts = x.context.facts in
     record {
       licensed = (
         record { fits = over; allowed = tt; others = tt },
-        both_licensed before (placed_steps before first one s (joined facts lit) goal) (placed_steps before second other s (joined facts (negation lit)) goal) d.licensed e.licensed,
+        both_licensed before (placed_steps before first one s (with_fact facts lit) goal) (placed_steps before second other s (with_fact facts (negation lit)) goal) d.licensed e.licensed,
       );
       certified =
           and_from _ _ (and_from _ _ over refl)
-          (all_both (is_certified before) (placed_steps before one one s (joined facts lit) goal) (placed_steps before other other s (joined facts (negation lit)) goal) d.certified e.certified);
+          (all_both (is_certified before) (placed_steps before one one s (with_fact facts lit) goal) (placed_steps before other other s (with_fact facts (negation lit)) goal) d.certified e.certified);
       erased = ap₂ (Cases lit) d.erased e.erased;
       written = and_from _ _ d.written e.written;
     }
@@ -412,8 +412,8 @@ unfolding placed_steps names_of_steps
 split_reaches_first before lit first second x goal n a i seen over k =
     let s = x.context.scope in
     let facts = x.context.facts in
-    let one = placed_steps before first k.filled s (joined facts lit) goal in
-    let other = placed_steps before second second s (joined facts (negation lit)) goal in
+    let one = placed_steps before first k.filled s (with_fact facts lit) goal in
+    let other = placed_steps before second second s (with_fact facts (negation lit)) goal in
     let ns = names_of_steps before x.names first in
     let ms = names_of_steps before x.names second in
     let f = Cases lit k.filled second in
@@ -437,8 +437,8 @@ unfolding placed_steps names_of_steps
 split_reaches_second before lit first second derived x goal n next a i seen over d count k =
     let s = x.context.scope in
     let facts = x.context.facts in
-    let one = placed_steps before first derived s (joined facts lit) goal in
-    let other = placed_steps before second k.filled s (joined facts (negation lit)) goal in
+    let one = placed_steps before first derived s (with_fact facts lit) goal in
+    let other = placed_steps before second k.filled s (with_fact facts (negation lit)) goal in
     let ns = names_of_steps before x.names first in
     let ms = names_of_steps before x.names second in
     let f = Cases lit derived k.filled in
@@ -446,7 +446,7 @@ split_reaches_second before lit first second derived x goal n next a i seen over
       filled = f;
       reached =
           reached_after before (step_from_basis (Cases lit first second) f x.context goal) (one ++ other) x.names (ns ++ ms) n a i seen (record { fits = over; allowed = tt; others = tt })
-          (reached_right before one other ns ms (size first) (n + 1) a i seen (lines_length before first derived s (joined facts lit) goal) (names_length before x.names first) d.licensed
+          (reached_right before one other ns ms (size first) (n + 1) a i seen (lines_length before first derived s (with_fact facts lit) goal) (names_length before x.names first) d.licensed
           (subst (λ m. IsReachedIn before other ms m a i seen) count k.reached));
     }
 

@@ -5,7 +5,7 @@ use Rattle.std.specs.List.{list_all}
 use Rattle.std.proofs.lemmas.Bool.{and_from}
 use Rattle.e_literal.specs.declared.object.Scope.{Scope}
 use Rattle.e_literal.specs.declared.literal.Lit.{Lit}
-use Rattle.e_literal.specs.Facts.{joined, joined_all}
+use Rattle.e_literal.specs.Facts.{with_fact, with_facts}
 use Rattle.e_literal.specs.declared.object.Obj.{Obj}
 use Rattle.e_literal.specs.Scopes.{grown}
 use Rattle.e_literal.specs.Use.{StatementView, gives_of_use}
@@ -67,13 +67,13 @@ fits_first before here x goal r =
     let begun = lines_begin before here here x.context.scope x.context.facts goal in
     first_is (fits_here before) (step_from_basis here here x.context goal) begun.0 (steps_from_basis before here here x.context goal) begun.1 r.forms
 
-cite_lits : (before : List StatementView) (by : By) (rest : Script) (x : StepState) (goal : Goal) → IsReadyFor before (Cite by rest) x goal → are_limited_facts x.context.scope (joined x.context.facts by.lit) ≡ true
+cite_lits : (before : List StatementView) (by : By) (rest : Script) (x : StepState) (goal : Goal) → IsReadyFor before (Cite by rest) x goal → are_limited_facts x.context.scope (with_fact x.context.facts by.lit) ≡ true
 unfolding placed_steps
 cite_lits before by rest x goal r =
     let here = Cite by rest in
-    first_facts before rest rest x.context.scope (joined x.context.facts by.lit) goal ((r.lits here).1 (fits_first before here x goal r)).1
+    first_facts before rest rest x.context.scope (with_fact x.context.facts by.lit) goal ((r.lits here).1 (fits_first before here x goal r)).1
 
-pub cite_good : (before : List StatementView) (by : By) (x : StepState) (n : ℕ) → IsReadyStep before (CiteStep by) x n → are_limited_facts x.context.scope (joined x.context.facts by.lit) ≡ true
+pub cite_good : (before : List StatementView) (by : By) (x : StepState) (n : ℕ) → IsReadyStep before (CiteStep by) x n → are_limited_facts x.context.scope (with_fact x.context.facts by.lit) ≡ true
 unfolding step_script
 cite_good before by x n r = cite_lits before by r.rest x r.goal r.ready
 
@@ -82,7 +82,7 @@ unfolding placed_steps
 hence_lits before lit cert rest x goal r =
     let here = Hence lit cert rest in
     let both = (r.lits here).1 (fits_first before here x goal r) in
-    record { needs = both.0; after = first_facts before rest rest x.context.scope (joined x.context.facts lit) goal both.1 }
+    record { needs = both.0; after = first_facts before rest rest x.context.scope (with_fact x.context.facts lit) goal both.1 }
 
 pub hence_good : (before : List StatementView) (lit : Lit) (cert : Option Cert) (x : StepState) (n : ℕ) → IsReadyStep before (HenceStep lit cert) x n → LineReady x.context.scope (lit ∷ []) (after_literal lit x)
 unfolding step_script
@@ -98,7 +98,7 @@ make_lits before construction names certs rest x goal r =
     let s = x.context.scope in
     let here = Make construction names certs rest in
     let both = (r.lits here).1 (fits_first before here x goal r) in
-    record { needs = both.0; after = first_facts before rest rest (grown s (sorts_made construction)) (joined_all x.context.facts (gives_of_construction construction s)) goal both.1 }
+    record { needs = both.0; after = first_facts before rest rest (grown s (sorts_made construction)) (with_facts x.context.facts (gives_of_construction construction s)) goal both.1 }
 
 pub make_good : (before : List StatementView) (construction : Construction) (names : List (List ℕ)) (certs : List Cert) (x : StepState) (n : ℕ) → IsReadyStep before (MakeStep construction names certs) x n →
     LineReady x.context.scope (needs_of_construction construction) (after_make construction names x)
@@ -131,7 +131,7 @@ apply_lits before theorem pattern names certs rest x goal r lt args h =
     let os = written (filled_in args) in
     let low : ltb theorem (length before) ≡ true = and_left (ltb theorem (length before)) (is_pattern t s pattern) (fits_first before (Apply theorem pattern names certs rest) x goal r) in
     let both = (r.lits f).1 (and_from (ltb theorem (length before)) (is_choice t s pattern os) low h) in
-    record { needs = both.0; after = first_facts before rest rest (grown s t.made) (joined_all x.context.facts (gives_of_use t os s)) goal both.1 }
+    record { needs = both.0; after = first_facts before rest rest (grown s t.made) (with_facts x.context.facts (gives_of_use t os s)) goal both.1 }
 
 apply_can : (before : List StatementView) (theorem : ℕ) (pattern : List (Option Obj)) (names : List (List ℕ)) (certs : List Cert) (rest : Script) (x : StepState) (goal : Goal) →
     IsReadyFor before (Apply theorem pattern names certs rest) x goal → ApplyReady before theorem pattern x

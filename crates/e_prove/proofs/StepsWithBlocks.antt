@@ -2,7 +2,7 @@
 use Rattle.std.proofs.Common.{◌≡◌, ℕ, ◌+◌, ◌-◌, ◌<◌, ◌^◌, List, refl, sym, ap, ◌∙◌, subst, true, Result, Ok, Err, arith, Box, Global}
 use Rattle.std.specs.Prelude.{IfOk, IfErr, OnOk}
 use Rattle.e_literal.specs.declared.literal.Lit.{Lit}
-use Rattle.e_literal.specs.Facts.{joined_all}
+use Rattle.e_literal.specs.Facts.{with_facts}
 use Rattle.e_literal.specs.Use.{StatementView}
 use Rattle.e_clause.specs.declared.cert.Cert.{Cert}
 use Rattle.e_clause.specs.LimitedFacts.{are_limited_facts}
@@ -74,7 +74,7 @@ pub claim_numbers : (before : List StatementView) (shown : List Lit) (inner : Sc
 claim_numbers before shown inner x n r = claim_few shown inner r.rest n r.few
 
 pub claim_ends : (before : List StatementView) (shown : List Lit) (inner derived : Script) (x : StepState) (n : ℕ) → IsDerivedFrom before inner x (goal_of shown) derived → AreReadySteps before (Claim shown inner) x n
-    → are_limited_facts x.context.scope (joined_all x.context.facts shown) ≡ true
+    → are_limited_facts x.context.scope (with_facts x.context.facts shown) ≡ true
 claim_ends before shown inner derived x n d r = block_facts before r.rest (after_block shown x) r.goal (claim_rest before shown inner derived r.rest x r.goal d r.ready)
 
 pub claim_is_passed : (before : List StatementView) (shown : List Lit) (inner : Script) (x z after : StepState) (n m : ℕ) (o : Names) (proved : Block) (r : Result Step Stop) → ClaimReady before shown inner x
@@ -111,7 +111,7 @@ pub superposed_numbers : (before : List StatementView) (superposition : Superpos
 superposed_numbers before superposition names shown certs inner x n r = superposed_few superposition names shown certs inner r.rest n r.few
 
 pub superposed_ends : (before : List StatementView) (superposition : Superpose) (names : List (List ℕ)) (shown : List Lit) (certs : List Cert) (inner derived : Script) (x : StepState) (n : ℕ)
-    → IsDerivedFrom before inner (after_superposed superposition names x) (goal_of shown) derived → AreReadySteps before (Superposed superposition names shown certs inner) x n → are_limited_facts x.context.scope (joined_all x.context.facts shown) ≡ true
+    → IsDerivedFrom before inner (after_superposed superposition names x) (goal_of shown) derived → AreReadySteps before (Superposed superposition names shown certs inner) x n → are_limited_facts x.context.scope (with_facts x.context.facts shown) ≡ true
 superposed_ends before superposition names shown certs inner derived x n d r =
     block_facts before r.rest (after_block shown x) r.goal (superposed_rest before superposition names shown certs inner derived r.rest x r.goal d r.ready)
 

@@ -8,7 +8,7 @@ use Rattle.std.proofs.lemmas.Option.{none-some}
 use Rattle.e_literal.specs.declared.object.Scope.{Scope}
 use Rattle.e_literal.specs.declared.literal.Lit.{Lit}
 use Rattle.e_literal.specs.Literal.{negation}
-use Rattle.e_literal.specs.Facts.{joined, joined_all}
+use Rattle.e_literal.specs.Facts.{with_fact, with_facts}
 use Rattle.e_literal.specs.Scopes.{grown}
 use Rattle.e_literal.specs.Use.{StatementView, gives_of_use}
 use Rattle.e_construct.specs.Construct.{sorts_made, gives_of_construction}
@@ -194,39 +194,39 @@ pub tests_again : (before : List StatementView) (p : PlacedStep → Bool) → Is
     list_all p (placed_steps before d f s facts goal) ≡ list_all p (placed_steps before d f' s facts' goal)
 unfolding placed_steps
 tests_again before p b (Cite by rest) f f' s facts facts' goal =
-    both_same _ _ _ _ (b.same (Cite by rest) f f' s facts facts' goal) (tests_again before p b rest (rest_of f) (rest_of f') s (joined facts by.lit) (joined facts' by.lit) goal)
+    both_same _ _ _ _ (b.same (Cite by rest) f f' s facts facts' goal) (tests_again before p b rest (rest_of f) (rest_of f') s (with_fact facts by.lit) (with_fact facts' by.lit) goal)
 tests_again before p b (Hence lit cert rest) f f' s facts facts' goal =
-    both_same _ _ _ _ (b.same (Hence lit cert rest) f f' s facts facts' goal) (tests_again before p b rest (rest_of f) (rest_of f') s (joined facts lit) (joined facts' lit) goal)
+    both_same _ _ _ _ (b.same (Hence lit cert rest) f f' s facts facts' goal) (tests_again before p b rest (rest_of f) (rest_of f') s (with_fact facts lit) (with_fact facts' lit) goal)
 tests_again before p b (Make construction names certs rest) f f' s facts facts' goal =
     both_same _ _ _ _ (b.same (Make construction names certs rest) f f' s facts facts' goal)
-    (tests_again before p b rest (rest_of f) (rest_of f') (grown s (sorts_made construction)) (joined_all facts (gives_of_construction construction s)) (joined_all facts' (gives_of_construction construction s)) goal)
+    (tests_again before p b rest (rest_of f) (rest_of f') (grown s (sorts_made construction)) (with_facts facts (gives_of_construction construction s)) (with_facts facts' (gives_of_construction construction s)) goal)
 tests_again before p b (Apply theorem args names certs rest) f f' s facts facts' goal =
     let t = theorem_at before theorem in
     both_same _ _ _ _ (b.same (Apply theorem args names certs rest) f f' s facts facts' goal)
-    (tests_again before p b rest (rest_of f) (rest_of f') (grown s t.made) (joined_all facts (gives_of_use t (args_of f) s)) (joined_all facts' (gives_of_use t (args_of f') s)) goal)
+    (tests_again before p b rest (rest_of f) (rest_of f') (grown s t.made) (with_facts facts (gives_of_use t (args_of f) s)) (with_facts facts' (gives_of_use t (args_of f') s)) goal)
 tests_again before p b (Claim shown inner rest) f f' s facts facts' goal =
     both_same _ _ _ _ (b.same (Claim shown inner rest) f f' s facts facts' goal)
     (both_lists p (placed_steps before inner (inner_of f) s facts (goal_of shown)) (placed_steps before inner (inner_of f') s facts' (goal_of shown))
-    (placed_steps before rest (rest_of f) s (joined_all facts shown) goal) (placed_steps before rest (rest_of f') s (joined_all facts' shown) goal)
+    (placed_steps before rest (rest_of f) s (with_facts facts shown) goal) (placed_steps before rest (rest_of f') s (with_facts facts' shown) goal)
     (tests_again before p b inner (inner_of f) (inner_of f') s facts facts' (goal_of shown))
-    (tests_again before p b rest (rest_of f) (rest_of f') s (joined_all facts shown) (joined_all facts' shown) goal))
+    (tests_again before p b rest (rest_of f) (rest_of f') s (with_facts facts shown) (with_facts facts' shown) goal))
 tests_again before p b (Superposed superposition names shown certs inner rest) f f' s facts facts' goal =
     let g = grown s superposing.sorts_copied in
     let given = superposing.gives_of_superposition superposition s in
     both_same _ _ _ _ (b.same (Superposed superposition names shown certs inner rest) f f' s facts facts' goal)
-    (both_lists p (placed_steps before inner (inner_of f) g (joined_all facts given) (goal_of shown)) (placed_steps before inner (inner_of f') g (joined_all facts' given) (goal_of shown))
-    (placed_steps before rest (rest_of f) s (joined_all facts shown) goal) (placed_steps before rest (rest_of f') s (joined_all facts' shown) goal)
-    (tests_again before p b inner (inner_of f) (inner_of f') g (joined_all facts given) (joined_all facts' given) (goal_of shown))
-    (tests_again before p b rest (rest_of f) (rest_of f') s (joined_all facts shown) (joined_all facts' shown) goal))
+    (both_lists p (placed_steps before inner (inner_of f) g (with_facts facts given) (goal_of shown)) (placed_steps before inner (inner_of f') g (with_facts facts' given) (goal_of shown))
+    (placed_steps before rest (rest_of f) s (with_facts facts shown) goal) (placed_steps before rest (rest_of f') s (with_facts facts' shown) goal)
+    (tests_again before p b inner (inner_of f) (inner_of f') g (with_facts facts given) (with_facts facts' given) (goal_of shown))
+    (tests_again before p b rest (rest_of f) (rest_of f') s (with_facts facts shown) (with_facts facts' shown) goal))
 tests_again before p b (Qed objects certs) f f' s facts facts' goal = both_same _ _ _ _ (b.same (Qed objects certs) f f' s facts facts' goal) refl
 tests_again before p b (Contradiction against) f f' s facts facts' goal = both_same _ _ _ _ (b.same (Contradiction against) f f' s facts facts' goal) refl
 tests_again before p b (Cases lit first second) f f' s facts facts' goal =
     let not_so = negation lit in
     both_same _ _ _ _ (b.same (Cases lit first second) f f' s facts facts' goal)
-    (both_lists p (placed_steps before first (inner_of f) s (joined facts lit) goal) (placed_steps before first (inner_of f') s (joined facts' lit) goal)
-    (placed_steps before second (rest_of f) s (joined facts not_so) goal) (placed_steps before second (rest_of f') s (joined facts' not_so) goal)
-    (tests_again before p b first (inner_of f) (inner_of f') s (joined facts lit) (joined facts' lit) goal)
-    (tests_again before p b second (rest_of f) (rest_of f') s (joined facts not_so) (joined facts' not_so) goal))
+    (both_lists p (placed_steps before first (inner_of f) s (with_fact facts lit) goal) (placed_steps before first (inner_of f') s (with_fact facts' lit) goal)
+    (placed_steps before second (rest_of f) s (with_fact facts not_so) goal) (placed_steps before second (rest_of f') s (with_fact facts' not_so) goal)
+    (tests_again before p b first (inner_of f) (inner_of f') s (with_fact facts lit) (with_fact facts' lit) goal)
+    (tests_again before p b second (rest_of f) (rest_of f') s (with_fact facts not_so) (with_fact facts' not_so) goal))
 
 -- whether a step has its form, and whether few objects are in scope before it
 pub fits_here_is_blind : (before : List StatementView) → IsBlind (fits_here before)

@@ -15,7 +15,7 @@ use crate::inner::{SuperposedParts, end_claim, end_superposition};
 use crate::step::{cite, hence, make, superpose};
 use crate::step_state::StepState;
 use crate::step_stop::{stop_at, with_number};
-use e_deriv::{Block, Close, Goal, Step, Stop, split};
+use e_deriv::{Block, Close, Goal, Step, Stop, cases};
 use e_literal::Lit;
 use e_theorem::Statement;
 use std::alloc::Global;
@@ -253,7 +253,7 @@ fn prove_close(
             }
             match prove_block(alloc, before, second, goal, state, number) {
                 Ok(other) => {
-                    let derived = split(alloc, lit, one, other)?;
+                    let derived = cases(alloc, lit, one, other)?;
                     Ok(derived)
                 }
                 Err(stop) => {

@@ -83,6 +83,6 @@ fn goal_with(alloc: Global, goal: &Goal, objects: &[Obj]) -> Result<Vec<Lit>, Al
     requires one_sort { map (λ o. o.sort) goal.now.made.now ≡ map (λ o. o.sort) objects.now }
     ensures { IfOk result (λ lits. lits.items ≡ goal_at (goal_view goal.now) objects.now) }
 {
-    let images = Map::paired(alloc, goal.made, objects)?;
+    let images = Map::of_pairs(alloc, goal.made, objects)?;
     all_renamed(alloc, goal.shown, &images)
 }

@@ -5,7 +5,7 @@ ghost use Rattle.e_literal.specs.Facts.{has, has_all, others};
 ghost use Rattle.e_literal.specs.Literal.{negation};
 ghost use Rattle.e_clause.specs.Certify.{certifies, certify_all};
 ghost use Rattle.e_clause.specs.LimitedFacts.{is_well_formed_in, are_well_formed_in};
-ghost use Rattle.e_deriv.specs.Steps.{instance_gives, is_cited as gives_cited};
+ghost use Rattle.e_deriv.specs.Steps.{is_cited as gives_cited};
 ghost use Rattle.e_clause.specs.declared.cert.Version.TheVariants as version;
 ghost use Rattle.e_clause.specs.Versions.{is_cert_of};
 ghost use Rattle.e_prove.specs.inner.StopsOfSteps.{StepStopsAmong};
@@ -66,25 +66,21 @@ pub fn licences(alloc: Global, context: &mut Context, lits: &[Lit]) -> Result<Ve
     Ok(certs)
 }
 
-/// Whether the cited instance gives the literal.
+/// Whether the cited instance gives the literal: it is one of the instance, and the negation of each
+/// other is a fact.
 pub fn is_cited(alloc: Global, by: &By, facts: &Facts) -> Result<bool, AllocError>
     ensures { IfOk result (λ b. b ≡ gives_cited facts.now by.now) }
 {
     match instance(alloc, by.rule, by.args.items()) {
-        Ok(lits) => gives(alloc, facts, &by.lit, &lits),
+        Ok(lits) => {
+            if !has_same(&lits, &by.lit) {
+                return Ok(false);
+            }
+            others_fail(alloc, facts, &by.lit, &lits)
+        }
         Err(InstanceFault::BadArgs) => Ok(false),
         Err(InstanceFault::NoMemory) => Err(AllocError),
     }
-}
-
-/// Whether the literal is one of the instance, and the negation of each other is a fact.
-fn gives(alloc: Global, facts: &Facts, lit: &Lit, lits: &[Lit]) -> Result<bool, AllocError>
-    ensures { IfOk result (λ b. b ≡ instance_gives facts.now lit.now lits.now) }
-{
-    if !has_same(lits, lit) {
-        return Ok(false);
-    }
-    others_fail(alloc, facts, lit, lits)
 }
 
 /// Whether one of the literals is the same as this one.

@@ -1,7 +1,7 @@
 //! Licensing up to a step: the blocks around it are entered and not left.
 ghost use Rattle.std.specs.Prelude.{◌≡◌, ◌+◌, ◌<◌, ◌≤◌, ◌^◌, IfErr, IsTrue, OnOk};
 ghost use Rattle.e_literal.specs.Literal.{negation};
-ghost use Rattle.e_literal.specs.Facts.{joined};
+ghost use Rattle.e_literal.specs.Facts.{with_fact};
 ghost use Rattle.e_clause.specs.LimitedFacts.{are_limited_facts};
 ghost use Rattle.e_theorem.specs.Statements.{all_stated};
 ghost use Rattle.e_deriv.specs.Script.{Script, script_of, step_script};
@@ -192,7 +192,7 @@ fn pass_first(
     requires second { (derived : Script) → IsDerivedFrom (all_stated before.now)
         (script_of block.now) (after_literal lit.now state.old) (goal_view goal.now) derived
         → IsTrue (are_limited_facts state.old.context.scope
-        (joined state.old.context.facts (negation lit.now))) }
+        (with_fact state.old.context.facts (negation lit.now))) }
     ensures passed { OnOk result (IsFirstPassed (all_stated before.now) lit.now
         (script_of block.now) state.old (goal_view goal.now) state.new) }
     ensures err { IfErr result (StopsWithin (all_stated before.now) (script_of block.now)

@@ -2,7 +2,7 @@
 ghost use Rattle.std.specs.Prelude.{◌≡◌, IfOk, IfErr, OnOk, IsTrue, List, Option};
 ghost use Rattle.std.specs.List.{list_all};
 ghost use Rattle.e_literal.specs.Use.{StatementView};
-ghost use Rattle.e_literal.specs.Facts.{joined};
+ghost use Rattle.e_literal.specs.Facts.{with_fact};
 ghost use Rattle.e_clause.specs.declared.cert.Cert.{Cert as Certificate};
 ghost use Rattle.e_clause.specs.LimitedFacts.{is_well_formed_in, are_well_formed_in};
 ghost use Rattle.e_clause.specs.LimitedFacts.{are_limited_facts};
@@ -32,7 +32,7 @@ use std::mem;
 #[tactic(auto, unfolding(e_deriv::specs::Script::step_script))]
 pub fn cite(alloc: Global, by: &By, state: &mut StepState) -> Result<Step, StepStop>
     requires { IsTrue
-        (are_limited_facts state.old.context.scope (joined state.old.context.facts by.now.lit)) }
+        (are_limited_facts state.old.context.scope (with_fact state.old.context.facts by.now.lit)) }
     ensures ok { IfOk result (λ d. (before : List StatementView)
         → IsLicensedStep before (Cite by.now) state.old d state.new) }
     ensures err { IfErr result (λ h. (before : List StatementView)
@@ -55,7 +55,7 @@ pub fn cite(alloc: Global, by: &By, state: &mut StepState) -> Result<Step, StepS
 pub fn hence(alloc: Global, lit: &Lit, state: &mut StepState) -> Result<Step, StepStop>
     requires lit { IsTrue (is_well_formed_in state.old.context.scope lit.now) }
     requires after { IsTrue
-        (are_limited_facts state.old.context.scope (joined state.old.context.facts lit.now)) }
+        (are_limited_facts state.old.context.scope (with_fact state.old.context.facts lit.now)) }
     ensures ok { IfOk result (λ d. (before : List StatementView) (cert : Option Certificate)
         → IsLicensedStep before (Hence lit.now cert) state.old d state.new) }
     ensures err { IfErr result (λ h. (before : List StatementView) (cert : Option Certificate)
@@ -79,7 +79,7 @@ pub fn hence(alloc: Global, lit: &Lit, state: &mut StepState) -> Result<Step, St
 /// holds then.
 fn assume_copy(alloc: Global, lit: &Lit, state: &mut StepState) -> Result<Lit, AllocError>
     requires { IsTrue
-        (are_limited_facts state.old.context.scope (joined state.old.context.facts lit.now)) }
+        (are_limited_facts state.old.context.scope (with_fact state.old.context.facts lit.now)) }
     ensures lit { IfOk result (λ l. l ≡ lit.now) }
     ensures after { OnOk result (state.new ≡ after_literal lit.now state.old) }
 {

@@ -1,7 +1,7 @@
 //! What holds before a step.
 ghost use Rattle.std.specs.Prelude.{◌≡◌, ◌<◌, ◌+◌, ◌^◌, length, OnOk, IfOk, [], IsTrue};
 ghost use Rattle.e_literal.specs.Literal.{negation};
-ghost use Rattle.e_literal.specs.Facts.{joined, joined_all};
+ghost use Rattle.e_literal.specs.Facts.{with_fact, with_facts};
 ghost use Rattle.e_literal.specs.Scopes;
 ghost use Rattle.e_literal.specs.Use.{scope_of};
 ghost use Rattle.e_clause.specs.LimitedFacts.{are_limited_facts};
@@ -103,7 +103,7 @@ impl StepState {
     /// The literal is a fact.
     pub fn assume(&mut self, alloc: Global, lit: &Lit) -> Result<(), AllocError>
         requires { IsTrue
-            (are_limited_facts self.old.context.scope (joined self.old.context.facts lit.now)) }
+            (are_limited_facts self.old.context.scope (with_fact self.old.context.facts lit.now)) }
         ensures { OnOk result (self.new ≡ after_literal lit.now self.old) }
     {
         self.context.add(copy(alloc, lit)?)?;
@@ -113,7 +113,7 @@ impl StepState {
     /// The negation of the literal is a fact.
     pub fn assume_not(&mut self, alloc: Global, lit: &Lit) -> Result<(), AllocError>
         requires { IsTrue (are_limited_facts self.old.context.scope
-            (joined self.old.context.facts (negation lit.now))) }
+            (with_fact self.old.context.facts (negation lit.now))) }
         ensures { OnOk result (self.new ≡ after_literal (negation lit.now) self.old) }
     {
         self.context.add(negate(copy(alloc, lit)?))?;
@@ -137,10 +137,10 @@ impl StepState {
     /// The literals join the facts, one after the other.
     pub fn join(&mut self, lits: Vec<Lit>) -> Result<(), AllocError>
         requires { IsTrue (are_limited_facts self.old.context.scope
-            (joined_all self.old.context.facts lits.items)) }
+            (with_facts self.old.context.facts lits.items)) }
         ensures { OnOk result (self.new ≡ record self.old {
           context
-              = record self.old.context { facts = joined_all self.old.context.facts lits.items };
+              = record self.old.context { facts = with_facts self.old.context.facts lits.items };
         }) }
     {
         join_all(&mut self.context, lits)
@@ -186,10 +186,10 @@ impl StepState {
     /// Equal literals join the facts, one after the other.
     pub fn join_equal(&mut self, alloc: Global, lits: &[Lit]) -> Result<(), AllocError>
         requires { IsTrue (are_limited_facts self.old.context.scope
-            (joined_all self.old.context.facts lits.now)) }
+            (with_facts self.old.context.facts lits.now)) }
         ensures { OnOk result (self.new ≡ record self.old {
           context
-              = record self.old.context { facts = joined_all self.old.context.facts lits.now };
+              = record self.old.context { facts = with_facts self.old.context.facts lits.now };
         }) }
     {
         join_copies(alloc, &mut self.context, lits)
@@ -199,9 +199,9 @@ impl StepState {
 /// Adds each literal unless one the same is there.
 fn join_all(context: &mut Context, lits: Vec<Lit>) -> Result<(), AllocError>
     requires { IsTrue
-        (are_limited_facts context.old.scope (joined_all context.old.facts lits.items)) }
+        (are_limited_facts context.old.scope (with_facts context.old.facts lits.items)) }
     ensures { OnOk result
-        (context.new ≡ record context.old { facts = joined_all context.old.facts lits.items }) }
+        (context.new ≡ record context.old { facts = with_facts context.old.facts lits.items }) }
 {
     for lit in lits {
         context.add(lit)?;
@@ -212,9 +212,9 @@ fn join_all(context: &mut Context, lits: Vec<Lit>) -> Result<(), AllocError>
 /// Adds an equal literal for each, unless one the same is there.
 fn join_copies(alloc: Global, context: &mut Context, lits: &[Lit]) -> Result<(), AllocError>
     requires { IsTrue
-        (are_limited_facts context.old.scope (joined_all context.old.facts lits.now)) }
+        (are_limited_facts context.old.scope (with_facts context.old.facts lits.now)) }
     ensures { OnOk result
-        (context.new ≡ record context.old { facts = joined_all context.old.facts lits.now }) }
+        (context.new ≡ record context.old { facts = with_facts context.old.facts lits.now }) }
 {
     for lit in lits {
         context.add(copy(alloc, lit)?)?;
@@ -224,7 +224,7 @@ fn join_copies(alloc: Global, context: &mut Context, lits: &[Lit]) -> Result<(),
 
 /// The literals, each put last unless one the same is there.
 fn facts_of(alloc: Global, lits: &[Lit]) -> Result<Facts, AllocError>
-    ensures { IfOk result (λ f. f ≡ joined_all [] lits.now) }
+    ensures { IfOk result (λ f. f ≡ with_facts [] lits.now) }
 {
     let mut facts = Facts::new(alloc);
     match add_copies(alloc, &mut facts, lits) {
@@ -238,7 +238,7 @@ fn facts_of(alloc: Global, lits: &[Lit]) -> Result<Facts, AllocError>
 
 /// Puts an equal literal last for each, unless one the same is there.
 fn add_copies(alloc: Global, facts: &mut Facts, lits: &[Lit]) -> Result<(), AllocError>
-    ensures { OnOk result (facts.new ≡ joined_all facts.old lits.now) }
+    ensures { OnOk result (facts.new ≡ with_facts facts.old lits.now) }
 {
     for lit in lits {
         facts.add(copy(alloc, lit)?)?;

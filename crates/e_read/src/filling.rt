@@ -9,7 +9,7 @@ use crate::kept::CertQueue;
 use e_cert::{Certs, StepCerts};
 use e_clause::{Against, Cert};
 use e_deriv::{
-    Block, Close, Step, claim, copy_by, copy_construction, copy_names, split, superpose,
+    Block, Close, Step, claim, copy_by, copy_construction, copy_names, cases, superpose,
 };
 use e_literal::{Items, copy};
 use std::alloc::{AllocError, Global};
@@ -172,7 +172,7 @@ fn fill_close(alloc: Global, close: &Close, queue: &mut CertQueue) -> Result<Clo
         Close::Cases { lit, first, second } => {
             let first = fill(alloc, first, queue)?;
             match fill(alloc, second, queue) {
-                Ok(second) => split(alloc, lit, first, second),
+                Ok(second) => cases(alloc, lit, first, second),
                 Err(error) => {
                     mem::drop(first);
                     Err(error)

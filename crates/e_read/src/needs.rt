@@ -4,7 +4,7 @@ ghost use Rattle.std.specs.Prelude.{length, map, Option, Some, None, reverse};
 ghost use Rattle.std.specs.Option.{option_map};
 ghost use Rattle.std.specs.List.{list_all};
 ghost use Rattle.e_literal.specs.Rename;
-ghost use Rattle.e_literal.specs.Rename.{image_in, paired};
+ghost use Rattle.e_literal.specs.Rename.{image_in, pairs_of};
 ghost use Rattle.e_theorem.specs.Statements.{stated};
 ghost use Rattle.e_deriv.specs.Fitting.{is_small_statement};
 ghost use Rattle.e_deriv.specs.Goal;
@@ -129,9 +129,9 @@ fn with_objects(
 ) -> Result<Items<Lit>, AllocError>
     requires one_sort { map (λ o. o.sort) made.now ≡ map (λ o. o.sort) objects.now }
     ensures { IfOk result
-        (λ ls. ls ≡ map (Rename.renamed (image_in (paired made.now objects.now))) shown.now) }
+        (λ ls. ls ≡ map (Rename.with_images (image_in (pairs_of made.now objects.now))) shown.now) }
 {
-    let images = Map::paired(alloc, made, objects)?;
+    let images = Map::of_pairs(alloc, made, objects)?;
     let with = all_renamed(alloc, shown, &images)?;
     Ok(Items::new(with))
 }

@@ -16,7 +16,7 @@ use Rattle.e_names.specs.Canonical.{raw_of, given_raw_line, show_raw_line, end_r
 use Rattle.e_book.specs.Canonical.{grouped, declare_raw_line, made_raw_line, declared_objects, made_objects, given_raw_lines, shown_raw_lines, head_raw_lines, names_of_proof, text_of}
 use Rattle.e_spell.specs.declared.declarations.Role.TheVariants.{Declared, Made}
 use Rattle.e_spell.specs.Spelling.{script_lines, spelled}
-use Rattle.e_spell.specs.inner.Parts.{lits_text, script_text, proof_text, objects_text, title_text, statement_text, head_text, theorem_text}
+use Rattle.e_spell.specs.inner.Parts.{raw_line_text, lits_text, script_text, proof_text, objects_text, title_text, statement_text, head_text, theorem_text}
 use Rattle.e_spell.proofs.ScriptTexts.{of_lines}
 use Rattle.e_spell.proofs.Declared.{text, declared_text, made_text}
 
@@ -74,3 +74,7 @@ pub spelled_parts : (known : List TitledStatement) (t : TheoremView) (d : Script
 spelled_parts known t d =
     ap (λ (x : List ℕ). x ++ proof_text known (names_of_proof t) d) (of_head t) ∙ ap (λ (x : List ℕ). text (head_raw_lines t) ++ x) (of_proof known (names_of_proof t) d)
     ∙ sym (of_lines (map line_of (head_raw_lines t)) (script_lines known (names_of_proof t) d ++ line_of end_raw_line ∷ []))
+
+-- the parts as they are written one after another
+pub parts_in_turn : (known : List TitledStatement) (t : TheoremView) (d : Script) → ((([] ++ head_text t.title t.names t.statement) ++ script_text known (names_of_proof t) d) ++ raw_line_text end_raw_line) ≡ spelled known t d
+parts_in_turn known t d = append_assoc (head_text t.title t.names t.statement) (script_text known (names_of_proof t) d) (raw_line_text end_raw_line) ∙ spelled_parts known t d

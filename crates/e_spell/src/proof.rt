@@ -6,7 +6,7 @@ ghost use Rattle.e_deriv.specs.Script.{script_of, close_script};
 ghost use Rattle.e_names.specs.Canonical.{hence_raw_line, let_raw_line, apply_raw_line};
 ghost use Rattle.e_spell.specs.inner.Parts.{raw_line_text, certs_text, superposition_text};
 ghost use Rattle.e_spell.specs.inner.Parts.{qed_text, step_text, steps_text, names_after};
-ghost use Rattle.e_spell.specs.inner.Parts.{script_text, contradicted_text, proof_text};
+ghost use Rattle.e_spell.specs.inner.Parts.{script_text, contradicted_text};
 
 use crate::certificates::{put_against_of, put_cert_of, put_certs};
 use crate::literals::put_literal_line;
@@ -239,7 +239,7 @@ fn put_close(
 /// The lines of a block, where these names are in scope before the first.
 #[cycle(put_block)]
 #[tactic(auto, using(crate::proofs::ScriptTexts::blocks))]
-fn put_block(
+pub(crate) fn put_block(
     alloc: Global,
     out: &mut Vec<u8>,
     known: &Theorems,
@@ -257,21 +257,4 @@ fn put_block(
     let put = put_close(alloc, out, known, &names, &block.close);
     mem::drop(names);
     put
-}
-
-/// The lines after the word proof, to the theorem's end, where these names are in scope before the
-/// first.
-pub(crate) fn put_proof(
-    alloc: Global,
-    out: &mut Vec<u8>,
-    known: &Theorems,
-    names: &Names,
-    block: &Block,
-) -> Result<(), AllocError>
-    ensures { OnOk result
-        (out.new.items ≡ out.old.items ++ proof_text known.now names.now (script_of block.now)) }
-{
-    put_block(alloc, out, known, names, block)?;
-    put_line(out, b"end")?;
-    Ok(())
 }

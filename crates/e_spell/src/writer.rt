@@ -1,41 +1,18 @@
 //! Derivations as texts.
-ghost use Rattle.std.specs.Prelude.{◌≡◌, ◌++◌, IfOk, OnOk};
+ghost use Rattle.std.specs.Prelude.{◌≡◌, IfOk};
 ghost use Rattle.e_deriv.specs.Script.{script_of};
 ghost use Rattle.e_book.specs.TheoremViews.{entry_of};
-ghost use Rattle.e_spell.specs.inner.Parts.{theorem_text};
 ghost use Rattle.e_spell.specs.Spelling.{spelled};
 
 use crate::head::put_head;
-use crate::proof::put_proof;
+use crate::proof::put_block;
 use crate::scope::first_names;
 use e_book::Theorem;
 use e_deriv::Block;
 use e_names::Theorems;
+use e_text::put_line;
 use std::alloc::{AllocError, Global};
 use std::mem;
-
-fn put_theorem(
-    alloc: Global,
-    out: &mut Vec<u8>,
-    known: &Theorems,
-    theorem: &Theorem,
-    deriv: &Block,
-) -> Result<(), AllocError>
-    ensures { OnOk result (out.new.items ≡ out.old.items
-        ++ theorem_text known.now (entry_of theorem.now) (script_of deriv.now)) }
-{
-    let declared = put_head(
-        alloc,
-        out,
-        theorem.title,
-        &theorem.names,
-        &theorem.statement,
-    )?;
-    let names = first_names(alloc, &theorem.names, declared)?;
-    let put = put_proof(alloc, out, known, &names, deriv);
-    mem::drop(names);
-    put
-}
 
 /// The one spelling of a theorem with a derivation: the theorem's lines to the word `proof`, each
 /// line of the derivation, below it its certificates and then the blocks inside it, and `end`. Each
@@ -56,6 +33,17 @@ pub fn spell(
         (λ v. v.items ≡ spelled known.now (entry_of theorem.now) (script_of deriv.now)) }
 {
     let mut out = Vec::new(alloc);
-    put_theorem(alloc, &mut out, known, theorem, deriv)?;
+    let declared = put_head(
+        alloc,
+        &mut out,
+        theorem.title,
+        &theorem.names,
+        &theorem.statement,
+    )?;
+    let names = first_names(alloc, &theorem.names, declared)?;
+    let put = put_block(alloc, &mut out, known, &names, deriv);
+    mem::drop(names);
+    put?;
+    put_line(&mut out, b"end")?;
     Ok(out)
 }

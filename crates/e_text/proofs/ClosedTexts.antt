@@ -7,7 +7,7 @@ use Rattle.std.proofs.lemmas.List.Folds.{list_all-append}
 use Rattle.memchr.specs.Find.{is_byte, Passes, Nowhere}
 use Rattle.e_text.specs.declared.line.LineEnd.TheVariants.{TextEnd}
 use Rattle.e_text.specs.declared.line.LineFault.{LineFault}
-use Rattle.e_text.specs.Lines.{is_lf, Bounds, Spot, LineView, HaveNoFault, checked, line_before_lf, lines_of, lines_of_parts, IsClosed, IsOpen, then_more}
+use Rattle.e_text.specs.Lines.{is_lf, Bounds, Spot, LineView, HaveNoFault, line_or_fault, line_before_lf, lines_of, lines_of_parts, IsClosed, IsOpen, then_more}
 use Rattle.e_text.proofs.FirstLine.{then_lines}
 use Rattle.e_text.proofs.Scans.{false_unless_true}
 
@@ -81,7 +81,7 @@ then_last (Err f) rest h = refl
 
 last_of_parts : (w : Bounds) (at : Spot) (parts : List (List ℕ)) → EndsAtFault (lines_of_parts w at parts)
 last_of_parts w at [] = tt
-last_of_parts w at (part ∷ []) = one_or_none (eqb (length part) 0) (checked w at part TextEnd (at.before + length part))
+last_of_parts w at (part ∷ []) = one_or_none (eqb (length part) 0) (line_or_fault w at part TextEnd (at.before + length part))
 last_of_parts w at (part ∷ next ∷ parts) =
     let after : Spot = record { line = at.line + 1; before = at.before + length part + 1 } in
     then_last (line_before_lf w at part) (lines_of_parts w after (next ∷ parts)) (last_of_parts w after (next ∷ parts))

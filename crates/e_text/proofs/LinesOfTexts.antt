@@ -10,7 +10,7 @@ use Rattle.std.proofs.lemmas.List.Sums.{prefix_len_passes, prefix_len_stops, pos
 use Rattle.e_text.specs.declared.line.LineEnd.TheVariants.{TextEnd}
 use Rattle.e_text.specs.declared.line.LineFault.{LineFault}
 use Rattle.e_text.specs.declared.line.LineFault.TheVariants.{Bytes}
-use Rattle.e_text.specs.Lines.{is_lf, Bounds, Spot, LineView, checked, line_before_lf, lines_of, lines_of_parts}
+use Rattle.e_text.specs.Lines.{is_lf, Bounds, Spot, LineView, line_or_fault, line_before_lf, lines_of, lines_of_parts}
 use Rattle.e_text.proofs.FirstLine.{then_lines, split_more, parts_of}
 
 -- no line feed stands before the first
@@ -34,7 +34,7 @@ lines_of-closed w at text lt =
 
 -- a line that the text ends
 pub lines_of-open : (w : Bounds) (at : Spot) (text : List ℕ) → 0 < length text → length text ≤ position_or_len is_lf text
-    → lines_of w at text ≡ checked w at text TextEnd (at.before + length text) ∷ []
+    → lines_of w at text ≡ line_or_fault w at text TextEnd (at.before + length text) ∷ []
 lines_of-open w at text some le =
     let none = slice_split_none is_lf text (All-from_get_or (λ b. is_lf b ≡ false) text 0 (λ i lt. before_lf text i (omega arith))) in
     let nonzero : eqb (length text) 0 ≡ false = ne_eqb (length text) 0 (λ z. omega arith) in

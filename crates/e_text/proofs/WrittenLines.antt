@@ -9,8 +9,8 @@ use Rattle.std.proofs.lemmas.List.Splits.{slice_split_at}
 use Rattle.std.proofs.lemmas.List.Sums.{split_at_first}
 use Rattle.e_text.specs.declared.line.LineEnd.TheVariants.{Lf, TextEnd}
 use Rattle.e_text.specs.declared.line.LineFault.{LineFault}
-use Rattle.e_text.specs.Lines.{is_lf, is_allowed, ends_in_cr, Bounds, Spot, LineView, checked, line_before_lf, ended, lines_of, lines_of_parts, end_bytes, HaveNoFault, AreShort, text_of_lines, lf_text, numbered}
-use Rattle.e_text.proofs.FirstLine.{then_lines, split_more, parts_of, seen-checked}
+use Rattle.e_text.specs.Lines.{is_lf, is_allowed, ends_in_cr, Bounds, Spot, LineView, line_or_fault, line_before_lf, ended, lines_of, lines_of_parts, end_bytes, HaveNoFault, AreShort, text_of_lines, lf_text, numbered}
+use Rattle.e_text.proofs.FirstLine.{then_lines, split_more, parts_of, seen-line_or_fault}
 use Rattle.e_text.proofs.LinesOfTexts.{at_lf, next_spot, lines_of-closed, lines_of-open}
 
 -- ---- put together
@@ -31,7 +31,7 @@ ended_bytes part false e = rw e refl
 
 closed_bytes : (w : Bounds) (at : Spot) (part : List ℕ) (l : LineView) → line_before_lf w at part ≡ Ok l → l.bytes ++ end_bytes l.end ≡ part ++ 10 ∷ []
 closed_bytes w at part l e =
-    let is = seen-checked w at (ended part []).0 (ended part []).1 (at.before + length part + 1) l e in
+    let is = seen-line_or_fault w at (ended part []).0 (ended part []).1 (at.before + length part + 1) l e in
     ap (λ (k : LineView). k.bytes ++ end_bytes k.end) (sym is) ∙ ended_bytes part (ends_in_cr part) refl
 
 put_closed : (r : Result LineView LineFault) (rest : List (Result LineView LineFault)) (part after : List ℕ) → ((l : LineView) → r ≡ Ok l → l.bytes ++ end_bytes l.end ≡ part ++ 10 ∷ []) → (HaveNoFault rest → text_of_lines rest ≡ after)
@@ -62,8 +62,8 @@ whole_by_size (suc size) w at (b ∷ bs) le good =
           ap text_of_lines e ∙ put_closed (line_before_lf w at part) rest part after (closed_bytes w at part) (λ g. whole_by_size size w (next_spot at (length part)) after (omega (arith, length-drop (n + 1) text)) g) good' ∙ cut
       | inr le' ↦
           let e = lines_of-open w at text (omega arith) le' in
-          let good' : HaveNoFault (checked w at text TextEnd (at.before + length text) ∷ []) = subst HaveNoFault e good in
-          ap text_of_lines e ∙ put_open (checked w at text TextEnd (at.before + length text)) text (λ l o. ap (λ (k : LineView). k.bytes ++ end_bytes k.end) (sym (seen-checked w at text TextEnd (at.before + length text) l o)) ∙ append-nil text) good'
+          let good' : HaveNoFault (line_or_fault w at text TextEnd (at.before + length text) ∷ []) = subst HaveNoFault e good in
+          ap text_of_lines e ∙ put_open (line_or_fault w at text TextEnd (at.before + length text)) text (λ l o. ap (λ (k : LineView). k.bytes ++ end_bytes k.end) (sym (seen-line_or_fault w at text TextEnd (at.before + length text) l o)) ∙ append-nil text) good'
     ]
 
 -- the lines with their ends, put together, are the text

@@ -1,7 +1,7 @@
 //! Words written after spaces, and the ends of lines. Each of these functions adds bytes to what is
 //! written. It fails only when out of memory, and then what was written before is as it was.
 ghost use Rattle.std.specs.Prelude.{◌≡◌, ◌≤◌, ◌++◌, ◌∷◌, [], ◌==◌, if◌then◌else◌};
-ghost use Rattle.std.specs.Prelude.{decimal, length, take, OnOk, OnErr};
+ghost use Rattle.std.specs.Prelude.{decimal, length, map, take, OnOk, OnErr};
 ghost use Rattle.e_text.specs.Tokens.{spaced};
 
 use crate::name::Name;
@@ -35,42 +35,17 @@ pub fn put(out: &mut Vec<u8>, word: &[u8]) -> Result<(), AllocError>
     put_or_cut(out, word, before)
 }
 
-// Writes two words, each after a space.
-fn put_two(out: &mut Vec<u8>, x: &[u8], y: &[u8]) -> Result<(), AllocError>
-    ensures ok { OnOk result (out.new.items ≡ out.old.items ++ spaced (x.now ∷ y.now ∷ [])) }
-    ensures err { OnErr result (out.new.items ≡ out.old.items) }
-{
-    let before = out.len();
-    put(out, x)?;
-    put_or_cut(out, y, before)
-}
-
-/// Writes three words, each after a space.
-pub fn put_three(out: &mut Vec<u8>, x: &[u8], y: &[u8], z: &[u8]) -> Result<(), AllocError>
+/// Writes words in their order, each after a space.
+pub fn put_words(out: &mut Vec<u8>, words: &[&[u8]]) -> Result<(), AllocError>
     ensures ok { OnOk result
-        (out.new.items ≡ out.old.items ++ spaced (x.now ∷ y.now ∷ z.now ∷ [])) }
+        (out.new.items ≡ out.old.items ++ spaced (map (λ w. w.now) words.now)) }
     ensures err { OnErr result (out.new.items ≡ out.old.items) }
 {
     let before = out.len();
-    put_two(out, x, y)?;
-    put_or_cut(out, z, before)
-}
-
-/// Writes four words, each after a space.
-pub fn put_four(
-    out: &mut Vec<u8>,
-    word: &[u8],
-    x: &[u8],
-    y: &[u8],
-    z: &[u8],
-) -> Result<(), AllocError>
-    ensures ok { OnOk result
-        (out.new.items ≡ out.old.items ++ spaced (word.now ∷ x.now ∷ y.now ∷ z.now ∷ [])) }
-    ensures err { OnErr result (out.new.items ≡ out.old.items) }
-{
-    let before = out.len();
-    put_three(out, word, x, y)?;
-    put_or_cut(out, z, before)
+    for word in words {
+        put_or_cut(out, word, before)?;
+    }
+    Ok(())
 }
 
 /// Writes a number after a space, by its decimal digits.

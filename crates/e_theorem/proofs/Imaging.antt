@@ -13,7 +13,7 @@ use Rattle.e_literal.specs.declared.literal.Lit.{Lit}
 use Rattle.e_literal.specs.declared.map.Entry.{Entry}
 use Rattle.e_literal.specs.Literal.{obj, count_of, is_in_scope}
 use Rattle.e_literal.specs.Scopes.{same_sort, nothing, with_one, grown, next_objects, are_of_sorts}
-use Rattle.e_literal.specs.Rename.{same_obj, image_in, paired, renamed}
+use Rattle.e_literal.specs.Rename.{same_obj, image_in, pairs_of, with_images}
 use Rattle.e_literal.specs.Use.{StatementView, scope_of, nth_of_sort, image_in_use, are_arguments}
 use Rattle.e_literal.proofs.GrownScopes.{grown_bounds, counts_nothing, sorts_next}
 use Rattle.e_literal.proofs.WithImages.{image_in_second}
@@ -74,13 +74,13 @@ this_one s sort o same is =
 next_head : (o t : Obj) (b : Bool) (rest : Option Obj) → b ≡ false → cond b (Some t) rest ≡ rest
 next_head o t b rest h = ap (λ c. cond c (Some t) rest) h
 
-pub none_before : (b : Scope) (sorts : List Sort) (os : List Obj) (o : Obj) → o.num < count_of b o.sort → image_in (paired (next_objects b sorts) os) o ≡ None
+pub none_before : (b : Scope) (sorts : List Sort) (os : List Obj) (o : Obj) → o.num < count_of b o.sort → image_in (pairs_of (next_objects b sorts) os) o ≡ None
 none_before b [] os o h = refl
 none_before b (sort ∷ sorts) [] o h = refl
 none_before b (sort ∷ sorts) (t ∷ os) o h =
     next_head o t _ _ (not_before b sort o h) ∙ none_before (with_one b sort) sorts os o (omega (arith, h, counted b sort o.sort))
 
-pub none_after : (b : Scope) (sorts : List Sort) (os : List Obj) (o : Obj) → count_of (grown b sorts) o.sort ≤ o.num → image_in (paired (next_objects b sorts) os) o ≡ None
+pub none_after : (b : Scope) (sorts : List Sort) (os : List Obj) (o : Obj) → count_of (grown b sorts) o.sort ≤ o.num → image_in (pairs_of (next_objects b sorts) os) o ≡ None
 none_after b [] os o h = refl
 none_after b (sort ∷ sorts) [] o h = refl
 none_after b (sort ∷ sorts) (t ∷ os) o h =
@@ -88,7 +88,7 @@ none_after b (sort ∷ sorts) (t ∷ os) o h =
 
 -- the n-th object of a sort
 pub nth_there : (s b : Scope) (sorts : List Sort) (args : List Obj) (o : Obj) (d : ℕ) → are_of_sorts s sorts args ≡ true → o.num ≡ count_of b o.sort + d
-    → image_in (paired (next_objects b sorts) args) o ≡ nth_of_sort o.sort d args
+    → image_in (pairs_of (next_objects b sorts) args) o ≡ nth_of_sort o.sort d args
 nth_there s b [] [] o d fit is = refl
 nth_there s b [] (a ∷ args) o d fit is = absurd (true≢false (sym fit))
 nth_there s b (sort ∷ sorts) [] o d fit is = absurd (true≢false (sym fit))
@@ -102,11 +102,11 @@ nth_there s b (sort ∷ sorts) (a ∷ args) o d fit is =
           ∙ sym (ap (λ c. slice_get (cond c (a ∷ filter (λ x. same_sort x.sort o.sort) args) (filter (λ x. same_sort x.sort o.sort) args)) d) (subst (λ x. same_sort x o.sort ≡ false) sorted other))
     ]
   where
-    here : ((n : ℕ) → o.num ≡ count_of (with_one b sort) o.sort + n → image_in (paired (next_objects (with_one b sort) sorts) args) o ≡ nth_of_sort o.sort n args)
+    here : ((n : ℕ) → o.num ≡ count_of (with_one b sort) o.sort + n → image_in (pairs_of (next_objects (with_one b sort) sorts) args) o ≡ nth_of_sort o.sort n args)
         → (d : ℕ) → same_sort sort o.sort ≡ true → same_sort a.sort o.sort ≡ true → o.num ≡ count_of b o.sort + d
-        → image_in (paired (next_objects b (sort ∷ sorts)) (a ∷ args)) o ≡ nth_of_sort o.sort d (a ∷ args)
+        → image_in (pairs_of (next_objects b (sort ∷ sorts)) (a ∷ args)) o ≡ nth_of_sort o.sort d (a ∷ args)
     here later zero same kept is =
-        ap (λ c. cond c (Some a) (image_in (paired (next_objects (with_one b sort) sorts) args) o)) (this_one b sort o same (is ∙ omega arith))
+        ap (λ c. cond c (Some a) (image_in (pairs_of (next_objects (with_one b sort) sorts) args) o)) (this_one b sort o same (is ∙ omega arith))
         ∙ sym (ap (λ c. slice_get (cond c (a ∷ filter (λ x. same_sort x.sort o.sort) args) (filter (λ x. same_sort x.sort o.sort) args)) zero) kept)
     here later (suc d) same kept is =
         next_head o a _ _ (not_after b sort o (omega (arith, is, counted_here b sort o.sort same)))
@@ -115,7 +115,7 @@ nth_there s b (sort ∷ sorts) (a ∷ args) o d fit is =
 
 -- the next object of another scope
 pub new_there : (s b : Scope) (sorts : List Sort) (o : Obj) (d : ℕ) → o.num ≡ count_of b o.sort + d → o.num < count_of (grown b sorts) o.sort
-    → image_in (paired (next_objects b sorts) (next_objects s sorts)) o ≡ Some (obj o.sort (count_of s o.sort + d))
+    → image_in (pairs_of (next_objects b sorts) (next_objects s sorts)) o ≡ Some (obj o.sort (count_of s o.sort + d))
 new_there s b [] o d is less = absurd (omega (arith, is, less))
 new_there s b (sort ∷ sorts) o d is less =
     elim (cases_Bool (same_sort sort o.sort)) [
@@ -126,11 +126,11 @@ new_there s b (sort ∷ sorts) o d is less =
     ]
   where
     here : ((n : ℕ) → o.num ≡ count_of (with_one b sort) o.sort + n
-        → image_in (paired (next_objects (with_one b sort) sorts) (next_objects (with_one s sort) sorts)) o ≡ Some (obj o.sort (count_of (with_one s sort) o.sort + n)))
+        → image_in (pairs_of (next_objects (with_one b sort) sorts) (next_objects (with_one s sort) sorts)) o ≡ Some (obj o.sort (count_of (with_one s sort) o.sort + n)))
         → (d : ℕ) → same_sort sort o.sort ≡ true → o.num ≡ count_of b o.sort + d
-        → image_in (paired (next_objects b (sort ∷ sorts)) (next_objects s (sort ∷ sorts))) o ≡ Some (obj o.sort (count_of s o.sort + d))
+        → image_in (pairs_of (next_objects b (sort ∷ sorts)) (next_objects s (sort ∷ sorts))) o ≡ Some (obj o.sort (count_of s o.sort + d))
     here later zero same is =
-        ap (λ c. cond c (Some (obj sort (count_of s sort))) (image_in (paired (next_objects (with_one b sort) sorts) (next_objects (with_one s sort) sorts)) o))
+        ap (λ c. cond c (Some (obj sort (count_of s sort))) (image_in (pairs_of (next_objects (with_one b sort) sorts) (next_objects (with_one s sort) sorts)) o))
         (this_one b sort o same (is ∙ omega arith))
         ∙ ap (λ x. Some (obj x (count_of s x))) (same_sort_is sort o.sort same)
         ∙ ap (λ n. Some (obj o.sort n)) (omega arith)
@@ -146,7 +146,7 @@ only_first [] y o h = h
 only_first (e ∷ x) y o h = ap (λ r. cond (same_obj e.source o) (Some e.target) r) (only_first x y o h)
 
 pub paired_after : (s b : Scope) (sorts : List Sort) (args more : List Obj) (after : List Obj) → are_of_sorts s sorts args ≡ true
-    → paired (next_objects b sorts ++ more) (args ++ after) ≡ paired (next_objects b sorts) args ++ paired more after
+    → pairs_of (next_objects b sorts ++ more) (args ++ after) ≡ pairs_of (next_objects b sorts) args ++ pairs_of more after
 paired_after s b [] [] more after fit = refl
 paired_after s b [] (a ∷ args) more after fit = absurd (true≢false (sym fit))
 paired_after s b (sort ∷ sorts) [] more after fit = absurd (true≢false (sym fit))
@@ -168,21 +168,21 @@ abbrev pub made_image : StatementView → Scope → Obj → Option Obj
 made_image t s o =
     cond (nat_lt o.num (count_of (grown (scope_of t) t.made) o.sort)) (Some (obj o.sort (count_of s o.sort + (o.num - count_of (scope_of t) o.sort)))) None
 
-pub imaged : (t : StatementView) (args : List Obj) (s : Scope) (o : Obj) → are_arguments t s args ≡ true → image_in (paired (sources t) (targets t args s)) o ≡ image_in_use t args s o
+pub imaged : (t : StatementView) (args : List Obj) (s : Scope) (o : Obj) → are_arguments t s args ≡ true → image_in (pairs_of (sources t) (targets t args s)) o ≡ image_in_use t args s o
 imaged t args s o fit =
     ap (λ es. image_in es o) (paired_after s nothing t.declared args (next_objects (scope_of t) t.made) (next_objects s t.made) fit) ∙
     elim (cases_lt o.num (count_of (scope_of t) o.sort)) [
       | inl less ↦
-          only_first (paired (next_objects nothing t.declared) args) _ o (none_before (scope_of t) t.made (next_objects s t.made) o less)
+          only_first (pairs_of (next_objects nothing t.declared) args) _ o (none_before (scope_of t) t.made (next_objects s t.made) o less)
           ∙ nth_there s nothing t.declared args o o.num fit (omega (arith, counts_nothing o.sort))
           ∙ sym (ap (λ b. cond b (nth_of_sort o.sort o.num args) (made_image t s o)) (lt-ltb o.num (count_of (scope_of t) o.sort) less))
       | inr more ↦
-          image_in_second (paired (next_objects nothing t.declared) args) _ o (none_after nothing t.declared args o more)
+          image_in_second (pairs_of (next_objects nothing t.declared) args) _ o (none_after nothing t.declared args o more)
           ∙ made_part t s o more
           ∙ sym (ap (λ b. cond b (nth_of_sort o.sort o.num args) (made_image t s o)) (le-ltb o.num (count_of (scope_of t) o.sort) more))
     ]
   where
-    made_part : (t : StatementView) (s : Scope) (o : Obj) → count_of (scope_of t) o.sort ≤ o.num → image_in (paired (next_objects (scope_of t) t.made) (next_objects s t.made)) o ≡ made_image t s o
+    made_part : (t : StatementView) (s : Scope) (o : Obj) → count_of (scope_of t) o.sort ≤ o.num → image_in (pairs_of (next_objects (scope_of t) t.made) (next_objects s t.made)) o ≡ made_image t s o
     made_part t s o more =
         elim (cases_lt o.num (count_of (grown (scope_of t) t.made) o.sort)) [
           | inl less ↦ new_there s (scope_of t) t.made o (o.num - count_of (scope_of t) o.sort) (omega (arith, more)) less
@@ -203,12 +203,12 @@ sorts_agree t args s fit =
 
 -- ---- literals with these images
 
-pub same_images : (f g : Obj → Option Obj) (ls : List Lit) → ((o : Obj) → f o ≡ g o) → map (renamed f) ls ≡ map (renamed g) ls
-same_images f g ls h = ap (λ (k : Obj → Option Obj). map (renamed k) ls) (λ i o. h o i)
+pub same_images : (f g : Obj → Option Obj) (ls : List Lit) → ((o : Obj) → f o ≡ g o) → map (with_images f) ls ≡ map (with_images g) ls
+same_images f g ls h = ap (λ (k : Obj → Option Obj). map (with_images k) ls) (λ i o. h o i)
 
-pub at_images : (r : List Lit) (m : List Entry) (ls : List Lit) (t : StatementView) (args : List Obj) (s : Scope) (lits : List Lit) → r ≡ map (renamed (image_in m)) ls → ls ≡ lits
-    → ((o : Obj) → image_in m o ≡ image_in_use t args s o) → r ≡ map (renamed (image_in_use t args s)) lits
-at_images r m ls t args s lits is same h = is ∙ ap (map (renamed (image_in m))) same ∙ same_images (image_in m) (image_in_use t args s) lits h
+pub at_images : (r : List Lit) (m : List Entry) (ls : List Lit) (t : StatementView) (args : List Obj) (s : Scope) (lits : List Lit) → r ≡ map (with_images (image_in m)) ls → ls ≡ lits
+    → ((o : Obj) → image_in m o ≡ image_in_use t args s o) → r ≡ map (with_images (image_in_use t args s)) lits
+at_images r m ls t args s lits is same h = is ∙ ap (map (with_images (image_in m))) same ∙ same_images (image_in m) (image_in_use t args s) lits h
 
 -- ---- numbers of 16 bits are enough
 
@@ -233,7 +233,7 @@ pub one_sort : (x y : List Obj) (t : StatementView) (args : List Obj) (s : Scope
     → map (λ (o : Obj). o.sort) x ≡ map (λ (o : Obj). o.sort) y
 one_sort x y t args s is other fit = rw (is, other) (sorts_agree t args s fit)
 
-pub imaged_by : (m : List Entry) (x y : List Obj) (t : StatementView) (args : List Obj) (s : Scope) → m ≡ paired x y → x ≡ sources t → y ≡ targets t args s → are_arguments t s args ≡ true
+pub imaged_by : (m : List Entry) (x y : List Obj) (t : StatementView) (args : List Obj) (s : Scope) → m ≡ pairs_of x y → x ≡ sources t → y ≡ targets t args s → are_arguments t s args ≡ true
     → (o : Obj) → image_in m o ≡ image_in_use t args s o
 imaged_by m x y t args s pairs is other fit o = rw (pairs, is, other) (imaged t args s o fit)
 

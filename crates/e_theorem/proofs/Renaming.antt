@@ -10,7 +10,7 @@ use Rattle.e_literal.specs.declared.literal.Atom.{Atom}
 use Rattle.e_literal.specs.declared.literal.Atom.TheVariants as atoms
 use Rattle.e_literal.specs.declared.literal.Lit.{Lit}
 use Rattle.e_literal.specs.Literal.{obj, objects_of_term, objects_of_sum, objects_of_atom}
-use Rattle.e_literal.specs.Rename.{term_at, mono_at, atom_at, number_at, renamed}
+use Rattle.e_literal.specs.Rename.{term_at, mono_at, atom_at, number_at, with_images}
 use Rattle.e_literal.proofs.Booleans.{and_left, and_right, all_left, all_right}
 
 -- an object has the same image by both
@@ -90,5 +90,5 @@ same_atom f g p h (atoms.MagEq x y) k = same_sums f g p h (λ l m. atoms.MagEq l
 same_atom f g p h (atoms.MagLt x y) k = same_sums f g p h (λ l m. atoms.MagLt l m) x y k
 
 -- where each object of the literal has the same image by both, it becomes the same literal
-pub same_renamed : (f g : Obj → Option Obj) (p : Obj → Bool) → ((o : Obj) → p o ≡ true → Same f g o) → (l : Lit) → list_all p (objects_of_atom l.atom) ≡ true → renamed f l ≡ renamed g l
+pub same_renamed : (f g : Obj → Option Obj) (p : Obj → Bool) → ((o : Obj) → p o ≡ true → Same f g o) → (l : Lit) → list_all p (objects_of_atom l.atom) ≡ true → with_images f l ≡ with_images g l
 same_renamed f g p h l k = ap (λ a. record { neg = l.neg; atom = a }) (same_atom f g p h l.atom k)

@@ -11,7 +11,7 @@ use Rattle.e_literal.specs.declared.literal.Lit.{Lit}
 use Rattle.e_literal.specs.Literal.{obj, count_of, is_in_scope, objects_of_atom, all_in_scope}
 use Rattle.e_literal.specs.WellFormed.{is_well_formed}
 use Rattle.e_literal.specs.Scopes.{same_sort, nothing, with_one, grown, next_objects, are_of_sorts}
-use Rattle.e_literal.specs.Rename.{same_obj, image_in, paired, renamed}
+use Rattle.e_literal.specs.Rename.{same_obj, image_in, pairs_of, with_images}
 use Rattle.e_literal.specs.Use.{StatementView, scope_of, image_in_use, are_arguments, needs_of_use, gives_of_use, nth_of_sort, is_statement}
 use Rattle.e_literal.proofs.WithImages.{is_moved_in, renamed_scope, renamed_well_formed}
 use Rattle.e_literal.proofs.Sorts.{same_sort_is}
@@ -36,7 +36,7 @@ later b sort o differs more =
     ]
 
 pub lands : (s b : Scope) (sorts : List Sort) (args : List Obj) (o : Obj) → are_of_sorts s sorts args ≡ true → count_of b o.sort ≤ o.num → o.num < count_of (grown b sorts) o.sort
-    → ltb (number_of (image_in (paired (next_objects b sorts) args) o) o.num) (count_of s o.sort) ≡ true
+    → ltb (number_of (image_in (pairs_of (next_objects b sorts) args) o) o.num) (count_of s o.sort) ≡ true
 lands s b [] args o fit more less = absurd (omega (arith, more, less))
 lands s b (sort ∷ sorts) [] o fit more less = absurd (true≢false (sym fit))
 lands s b (sort ∷ sorts) (a ∷ args) o fit more less =
@@ -44,17 +44,17 @@ lands s b (sort ∷ sorts) (a ∷ args) o fit more less =
     elim (cases_Bool (same_obj (obj sort (count_of b sort)) o)) [
       | inl is ↦
           let sorted : a.sort ≡ o.sort = sym (same_sort_is sort a.sort (and_left (same_sort sort a.sort) _ fit)) ∙ same_sort_is sort o.sort (and_left (same_sort sort o.sort) _ is) in
-          ap (λ c. ltb (number_of (cond c (Some a) (image_in (paired (next_objects (with_one b sort) sorts) args) o)) o.num) (count_of s o.sort)) is
+          ap (λ c. ltb (number_of (cond c (Some a) (image_in (pairs_of (next_objects (with_one b sort) sorts) args) o)) o.num) (count_of s o.sort)) is
           ∙ subst (λ x. ltb a.num (count_of s x) ≡ true) sorted (and_left (is_in_scope s a) _ rest)
       | inr differs ↦
-          ap (λ c. ltb (number_of (cond c (Some a) (image_in (paired (next_objects (with_one b sort) sorts) args) o)) o.num) (count_of s o.sort)) differs
+          ap (λ c. ltb (number_of (cond c (Some a) (image_in (pairs_of (next_objects (with_one b sort) sorts) args) o)) o.num) (count_of s o.sort)) differs
           ∙ lands s (with_one b sort) sorts args o (and_right (is_in_scope s a) _ rest) (later b sort o differs more) less
     ]
 
 -- ---- the images of declared objects
 
 abbrev pub declared_images : StatementView → List Obj → Obj → Option Obj
-declared_images t args = image_in (paired (next_objects nothing t.declared) args)
+declared_images t args = image_in (pairs_of (next_objects nothing t.declared) args)
 
 nothing_below : (s : Scope) (x : Sort) (n : ℕ) → count_of nothing x ≤ n
 nothing_below s Point n = omega arith
@@ -65,7 +65,7 @@ declared_image : (t : StatementView) (args : List Obj) (s : Scope) (o : Obj) →
 declared_image t args s o fit declared =
     sym (imaged t args s o fit)
     ∙ ap (λ es. image_in es o) (paired_after s nothing t.declared args (next_objects (scope_of t) t.made) (next_objects s t.made) fit)
-    ∙ only_first (paired (next_objects nothing t.declared) args) _ o (none_before (scope_of t) t.made (next_objects s t.made) o (ltb-true o.num (count_of (scope_of t) o.sort) declared))
+    ∙ only_first (pairs_of (next_objects nothing t.declared) args) _ o (none_before (scope_of t) t.made (next_objects s t.made) o (ltb-true o.num (count_of (scope_of t) o.sort) declared))
 
 -- a given literal
 abbrev pub is_given : StatementView → Lit → Bool
@@ -74,21 +74,21 @@ is_given t l = is_well_formed l && all_in_scope (scope_of t) l
 pub given_all : (t : StatementView) → is_statement t ≡ true → list_all (is_given t) t.given ≡ true
 given_all t h = and_left (list_all (is_given t) t.given) _ h
 
-one_need : (t : StatementView) (args : List Obj) (s : Scope) (l : Lit) → are_arguments t s args ≡ true → is_given t l ≡ true → renamed (image_in_use t args s) l ≡ renamed (declared_images t args) l
+one_need : (t : StatementView) (args : List Obj) (s : Scope) (l : Lit) → are_arguments t s args ≡ true → is_given t l ≡ true → with_images (image_in_use t args s) l ≡ with_images (declared_images t args) l
 one_need t args s l fit given =
     same_renamed (image_in_use t args s) (declared_images t args) (is_in_scope (scope_of t))
     (λ o h. ap (λ v. number_of v o.num) (declared_image t args s o fit h)) l (and_right (is_well_formed l) _ given)
 
 each_need : (t : StatementView) (args : List Obj) (s : Scope) (ls : List Lit) → are_arguments t s args ≡ true → list_all (is_given t) ls ≡ true
-    → map (renamed (image_in_use t args s)) ls ≡ map (renamed (declared_images t args)) ls
+    → map (with_images (image_in_use t args s)) ls ≡ map (with_images (declared_images t args)) ls
 each_need t args s [] fit given = refl
 each_need t args s (l ∷ ls) fit given =
-    ap (λ x. x ∷ map (renamed (image_in_use t args s)) ls) (one_need t args s l fit (and_left (is_given t l) _ given))
-    ∙ ap (λ xs. renamed (declared_images t args) l ∷ xs) (each_need t args s ls fit (and_right (is_given t l) _ given))
+    ap (λ x. x ∷ map (with_images (image_in_use t args s)) ls) (one_need t args s l fit (and_left (is_given t l) _ given))
+    ∙ ap (λ xs. with_images (declared_images t args) l ∷ xs) (each_need t args s ls fit (and_right (is_given t l) _ given))
 
 -- what a use needs, by the images of the declared objects alone
 pub needs_declared : (t : StatementView) (args : List Obj) (s : Scope) → is_statement t ≡ true → are_arguments t s args ≡ true
-    → needs_of_use t args s ≡ map (renamed (declared_images t args)) t.given
+    → needs_of_use t args s ≡ map (with_images (declared_images t args)) t.given
 needs_declared t args s states fit = each_need t args s t.given fit (given_all t states)
 
 -- ---- it is good
@@ -98,10 +98,10 @@ every p q h [] k = refl
 every p q h (o ∷ os) k =
     ap (λ b. b && list_all q os) (h o (and_left (p o) _ k)) ∙ every p q h os (and_right (p o) _ k)
 
-one_good : (t : StatementView) (args : List Obj) (s : Scope) (l : Lit) → are_arguments t s args ≡ true → is_given t l ≡ true → is_well_formed_in s (renamed (declared_images t args) l) ≡ true
+one_good : (t : StatementView) (args : List Obj) (s : Scope) (l : Lit) → are_arguments t s args ≡ true → is_given t l ≡ true → is_well_formed_in s (with_images (declared_images t args) l) ≡ true
 one_good t args s l fit given =
     let f = declared_images t args in
-    ap (λ b. b && is_well_formed (renamed f l))
+    ap (λ b. b && is_well_formed (with_images f l))
     (renamed_scope s f l
     ∙ every (is_in_scope (scope_of t)) (is_moved_in s f)
     (λ o h. lands s nothing t.declared args o fit (nothing_below s o.sort o.num) (ltb-true o.num (count_of (scope_of t) o.sort) h))
@@ -109,14 +109,14 @@ one_good t args s l fit given =
     ∙ renamed_well_formed f l ∙ and_left (is_well_formed l) _ given
 
 each_good : (t : StatementView) (args : List Obj) (s : Scope) (ls : List Lit) → are_arguments t s args ≡ true → list_all (is_given t) ls ≡ true
-    → are_well_formed_in s (map (renamed (declared_images t args)) ls) ≡ true
+    → are_well_formed_in s (map (with_images (declared_images t args)) ls) ≡ true
 each_good t args s [] fit given = refl
 each_good t args s (l ∷ ls) fit given =
-    ap (λ b. b && are_well_formed_in s (map (renamed (declared_images t args)) ls)) (one_good t args s l fit (and_left (is_given t l) _ given))
+    ap (λ b. b && are_well_formed_in s (map (with_images (declared_images t args)) ls)) (one_good t args s l fit (and_left (is_given t l) _ given))
     ∙ each_good t args s ls fit (and_right (is_given t l) _ given)
 
 pub declared_good : (t : StatementView) (args : List Obj) (s : Scope) → is_statement t ≡ true → are_arguments t s args ≡ true
-    → are_well_formed_in s (map (renamed (declared_images t args)) t.given) ≡ true
+    → are_well_formed_in s (map (with_images (declared_images t args)) t.given) ≡ true
 declared_good t args s states fit = each_good t args s t.given fit (given_all t states)
 
 pub needs_good : (t : StatementView) (args : List Obj) (s : Scope) → is_statement t ≡ true → are_arguments t s args ≡ true → are_well_formed_in s (needs_of_use t args s) ≡ true
@@ -152,20 +152,20 @@ shown_lands t args s o fit all =
 abbrev is_shown : StatementView → Lit → Bool
 is_shown t l = is_well_formed l && all_in_scope (grown (scope_of t) t.made) l
 
-one_gift : (t : StatementView) (args : List Obj) (s : Scope) (l : Lit) → are_arguments t s args ≡ true → is_shown t l ≡ true → is_well_formed_in (grown s t.made) (renamed (image_in_use t args s) l) ≡ true
+one_gift : (t : StatementView) (args : List Obj) (s : Scope) (l : Lit) → are_arguments t s args ≡ true → is_shown t l ≡ true → is_well_formed_in (grown s t.made) (with_images (image_in_use t args s) l) ≡ true
 one_gift t args s l fit shown =
     let f = image_in_use t args s in
-    ap (λ b. b && is_well_formed (renamed f l))
+    ap (λ b. b && is_well_formed (with_images f l))
     (renamed_scope (grown s t.made) f l
     ∙ every (is_in_scope (grown (scope_of t) t.made)) (is_moved_in (grown s t.made) f) (λ o h. shown_lands t args s o fit h)
     (objects_of_atom l.atom) (and_right (is_well_formed l) _ shown))
     ∙ renamed_well_formed f l ∙ and_left (is_well_formed l) _ shown
 
 each_gift : (t : StatementView) (args : List Obj) (s : Scope) (ls : List Lit) → are_arguments t s args ≡ true → list_all (is_shown t) ls ≡ true
-    → are_well_formed_in (grown s t.made) (map (renamed (image_in_use t args s)) ls) ≡ true
+    → are_well_formed_in (grown s t.made) (map (with_images (image_in_use t args s)) ls) ≡ true
 each_gift t args s [] fit shown = refl
 each_gift t args s (l ∷ ls) fit shown =
-    ap (λ b. b && are_well_formed_in (grown s t.made) (map (renamed (image_in_use t args s)) ls)) (one_gift t args s l fit (and_left (is_shown t l) _ shown))
+    ap (λ b. b && are_well_formed_in (grown s t.made) (map (with_images (image_in_use t args s)) ls)) (one_gift t args s l fit (and_left (is_shown t l) _ shown))
     ∙ each_gift t args s ls fit (and_right (is_shown t l) _ shown)
 
 pub gives_good : (t : StatementView) (args : List Obj) (s : Scope) → is_statement t ≡ true → are_arguments t s args ≡ true → are_well_formed_in (grown s t.made) (gives_of_use t args s) ≡ true

@@ -4,7 +4,7 @@
 ghost use Rattle.std.specs.Prelude.{◌≡◌, ◌<◌, ◌+◌, ◌^◌, ◌++◌, IsTrue, IfOk};
 ghost use Rattle.std.specs.Prelude.{IfErr, length, take, map as map_list};
 ghost use Rattle.e_literal.specs.declared.object.Obj.{Obj as Object};
-ghost use Rattle.e_literal.specs.Rename.{image_in, renamed as at_images};
+ghost use Rattle.e_literal.specs.Rename.{image_in, with_images as at_images};
 ghost use Rattle.e_literal.specs.Scopes;
 ghost use Rattle.e_literal.specs.Use.{are_arguments, image_in_use, needs_of_use, gives_of_use};
 ghost use Rattle.e_literal.specs.Use.{scope_of};
@@ -15,7 +15,9 @@ ghost use Rattle.e_theorem.specs.declared.application.UseFault.TheVariants.{NoMe
 
 use crate::notion::Notion;
 use crate::statement::Statement;
-use e_literal::{Items, Lit, Map, NOTHING, Obj, Scope, Sort, count, grown, next_objects, renamed};
+use e_literal::{
+    Items, Lit, Map, NOTHING, Obj, Scope, Sort, count, grown, next_objects, with_images,
+};
 use std::alloc::{AllocError, Global};
 use thiserror::Error;
 
@@ -132,7 +134,7 @@ fn images_declared(
         (λ m. (o : Object) → image_in m o ≡ image_in_use (as_stated notion.now) args.now scope o) }
 {
     let sources = next_objects(alloc, NOTHING, notion.declared.items())?;
-    let images = Map::paired(alloc, &sources, args)?;
+    let images = Map::of_pairs(alloc, &sources, args)?;
     Ok(images)
 }
 
@@ -154,7 +156,7 @@ fn images(
     let sources = objects(alloc, statement)?;
     let mut targets = Vec::from_slice(alloc, args)?;
     targets.extend_from_slice(&next_objects(alloc, scope, statement.made.items())?)?;
-    let images = Map::paired(alloc, &sources, &targets)?;
+    let images = Map::of_pairs(alloc, &sources, &targets)?;
     Ok(images)
 }
 
@@ -186,7 +188,7 @@ pub fn all_renamed(alloc: Global, lits: &[Lit], images: &Map) -> Result<Vec<Lit>
 {
     let mut with = Vec::with_capacity(alloc, lits.len())?;
     for lit in lits {
-        with.push(renamed(alloc, lit, images)?)?;
+        with.push(with_images(alloc, lit, images)?)?;
     }
     Ok(with)
 }

@@ -12,4 +12,3 @@ pub mod RowsAt
 pub mod SumsAgree
 pub mod SuperposedAt
 pub mod TermsAt
-pub mod TermsWritten

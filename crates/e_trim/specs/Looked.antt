@@ -29,7 +29,7 @@ use Rattle.e_clause.specs.declared.cert.RowName.{RowName}
 use Rattle.e_clause.specs.declared.cert.RowName.TheVariants.{Fact, Pos, Top, Least}
 use Rattle.e_clause.specs.declared.cert.Sums.{Sums}
 use Rattle.e_clause.specs.declared.cert.Sums.TheVariants.{One, Two}
-use Rattle.e_clause.specs.Assignment.{terms_of_atom, terms_of_wanted}
+use Rattle.e_clause.specs.Assignment.{terms_of_wanted, lit_has_term}
 use Rattle.e_clause.specs.Instance.{Inst}
 use Rattle.e_deriv.specs.Script.{Script, Cite, Hence, Make, Apply, Claim, Superposed, Qed}
 use Rattle.e_deriv.specs.Script.{Contradiction, Cases}
@@ -54,11 +54,11 @@ abbrev pub of_all : {X : Type 0} → (X → Wants) → List X → Wants
 of_all f [] = no_wants
 of_all f (x ∷ xs) = both (f x) (of_all f xs)
 
-abbrev pub looked_up : List Lit → Wants
-looked_up ls = record { lits = ls; objects = [] }
+abbrev pub wanted_lits : List Lit → Wants
+wanted_lits ls = record { lits = ls; objects = [] }
 
-abbrev pub needed : List Obj → Wants
-needed os = record { lits = []; objects = os }
+abbrev pub wanted_objects : List Obj → Wants
+wanted_objects os = record { lits = []; objects = os }
 
 abbrev pub objects_of_lits : List Lit → List Obj
 objects_of_lits ls = flat_map (λ l. objects_of_atom l.atom) ls
@@ -74,10 +74,6 @@ abbrev pub first_that : (Lit → Bool) → List Lit → List Lit
 first_that p [] = []
 first_that p (f ∷ facts) = if p f then f ∷ [] else first_that p facts
 
--- the literal has the term, as it is written
-abbrev pub has_written : Term → Lit → Bool
-has_written t l = list_any (term_eq t) (terms_of_atom l.atom)
-
 -- the literal says that the ends of the segment differ, in one order or the other
 abbrev pub parts_ends : Term → Lit → Bool
 parts_ends (Seg a b) l =
@@ -88,14 +84,14 @@ parts_ends _ l = false
 abbrev pub of_term : List Lit → Option Lit → Term → Wants
 of_term facts wanted t = record {
   lits = if list_any (term_eq t) (terms_of_wanted wanted) then [] else
-      first_that (has_written t) facts;
+      first_that (lit_has_term t) facts;
   objects = objects_of_term t;
 }
 
 abbrev pub of_row : List Lit → Option Lit → RowName → Wants
 of_row facts wanted (Fact l) = of_lit l
 of_row facts wanted (Pos t) =
-    both (looked_up (first_that (parts_ends t) facts)) (of_term facts wanted t)
+    both (wanted_lits (first_that (parts_ends t) facts)) (of_term facts wanted t)
 of_row facts wanted (Top t) = of_term facts wanted t
 of_row facts wanted (Least t) = of_term facts wanted t
 of_row facts wanted _ = no_wants
@@ -113,7 +109,7 @@ of_sums facts wanted (Two differs above below) =
 
 -- of the literal that the part certifies
 abbrev pub of_part : List Lit → Lit → Part → Wants
-of_part facts l FactPart = looked_up (l ∷ [])
+of_part facts l FactPart = wanted_lits (l ∷ [])
 of_part facts l (Metric m) = of_sums facts (Some l) m.sums
 of_part facts l (FactPartAt k) = no_wants
 
@@ -124,7 +120,7 @@ of_parts facts _ _ = no_wants
 
 abbrev pub of_transfer : List Lit → Lit → TransferCert → Wants
 of_transfer facts l t =
-    both (needed t.args) (option_map_or (λ lits. of_parts facts (others lits l) t.parts)
+    both (wanted_objects t.args) (option_map_or (λ lits. of_parts facts (others lits l) t.parts)
     (Inst t.rule t.args) no_wants)
 
 abbrev pub of_cert : List Lit → Lit → Cert → Wants
@@ -144,7 +140,8 @@ of_against facts (MetricAgainst m) = of_sums facts None m.sums
 -- a citation looks up the negation of each other literal of the instance
 abbrev pub of_citation : By → Wants
 of_citation by =
-    looked_up (option_map_or (λ lits. map negation (others lits by.lit)) (Inst by.rule by.args) [])
+    wanted_lits
+        (option_map_or (λ lits. map negation (others lits by.lit)) (Inst by.rule by.args) [])
 
 -- beside its certificates for what it needs; a contradiction has a certificate of its own
 abbrev pub of_beside : Script → List Lit → Wants
@@ -169,5 +166,5 @@ named_on (Cases lit first second) = objects_of_atom lit.atom
 -- certificates name
 abbrev pub of_step : List StatementView → PlacedStep → Wants
 of_step before x =
-    both (needed (named_on x.here))
+    both (wanted_objects (named_on x.here))
     (both (of_certs x.facts (needs before x) (certs_of x.here)) (of_beside x.here x.facts))

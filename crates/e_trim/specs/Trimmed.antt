@@ -9,8 +9,8 @@ use Rattle.e_literal.specs.declared.object.Sort.TheVariants.{Point, Line as ALin
 use Rattle.e_literal.specs.declared.object.Scope.{Scope}
 use Rattle.e_literal.specs.declared.literal.Lit.{Lit}
 use Rattle.e_literal.specs.Literal.{negation, obj, is_in_scope}
-use Rattle.e_literal.specs.Facts.{has, joined, joined_all}
-use Rattle.e_literal.specs.Rename.{renamed, term_at, same_obj}
+use Rattle.e_literal.specs.Facts.{has, with_fact, with_facts}
+use Rattle.e_literal.specs.Rename.{with_images, term_at, same_obj}
 use Rattle.e_literal.specs.Scopes.{same_sort, nothing, grown, next_objects}
 use Rattle.e_literal.specs.Use.{StatementView, scope_of, gives_of_use}
 use Rattle.e_construct.specs.declared.construction.Construction.{Construction}
@@ -95,36 +95,36 @@ wants_with_step before here s facts goal inner w =
 unfoldable pub wants : List StatementView → Script → Scope → List Lit → Goal → Wants
 wants before (Cite by rest) s facts goal =
     wants_with_step before (Cite by rest) s facts goal no_wants
-    (wants before rest s (joined facts by.lit) goal)
+    (wants before rest s (with_fact facts by.lit) goal)
 wants before (Hence lit cert rest) s facts goal =
     wants_with_step before (Hence lit cert rest) s facts goal no_wants
-    (wants before rest s (joined facts lit) goal)
+    (wants before rest s (with_fact facts lit) goal)
 wants before (Make construction names certs rest) s facts goal =
     wants_with_step before (Make construction names certs rest) s facts goal no_wants
     (wants before rest (grown s (sorts_made construction))
-    (joined_all facts (gives_of_construction construction s)) goal)
+    (with_facts facts (gives_of_construction construction s)) goal)
 wants before (Apply theorem args names certs rest) s facts goal =
     let here = Apply theorem args names certs rest in
     wants_with_step before here s facts goal no_wants
     (wants before rest (grown s (theorem_at before theorem).made)
-    (joined_all facts (joins_at before here s)) goal)
+    (with_facts facts (joins_at before here s)) goal)
 wants before (Claim shown inner rest) s facts goal =
     wants_with_step before (Claim shown inner rest) s facts goal
     (wants_outside s facts (wants before inner s facts (goal_of shown)))
-    (wants before rest s (joined_all facts shown) goal)
+    (wants before rest s (with_facts facts shown) goal)
 wants before (Superposed superposition names shown certs inner rest) s facts goal =
     wants_with_step before (Superposed superposition names shown certs inner rest) s facts goal
     (wants_outside s facts (wants before inner (grown s superposing.sorts_copied)
-    (joined_all facts (superposing.gives_of_superposition superposition s)) (goal_of shown)))
-    (wants before rest s (joined_all facts shown) goal)
+    (with_facts facts (superposing.gives_of_superposition superposition s)) (goal_of shown)))
+    (wants before rest s (with_facts facts shown) goal)
 wants before (Qed objects certs) s facts goal =
     of_step before (as_step (Qed objects certs) s facts goal)
 wants before (Contradiction against) s facts goal =
     of_step before (as_step (Contradiction against) s facts goal)
 wants before (Cases lit first second) s facts goal =
     both (of_step before (as_step (Cases lit first second) s facts goal))
-    (both (wants_outside s facts (wants before second s (joined facts (negation lit)) goal))
-    (wants_outside s facts (wants before first s (joined facts lit) goal)))
+    (both (wants_outside s facts (wants before second s (with_fact facts (negation lit)) goal))
+    (wants_outside s facts (wants before first s (with_fact facts lit) goal)))
 
 -- ---- the objects take the next numbers anew
 
@@ -144,7 +144,7 @@ abbrev pub image_among_kept : List Obj → Obj → Option Obj
 image_among_kept kept o = Some (obj_at kept o)
 
 abbrev pub lit_among_kept : List Obj → Lit → Lit
-lit_among_kept kept l = renamed (image_among_kept kept) l
+lit_among_kept kept l = with_images (image_among_kept kept) l
 
 abbrev pub row_name_among_kept : List Obj → RowName → RowName
 row_name_among_kept kept (Fact l) = Fact (lit_among_kept kept l)
@@ -209,16 +209,16 @@ args_at kept args = map (option_map (obj_at kept)) args
 unfoldable pub trimmed_from : List StatementView → List Obj → Script → Scope
     → List Lit → Goal → Script
 trimmed_from before kept (Cite by rest) s facts goal =
-    let more = trimmed_from before kept rest s (joined facts by.lit) goal in
-    if is_kept before (Cite by rest) s facts (wants before rest s (joined facts by.lit) goal)
+    let more = trimmed_from before kept rest s (with_fact facts by.lit) goal in
+    if is_kept before (Cite by rest) s facts (wants before rest s (with_fact facts by.lit) goal)
     then Cite (by_at kept by) more
     else more
 trimmed_from before kept (Hence lit cert rest) s facts goal =
-    let more = trimmed_from before kept rest s (joined facts lit) goal in
-    if is_kept before (Hence lit cert rest) s facts (wants before rest s (joined facts lit) goal)
+    let more = trimmed_from before kept rest s (with_fact facts lit) goal in
+    if is_kept before (Hence lit cert rest) s facts (wants before rest s (with_fact facts lit) goal)
     then Hence (lit_among_kept kept lit) (option_map (cert_at kept) cert) more else more
 trimmed_from before kept (Make construction names certs rest) s facts goal =
-    let after = joined_all facts (gives_of_construction construction s) in
+    let after = with_facts facts (gives_of_construction construction s) in
     let wide = grown s (sorts_made construction) in
     if is_kept before (Make construction names certs rest) s facts
     (wants before rest wide after goal)
@@ -228,22 +228,22 @@ trimmed_from before kept (Make construction names certs rest) s facts goal =
 trimmed_from before kept (Apply theorem args names certs rest) s facts goal =
     let here = Apply theorem args names certs rest in
     let new = (theorem_at before theorem).made in
-    let after = joined_all facts (joins_at before here s) in
+    let after = with_facts facts (joins_at before here s) in
     if is_kept before here s facts (wants before rest (grown s new) after goal)
     then Apply theorem (args_at kept args) names (map (cert_at kept) certs)
     (trimmed_from before (kept ++ next_objects s new) rest (grown s new) after goal)
     else trimmed_from before kept rest (grown s new) after goal
 trimmed_from before kept (Claim shown inner rest) s facts goal =
-    let more = trimmed_from before kept rest s (joined_all facts shown) goal in
+    let more = trimmed_from before kept rest s (with_facts facts shown) goal in
     if is_kept before (Claim shown inner rest) s facts (wants before rest s
-    (joined_all facts shown) goal)
+    (with_facts facts shown) goal)
     then Claim (map (lit_among_kept kept) shown)
     (trimmed_from before kept inner s facts (goal_of shown)) more else more
 trimmed_from before kept (Superposed superposition names shown certs inner rest) s facts goal =
-    let more = trimmed_from before kept rest s (joined_all facts shown) goal in
-    let opened = joined_all facts (superposing.gives_of_superposition superposition s) in
+    let more = trimmed_from before kept rest s (with_facts facts shown) goal in
+    let opened = with_facts facts (superposing.gives_of_superposition superposition s) in
     if is_kept before (Superposed superposition names shown certs inner rest) s facts
-    (wants before rest s (joined_all facts shown) goal)
+    (wants before rest s (with_facts facts shown) goal)
     then Superposed (superpose_at kept superposition) names (map (lit_among_kept kept) shown)
     (map (cert_at kept) certs)
     (trimmed_from before (kept ++ next_objects s superposing.sorts_copied) inner
@@ -254,8 +254,8 @@ trimmed_from before kept (Qed objects certs) s facts goal =
 trimmed_from before kept (Contradiction against) s facts goal =
     Contradiction (option_map (against_at kept) against)
 trimmed_from before kept (Cases lit first second) s facts goal =
-    Cases (lit_among_kept kept lit) (trimmed_from before kept first s (joined facts lit) goal)
-    (trimmed_from before kept second s (joined facts (negation lit)) goal)
+    Cases (lit_among_kept kept lit) (trimmed_from before kept first s (with_fact facts lit) goal)
+    (trimmed_from before kept second s (with_fact facts (negation lit)) goal)
 
 -- the declared objects are kept
 abbrev pub declared_of : StatementView → List Obj

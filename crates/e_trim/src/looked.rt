@@ -5,47 +5,28 @@ ghost use Rattle.std.specs.List.{list_any};
 ghost use Rattle.std.specs.Option.{option_copied};
 ghost use Rattle.e_literal.specs.Literal.{negation};
 ghost use Rattle.e_literal.specs.Same.{term_eq};
+ghost use Rattle.e_clause.specs.Assignment;
 ghost use Rattle.e_clause.specs.Assignment.{terms_of_wanted};
 ghost use Rattle.e_trim.specs.Looked;
-ghost use Rattle.e_trim.specs.Looked.{both, looked_up, first_that, has_written};
+ghost use Rattle.e_trim.specs.Looked.{both, wanted_lits, first_that};
 ghost use Rattle.e_trim.specs.Looked.{parts_ends, of_row, of_sum, of_sums, of_part};
 ghost use Rattle.e_trim.specs.Looked.{of_transfer, of_cert, of_certs, of_against, of_term};
 ghost use Rattle.e_trim.specs.inner.Wanted.{of_negated};
 
 use crate::instances::negated_others;
 use crate::wanted::Wanted;
-use e_clause::{Against, Cert, Part, RowName, Sums, TransferCert};
+use e_clause::{Against, Cert, Part, RowName, Sums, TransferCert, lit_has_term};
 use e_facts::Facts;
-use e_literal::{Atom, Lit, Mono, Term, copy, negate};
+use e_literal::{Atom, Lit, Term, copy, negate};
 use std::alloc::{AllocError, Global};
 use std::mem;
-
-/// Whether the term is in the sum, as it is written.
-fn is_among(sum: &[Mono], term: Term) -> bool
-    ensures { result ≡ list_any (λ m. term_eq term m.term) sum.now }
-{
-    sum.iter().any(|m| term == m.term)
-}
-
-/// Whether the term is in the literal, as it is written.
-#[tactic(auto, using(crate::proofs::renumbering::TermsWritten::written_terms))]
-fn has_written(lit: &Lit, term: Term) -> bool
-    ensures { result ≡ has_written term lit.now }
-{
-    match &lit.atom {
-        Atom::MagEq(x, y) | Atom::MagLt(x, y) => {
-            is_among(x.items(), term) || is_among(y.items(), term)
-        }
-        _ => false,
-    }
-}
 
 /// Whether the term is in the wanted literal, as it is written.
 fn is_wanted<'a>(wanted: Option<&'a Lit>, term: Term) -> bool
     ensures { result ≡ list_any (term_eq term) (terms_of_wanted (option_copied wanted.entry)) }
 {
     match wanted {
-        Some(lit) => has_written(lit, term),
+        Some(lit) => lit_has_term(lit, term),
         None => false,
     }
 }
@@ -70,7 +51,7 @@ fn look_up_parting(
     out: &mut Wanted,
 ) -> Result<(), AllocError>
     ensures { OnOk result
-        (out.new ≡ both out.old (looked_up (first_that (Looked.parts_ends term) facts.now))) }
+        (out.new ≡ both out.old (wanted_lits (first_that (Looked.parts_ends term) facts.now))) }
 {
     for fact in facts.items() {
         if parts_ends(fact, term) {
@@ -87,11 +68,11 @@ fn look_up_written(
     term: Term,
     out: &mut Wanted,
 ) -> Result<(), AllocError>
-    ensures { OnOk result
-        (out.new ≡ both out.old (looked_up (first_that (Looked.has_written term) facts.now))) }
+    ensures { OnOk result (out.new
+        ≡ both out.old (wanted_lits (first_that (Assignment.lit_has_term term) facts.now))) }
 {
     for fact in facts.items() {
-        if has_written(fact, term) {
+        if lit_has_term(fact, term) {
             return out.look_up(alloc, fact);
         }
     }

@@ -12,7 +12,7 @@ use crate::numbering::{
 };
 use e_clause::Cert;
 use e_construct::{Construction, Superpose};
-use e_deriv::{Block, Close, Step, boxed, copy_names};
+use e_deriv::{Block, Close, Step, box_blocks, copy_names};
 use e_literal::{Items, Lit, Obj};
 use e_text::Name;
 use std::alloc::{AllocError, Global};
@@ -210,7 +210,7 @@ pub fn new_split(
     ensures { IfOk result (λ c. close_script c
         ≡ Cases (Trimmed.lit_among_kept kept.now lit.now) (script_of first) (script_of second)) }
 {
-    let (first, second) = boxed(alloc, first, second)?;
+    let (first, second) = box_blocks(alloc, first, second)?;
     match new_lit(alloc, kept, lit) {
         Ok(lit) => Ok(Close::Cases { lit, first, second }),
         Err(error) => {

@@ -1,9 +1,9 @@
 //! What holds before a step, and after it.
 
 ghost use Rattle.std.specs.Prelude.{◌≡◌, ◌≤◌, ◌<◌, ◌+◌, ◌^◌, length, OnOk, IsTrue};
-ghost use Rattle.e_literal.specs.Facts.{joined_all};
+ghost use Rattle.e_literal.specs.Facts.{with_facts};
 ghost use Rattle.e_deriv.specs.Fitting.{is_small};
-ghost use Rattle.e_trim.specs.inner.StepState.{checkpoint_of, restored, opened};
+ghost use Rattle.e_trim.specs.inner.StepState.{checkpoint_of, state_at, state_with};
 
 use e_facts::Facts;
 use e_literal::{Lit, Scope, Sort, copy, grown};
@@ -37,7 +37,7 @@ impl StepState {
     /// What held where it was entered holds again: the objects and facts that came since are gone.
     pub fn restore(&mut self, outer: Checkpoint)
         requires { outer.facts ≤ length self.old.facts }
-        ensures { self.new ≡ restored outer self.old }
+        ensures { self.new ≡ state_at outer self.old }
     {
         self.scope = outer.scope;
         self.facts.back_to(outer.facts);
@@ -47,7 +47,7 @@ impl StepState {
     pub fn extend(&mut self, alloc: Global, sorts: &[Sort], lits: &[Lit]) -> Result<(), AllocError>
         requires scope { IsTrue (is_small self.old.scope) }
         requires few { length sorts.now < 2 ^ 15 }
-        ensures { OnOk result (self.new ≡ opened sorts.now lits.now self.old) }
+        ensures { OnOk result (self.new ≡ state_with sorts.now lits.now self.old) }
     {
         self.scope = grown(self.scope, sorts);
         join_copies(alloc, &mut self.facts, lits)
@@ -56,7 +56,7 @@ impl StepState {
 
 /// The literals are facts, each put last unless one the same is there.
 pub fn join_copies(alloc: Global, facts: &mut Facts, lits: &[Lit]) -> Result<(), AllocError>
-    ensures { OnOk result (facts.new ≡ joined_all facts.old lits.now) }
+    ensures { OnOk result (facts.new ≡ with_facts facts.old lits.now) }
 {
     for lit in lits {
         facts.add(copy(alloc, lit)?)?;

@@ -12,11 +12,11 @@ ghost use Rattle.e_deriv.specs.PlacedSteps.{theorem_at};
 ghost use Rattle.e_deriv.specs.Parts.{written};
 ghost use Rattle.e_deriv.specs.Script as scripts;
 ghost use Rattle.e_deriv.specs.Script.{Script, step_script, close_script};
-ghost use Rattle.e_trim.specs.Looked.{both, needed, of_step};
+ghost use Rattle.e_trim.specs.Looked.{both, wanted_objects, of_step};
 ghost use Rattle.e_trim.specs.Trimmed;
 ghost use Rattle.e_trim.specs.Trimmed.{joins_at, makes_at, as_step};
 ghost use Rattle.e_trim.specs.declared.step_state.StepState as states;
-ghost use Rattle.e_trim.specs.inner.StepState.{StepFits, IsApplied, CloseFits, passed};
+ghost use Rattle.e_trim.specs.inner.StepState.{StepFits, IsApplied, CloseFits, state_after};
 
 use crate::instances::negated_others;
 use crate::looked::{look_against, look_cert, look_certs};
@@ -134,7 +134,7 @@ pub fn pass(
     requires statements { IsTrue (list_all is_small_statement (all_stated before.now)) }
     requires fits { StepFits (all_stated before.now) step.now state.old.scope }
     ensures { OnOk result ((rest : Script)
-        → state.new ≡ passed (all_stated before.now) (step_script step.now rest) state.old) }
+        → state.new ≡ state_after (all_stated before.now) (step_script step.now rest) state.old) }
 {
     let lits = joins(alloc, before, step, state.scope)?;
     let opened = state.extend(alloc, makes(before, step), lits.items());
@@ -275,7 +275,7 @@ fn look_superpose(
 /// The points and the lines of the superposition are needed.
 fn need_superposed(superposition: &Superpose, out: &mut Wanted) -> Result<(), AllocError>
     ensures { OnOk result
-        (out.new ≡ both out.old (needed (Superposing.objects_of superposition.now))) }
+        (out.new ≡ both out.old (wanted_objects (Superposing.objects_of superposition.now))) }
 {
     let [a, b, c, d, g, h] = superposition.points;
     let [k, l] = superposition.lines;
@@ -347,7 +347,7 @@ fn goal_with(alloc: Global, goal: &Goal, objects: &[Obj]) -> Result<Vec<Lit>, Al
     requires one_sort { map (λ o. o.sort) goal.now.made.now ≡ map (λ o. o.sort) objects.now }
     ensures { IfOk result (λ lits. lits.items ≡ goals.goal_with (goal_view goal.now) objects.now) }
 {
-    let images = Map::paired(alloc, goal.made, objects)?;
+    let images = Map::of_pairs(alloc, goal.made, objects)?;
     all_renamed(alloc, goal.shown, &images)
 }
 

@@ -6,7 +6,8 @@ ghost use Rattle.e_literal.specs.declared.object.Sort.TheVariants.{Point as Poin
 ghost use Rattle.e_literal.specs.declared.object.Sort.TheVariants.{Line as LineSort};
 ghost use Rattle.e_literal.specs.declared.object.Sort.TheVariants.{Circle as CircleSort};
 ghost use Rattle.e_literal.specs.Literal.{obj, objects_of_atom, objects_of_sum, objects_of_term};
-ghost use Rattle.e_trim.specs.Looked.{no_wants, both, looked_up, needed, of_lit, objects_of_lits};
+ghost use Rattle.e_trim.specs.Looked.{no_wants, both, wanted_lits};
+ghost use Rattle.e_trim.specs.Looked.{wanted_objects, of_lit, objects_of_lits};
 ghost use Rattle.e_trim.specs.Trimmed.{wants_outside, is_needed};
 
 use crate::step_state::StepState;
@@ -73,21 +74,21 @@ impl Wanted {
     /// The objects are needed.
     #[tactic(auto, using(crate::proofs::walks::Both::joining))]
     pub fn need_all(&mut self, objects: &[Obj]) -> Result<(), AllocError>
-        ensures { OnOk result (self.new ≡ both self.old (needed objects.now)) }
+        ensures { OnOk result (self.new ≡ both self.old (wanted_objects objects.now)) }
     {
         self.objects.extend_from_slice(objects)
     }
 
     /// The object is needed.
     pub fn need_one(&mut self, object: Obj) -> Result<(), AllocError>
-        ensures { OnOk result (self.new ≡ both self.old (needed (object ∷ []))) }
+        ensures { OnOk result (self.new ≡ both self.old (wanted_objects (object ∷ []))) }
     {
         self.need_all(&[object])
     }
 
     /// The points of the term are needed.
     pub fn need_term(&mut self, term: Term) -> Result<(), AllocError>
-        ensures { OnOk result (self.new ≡ both self.old (needed (objects_of_term term))) }
+        ensures { OnOk result (self.new ≡ both self.old (wanted_objects (objects_of_term term))) }
     {
         match term {
             Term::Seg(a, b) => self.need_all(&[point(a), point(b)]),
@@ -103,7 +104,7 @@ impl Wanted {
     /// The points of a sum are needed.
     #[tactic(auto, using(crate::proofs::walks::Both::joining))]
     fn need_sum(&mut self, sum: &[Mono]) -> Result<(), AllocError>
-        ensures { OnOk result (self.new ≡ both self.old (needed (objects_of_sum sum.now))) }
+        ensures { OnOk result (self.new ≡ both self.old (wanted_objects (objects_of_sum sum.now))) }
     {
         for m in sum {
             self.need_term(m.term)?;
@@ -114,8 +115,8 @@ impl Wanted {
     /// The points of two sums are needed.
     #[tactic(auto, using(crate::proofs::walks::Both::joining))]
     fn need_sums(&mut self, left: &[Mono], right: &[Mono]) -> Result<(), AllocError>
-        ensures { OnOk result (self.new
-            ≡ both self.old (needed (objects_of_sum left.now ++ objects_of_sum right.now))) }
+        ensures { OnOk result (self.new ≡ both self.old
+            (wanted_objects (objects_of_sum left.now ++ objects_of_sum right.now))) }
     {
         self.need_sum(left)?;
         self.need_sum(right)
@@ -123,7 +124,8 @@ impl Wanted {
 
     /// The objects of the literal are needed.
     pub fn need_objects_of(&mut self, lit: &Lit) -> Result<(), AllocError>
-        ensures { OnOk result (self.new ≡ both self.old (needed (objects_of_atom lit.now.atom))) }
+        ensures { OnOk result
+            (self.new ≡ both self.old (wanted_objects (objects_of_atom lit.now.atom))) }
     {
         match &lit.atom {
             Atom::On(a, l) => self.need_all(&[point(*a), line(*l)]),
@@ -143,7 +145,8 @@ impl Wanted {
     /// The objects of the literals are needed.
     #[tactic(auto, using(crate::proofs::walks::Both::joining))]
     pub fn need_objects_of_all(&mut self, lits: &[Lit]) -> Result<(), AllocError>
-        ensures { OnOk result (self.new ≡ both self.old (needed (objects_of_lits lits.now))) }
+        ensures { OnOk result
+            (self.new ≡ both self.old (wanted_objects (objects_of_lits lits.now))) }
     {
         for lit in lits {
             self.need_objects_of(lit)?;
@@ -154,7 +157,7 @@ impl Wanted {
     /// The literal is looked up.
     #[tactic(auto, using(crate::proofs::walks::Both::joining))]
     pub fn look_up(&mut self, alloc: Global, lit: &Lit) -> Result<(), AllocError>
-        ensures { OnOk result (self.new ≡ both self.old (looked_up (lit.now ∷ []))) }
+        ensures { OnOk result (self.new ≡ both self.old (wanted_lits (lit.now ∷ []))) }
     {
         self.lits.push(copy(alloc, lit)?)?;
         Ok(())
@@ -163,7 +166,7 @@ impl Wanted {
     /// The literals are looked up.
     #[tactic(auto, using(crate::proofs::walks::Both::joining))]
     pub fn look_up_all(&mut self, lits: Vec<Lit>) -> Result<(), AllocError>
-        ensures { OnOk result (self.new ≡ both self.old (looked_up lits.items)) }
+        ensures { OnOk result (self.new ≡ both self.old (wanted_lits lits.items)) }
     {
         for lit in lits {
             self.lits.push(lit)?;

@@ -3,16 +3,17 @@
 ghost use Rattle.std.specs.Prelude.{◌≡◌, ◌≤◌, [], take, length, slice_get, OnOk};
 ghost use Rattle.std.specs.List.{list_any, position};
 ghost use Rattle.std.specs.Option.{option_copied};
-ghost use Rattle.e_literal.specs.Facts.{has as is_fact, has_all, joined, joined_all};
+ghost use Rattle.e_literal.specs.Facts.{has as is_fact, has_all, with_fact, with_facts};
 ghost use Rattle.e_literal.specs.Facts.{are_apart as say_apart, are_equal_points};
 ghost use Rattle.e_literal.specs.Literal.{negation};
 ghost use Rattle.e_literal.specs.Same.{same_lit, term_eq};
 ghost use Rattle.e_verify.specs.inner.Fingerprint.{atom_fingerprint};
-ghost use Rattle.e_clause.specs.Assignment.{terms_of_atom, terms_of_lits};
+ghost use Rattle.e_clause.specs.Assignment.{terms_of_lits, lit_has_term as occurs_in};
 
 use crate::alike::are_same;
 use crate::fingerprint::fingerprint_of;
-use e_literal::{Atom, Lit, Mono, Term};
+use e_clause::lit_has_term;
+use e_literal::{Atom, Lit, Term};
 use std::alloc::{AllocError, Global};
 use std::marker::Model;
 use std::mem;
@@ -48,7 +49,7 @@ impl Fact {
 
     /// Whether the term occurs in it, as it is written.
     fn has_term(&self, term: Term) -> bool
-        ensures { result ≡ list_any (term_eq term) (terms_of_atom self.now.atom) }
+        ensures { result ≡ occurs_in term self.now }
     {
         lit_has_term(&self.lit, term)
     }
@@ -131,7 +132,7 @@ impl Facts {
     }
 
     /// Whether the term occurs in a fact, as it is written.
-    #[tactic(auto, using(crate::proofs::arithmetic::StepTerms::occurring))]
+    #[tactic(auto, using(e_clause::proofs::WrittenTerms::in_literals))]
     pub(crate) fn has_term(&self, term: Term) -> bool
         ensures { result ≡ list_any (term_eq term) (terms_of_lits self.now) }
     {
@@ -139,9 +140,9 @@ impl Facts {
     }
 
     /// Puts the literal last, unless one the same is there.
-    #[tactic(auto, unfolding(e_literal::specs::Facts::joined))]
+    #[tactic(auto, unfolding(e_literal::specs::Facts::with_fact))]
     pub(crate) fn add(&mut self, lit: Lit) -> Result<(), AllocError>
-        ensures { OnOk result (self.new ≡ joined self.old lit) }
+        ensures { OnOk result (self.new ≡ with_fact self.old lit) }
     {
         let fingerprint = fingerprint_of(&lit);
         if has_same(&self.lits, &lit, fingerprint) {
@@ -154,7 +155,7 @@ impl Facts {
 
     /// Puts the literals in, one after the other.
     pub(crate) fn join(&mut self, lits: Vec<Lit>) -> Result<(), AllocError>
-        ensures { OnOk result (self.new ≡ joined_all self.old lits.items) }
+        ensures { OnOk result (self.new ≡ with_facts self.old lits.items) }
     {
         for lit in lits {
             self.add(lit)?;
@@ -198,27 +199,8 @@ fn differ(a: u16, b: u16) -> Lit
     }
 }
 
-/// Whether the term occurs in the literal, as it is written.
-#[tactic(auto, using(crate::proofs::arithmetic::StepTerms::occurring))]
-pub fn lit_has_term(lit: &Lit, term: Term) -> bool
-    ensures { result ≡ list_any (term_eq term) (terms_of_atom lit.now.atom) }
-{
-    match &lit.atom {
-        Atom::MagEq(x, y) | Atom::MagLt(x, y) => {
-            is_among(x.items(), term) || is_among(y.items(), term)
-        }
-        _ => false,
-    }
-}
-
 fn stands_in_any(facts: &[Fact], term: Term) -> bool
-    ensures { result ≡ list_any (λ l. list_any (term_eq term) (terms_of_atom l.atom)) facts.now }
+    ensures { result ≡ list_any (occurs_in term) facts.now }
 {
     facts.iter().any(|fact| fact.has_term(term))
-}
-
-fn is_among(sum: &[Mono], term: Term) -> bool
-    ensures { result ≡ list_any (λ m. term_eq term m.term) sum.now }
-{
-    sum.iter().any(|m| term == m.term)
 }

@@ -1,27 +1,13 @@
-//! The instances of rules, and the literals of which one follows.
+//! The literals of which one of an instance follows.
 
 ghost use Rattle.std.specs.Prelude.{◌≡◌, IfOk, map};
 ghost use Rattle.e_literal.specs.Facts;
 ghost use Rattle.e_literal.specs.Literal.{negation};
-ghost use Rattle.e_clause.specs.Instance.{Inst};
-ghost use Rattle.std.specs.Option.{option_map};
 
 use crate::alike::are_same;
-use e_clause::{InstanceFault, Rule, instance};
-use e_literal::{Lit, Obj, negate};
+use e_literal::{Lit, negate};
 use std::alloc::{AllocError, Global};
 use std::mem;
-
-/// The literals of the rule's clause at the arguments, or none where they do not fit.
-pub fn instance_of(alloc: Global, rule: Rule, args: &[Obj]) -> Result<Option<Vec<Lit>>, AllocError>
-    ensures { IfOk result (λ o. option_map (λ v. v.items) o ≡ Inst rule args.now) }
-{
-    match instance(alloc, rule, args) {
-        Ok(lits) => Ok(Some(lits)),
-        Err(InstanceFault::BadArgs) => Ok(None),
-        Err(InstanceFault::NoMemory) => Err(AllocError),
-    }
-}
 
 /// Whether one of the literals is the same as this one.
 pub fn is_among(lits: &[Lit], lit: &Lit) -> bool

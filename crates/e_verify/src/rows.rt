@@ -13,8 +13,8 @@ ghost use Rattle.e_verify.specs.inner.Views.{row_view, comparison_view, sense_vi
 ghost use Rattle.e_clause.specs.Written.{is_writable_name};
 ghost use Rattle.e_verify.specs.inner.RowScopes.{is_well_formed_row_scope};
 
-use crate::facts::{Facts, lit_has_term};
-use e_clause::RowName;
+use crate::facts::Facts;
+use e_clause::{RowName, lit_has_term};
 use e_literal::{Atom, Lit, Mono, Term};
 
 /// The sense of a row, what it says of its form: that it is 0, at least 0, more than 0, or not 0.

@@ -2,7 +2,7 @@
 
 ghost use Rattle.std.specs.Prelude.{◌≡◌, OnOk, IsTrue};
 ghost use Rattle.e_literal.specs.Literal.{negation};
-ghost use Rattle.e_literal.specs.Facts.{joined, joined_all};
+ghost use Rattle.e_literal.specs.Facts.{with_fact, with_facts};
 ghost use Rattle.e_theorem.specs.Statements.{stated};
 ghost use Rattle.e_deriv.specs.Fitting.{is_small, is_small_statement};
 ghost use Rattle.e_verify.specs.StepStates.{checkpoint_of_state, state_restored};
@@ -51,7 +51,7 @@ impl StepState {
     /// The literal is a fact.
     pub fn assume(&mut self, alloc: Global, lit: &Lit) -> Result<(), AllocError>
         ensures { OnOk result
-            (self.new ≡ state_with_facts (joined self.old.facts lit.now) self.old) }
+            (self.new ≡ state_with_facts (with_fact self.old.facts lit.now) self.old) }
     {
         self.facts.add(copy(alloc, lit)?)
     }
@@ -59,7 +59,7 @@ impl StepState {
     /// The negation of the literal is a fact.
     pub fn assume_not(&mut self, alloc: Global, lit: &Lit) -> Result<(), AllocError>
         ensures { OnOk result
-            (self.new ≡ state_with_facts (joined self.old.facts (negation lit.now)) self.old) }
+            (self.new ≡ state_with_facts (with_fact self.old.facts (negation lit.now)) self.old) }
     {
         self.facts.add(negate(copy(alloc, lit)?))
     }
@@ -108,14 +108,14 @@ impl StepState {
     /// The literals are facts.
     pub fn assume_all(&mut self, alloc: Global, lits: &[Lit]) -> Result<(), AllocError>
         ensures { OnOk result
-            (self.new ≡ state_with_facts (joined_all self.old.facts lits.now) self.old) }
+            (self.new ≡ state_with_facts (with_facts self.old.facts lits.now) self.old) }
     {
         join_copies(alloc, &mut self.facts, lits)
     }
 }
 
 fn join_copies(alloc: Global, facts: &mut Facts, lits: &[Lit]) -> Result<(), AllocError>
-    ensures { OnOk result (facts.new ≡ joined_all facts.old lits.now) }
+    ensures { OnOk result (facts.new ≡ with_facts facts.old lits.now) }
 {
     for lit in lits {
         facts.add(copy(alloc, lit)?)?;

@@ -22,10 +22,10 @@ ghost use Rattle.e_clause.specs.Written.{is_writable_cert};
 
 use crate::certificate::{certifies, certify_all};
 use crate::facts::Facts;
-use crate::instances::{instance_of, is_among, negated_others};
+use crate::instances::{is_among, negated_others};
 use crate::scope::{are_over, objects_in};
 use crate::step_state::StepState;
-use e_clause::{By, Cert};
+use e_clause::{By, Cert, instance_of};
 use e_construct::{Construction, Superpose};
 use e_literal::{Lit, Obj, Scope, in_scope};
 use e_theorem::{Applied, Statement, UseFault, use_of};

@@ -9,8 +9,8 @@ ghost use Rattle.e_clause.specs.Written.{is_writable_part};
 
 use crate::certificate::part_certifies;
 use crate::facts::Facts;
-use crate::instances::{instance_of, is_among, negated_others};
-use e_clause::{Part, TransferCert};
+use crate::instances::{is_among, negated_others};
+use e_clause::{Part, TransferCert, instance_of};
 use e_literal::Lit;
 use std::alloc::{AllocError, Global};
 

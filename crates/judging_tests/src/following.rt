@@ -21,13 +21,13 @@ fn word(answered: &Metric) -> &'static str {
     }
 }
 
-fn said(answered: Metric) -> &'static str {
+fn word_of(answered: Metric) -> &'static str {
     let word = word(&answered);
     mem::drop(answered);
     word
 }
 
-fn answered(
+fn word_for_goal(
     rt: &impl Abort,
     alloc: Global,
     facts: &Facts,
@@ -35,16 +35,16 @@ fn answered(
 ) -> Result<&'static str, AllocError> {
     assert!(rt; are_few_facts(facts));
     if goal.is_empty() {
-        return Ok(said(absurd(alloc, facts)?));
+        return Ok(word_of(absurd(alloc, facts)?));
     }
     let goal = lit(alloc, goal)?;
     assert!(rt; is_metric_goal(&goal));
     let answered = follows(alloc, facts, &goal);
     mem::drop(goal);
-    Ok(said(answered?))
+    Ok(word_of(answered?))
 }
 
-// The same as `answered`, from what is known of the facts already.
+// The same as `word_for_goal`, from what is known of the facts already.
 fn answered_by(
     rt: &impl Abort,
     alloc: Global,
@@ -57,17 +57,17 @@ fn answered_by(
 {
     assert!(rt; are_few_facts(facts));
     if goal.is_empty() {
-        return Ok(said(known.absurd_in_turn(alloc, facts)?));
+        return Ok(word_of(known.absurd_in_turn(alloc, facts)?));
     }
-    known.bring_all(alloc, facts)?;
+    known.catch_up_all(alloc, facts)?;
     let goal = lit(alloc, goal)?;
     assert!(rt; is_metric_goal(&goal));
     let answered = known.follows(alloc, facts, &goal);
     mem::drop(goal);
-    Ok(said(answered?))
+    Ok(word_of(answered?))
 }
 
-// The same as `answered`, from all facts at once.
+// The same as `word_for_goal`, from all facts at once.
 fn answered_by_known(
     rt: &impl Abort,
     alloc: Global,
@@ -81,8 +81,8 @@ fn answered_by_known(
     answered
 }
 
-// The same as `answered`, where these facts come after the others, and the question is asked before
-// each too.
+// The same as `word_for_goal`, where these facts come after the others, and the question is asked
+// before each too.
 fn answered_after(
     rt: &impl Abort,
     alloc: Global,
@@ -100,7 +100,7 @@ fn answered_after(
     answered_by(rt, alloc, known, some, goal)
 }
 
-// The same as `answered`, where the question is asked before each fact too.
+// The same as `word_for_goal`, where the question is asked before each fact too.
 fn answered_in_turn(
     rt: &impl Abort,
     alloc: Global,
@@ -147,7 +147,7 @@ fn what_follows(rt: HostRuntime) -> Result<(), Fail> {
         let facts = facts_of(rt.alloc(), parts.next().unwrap_or(""))?;
         let goal = parts.next().unwrap_or("");
         let wanted = parts.next().unwrap_or("");
-        assert_eq!(rt; answered(&rt, rt.alloc(), &facts, goal)?, wanted, "{line}");
+        assert_eq!(rt; word_for_goal(&rt, rt.alloc(), &facts, goal)?, wanted, "{line}");
         assert_eq!(rt;
             answered_by_known(&rt, rt.alloc(), &facts, goal)?,
             wanted,
@@ -163,7 +163,7 @@ fn what_follows(rt: HostRuntime) -> Result<(), Fail> {
 }
 
 // Whether the row says this of a form with these coefficients of `ab`, `cd` and `ef`.
-fn says(row: &Row, sense: RowSense, ab: i64, cd: i64, ef: i64) -> bool {
+fn has_coefficients(row: &Row, sense: RowSense, ab: i64, cd: i64, ef: i64) -> bool {
     row.sense == sense
         && row.form.coefficient(term("ab")) == ab
         && row.form.coefficient(term("cd")) == cd
@@ -173,10 +173,10 @@ fn says(row: &Row, sense: RowSense, ab: i64, cd: i64, ef: i64) -> bool {
 // The lesser sum's equal parts cancel; then the negated goal, and a segment whose ends differ.
 fn are_of_segments(rows: &[(RowName, Row)]) -> bool {
     rows.len() == 4
-        && says(&rows[0].1, RowSense::More, -1, 0, 1)
-        && says(&rows[1].1, RowSense::More, 0, -1, 1)
-        && says(&rows[2].1, RowSense::AtLeast, -1, 0, 1)
-        && says(&rows[3].1, RowSense::More, 1, 0, 0)
+        && has_coefficients(&rows[0].1, RowSense::More, -1, 0, 1)
+        && has_coefficients(&rows[1].1, RowSense::More, 0, -1, 1)
+        && has_coefficients(&rows[2].1, RowSense::AtLeast, -1, 0, 1)
+        && has_coefficients(&rows[3].1, RowSense::More, 1, 0, 0)
 }
 
 fn rows_of(rt: &impl Abort, alloc: Global, which: Kind) -> Result<Vec<(RowName, Row)>, AllocError> {

@@ -24,7 +24,7 @@ const SCOPE: Scope = Scope {
     circles: 0,
 };
 
-fn begun(alloc: Global, scope: Scope, facts: Facts) -> Result<Context, AllocError>
+fn context_of_facts(alloc: Global, scope: Scope, facts: Facts) -> Result<Context, AllocError>
     requires { IsTrue (LimitedFacts.are_limited_facts scope facts) }
     ensures { IfOk result (λ c. c ≡ record { scope = scope; facts = facts; held = [] }) }
 {
@@ -45,7 +45,7 @@ fn context(
 ) -> Result<Context, AllocError> {
     let facts = facts_of(alloc, text)?;
     assert!(rt; are_limited_facts(scope, &facts));
-    begun(alloc, scope, facts)
+    context_of_facts(alloc, scope, facts)
 }
 
 fn word(licensed: &Licensed) -> &'static str {
@@ -60,7 +60,7 @@ fn word(licensed: &Licensed) -> &'static str {
     }
 }
 
-fn asked(
+fn word_in_context(
     rt: &impl Abort,
     alloc: Global,
     context: &Context,
@@ -76,14 +76,14 @@ fn asked(
     Ok(word)
 }
 
-fn licensed(
+fn word_from_facts(
     rt: &impl Abort,
     alloc: Global,
     facts: &str,
     wanted: &str,
 ) -> Result<&'static str, AllocError> {
     let context = context(rt, alloc, SCOPE, facts)?;
-    let word = asked(rt, alloc, &context, wanted);
+    let word = word_in_context(rt, alloc, &context, wanted);
     mem::drop(context);
     word
 }
@@ -112,7 +112,7 @@ ab<cd:cd<ab:values"
 #[test]
 fn what_is_allowed(rt: HostRuntime) -> Result<(), Fail> {
     for step in steps().split('\n') {
-        let licensed = licensed(&rt, rt.alloc(), part(step, 0), part(step, 1))?;
+        let licensed = word_from_facts(&rt, rt.alloc(), part(step, 0), part(step, 1))?;
         assert_eq!(rt; licensed, part(step, 2), "{step}");
     }
     Ok(())
@@ -139,7 +139,11 @@ fn word_against(refuted: &Refuted) -> &'static str {
     }
 }
 
-fn refuted(rt: &impl Abort, alloc: Global, facts: &str) -> Result<&'static str, AllocError> {
+fn word_against_facts(
+    rt: &impl Abort,
+    alloc: Global,
+    facts: &str,
+) -> Result<&'static str, AllocError> {
     let context = context(rt, alloc, SCOPE, facts)?;
     let refuted = refute(alloc, &context);
     mem::drop(context);
@@ -152,7 +156,7 @@ fn refuted(rt: &impl Abort, alloc: Global, facts: &str) -> Result<&'static str, 
 #[test]
 fn what_contradicts(rt: HostRuntime) -> Result<(), Fail> {
     for step in contradictions().split('\n') {
-        let refuted = refuted(&rt, rt.alloc(), part(step, 0))?;
+        let refuted = word_against_facts(&rt, rt.alloc(), part(step, 0))?;
         assert_eq!(rt; refuted, part(step, 1), "{step}");
     }
     Ok(())
@@ -195,7 +199,7 @@ fn grow(context: &mut Context) -> Result<(Added, Added), AllocError>
 
 #[test]
 fn a_context_grows(rt: HostRuntime) -> Result<(), Fail> {
-    let mut context = begun(rt.alloc(), ONE_POINT, Facts::new(rt.alloc()))?;
+    let mut context = context_of_facts(rt.alloc(), ONE_POINT, Facts::new(rt.alloc()))?;
     match grow(&mut context) {
         Ok((first, second)) => {
             assert_eq!(rt; first, Added::Added);
@@ -292,7 +296,7 @@ fn statement(alloc: Global, row: &'static str) -> Result<Statement, AllocError> 
     })
 }
 
-fn matched(
+fn letters_of_match(
     rt: &impl Abort,
     alloc: Global,
     context: &Context,
@@ -309,7 +313,7 @@ fn matched(
     }
 }
 
-fn filled_in(
+fn letters_in_context(
     rt: &impl Abort,
     alloc: Global,
     context: &Context,
@@ -323,13 +327,13 @@ fn filled_in(
             return Err(error);
         }
     };
-    let filled = matched(rt, alloc, context, &statement, &pattern);
+    let filled = letters_of_match(rt, alloc, context, &statement, &pattern);
     mem::drop(statement);
     mem::drop(pattern);
     filled
 }
 
-fn filled(rt: &impl Abort, alloc: Global, row: &'static str) -> Result<String, AllocError> {
+fn letters_of_row(rt: &impl Abort, alloc: Global, row: &'static str) -> Result<String, AllocError> {
     let (points, lines) = part(row, 0).split_once(' ').unwrap_or(("", ""));
     let scope = Scope {
         points: points.parse::<u16>().unwrap_or(0),
@@ -337,7 +341,7 @@ fn filled(rt: &impl Abort, alloc: Global, row: &'static str) -> Result<String, A
         circles: 0,
     };
     let context = context(rt, alloc, scope, part(row, 1))?;
-    let filled = filled_in(rt, alloc, &context, row);
+    let filled = letters_in_context(rt, alloc, &context, row);
     mem::drop(context);
     filled
 }
@@ -345,7 +349,7 @@ fn filled(rt: &impl Abort, alloc: Global, row: &'static str) -> Result<String, A
 #[test]
 fn blanks_are_filled(rt: HostRuntime) -> Result<(), Fail> {
     for row in blanks().split('\n') {
-        let filled = filled(&rt, rt.alloc(), row)?;
+        let filled = letters_of_row(&rt, rt.alloc(), row)?;
         assert_eq!(rt; filled.as_str(), part(row, 5), "{row}");
     }
     Ok(())

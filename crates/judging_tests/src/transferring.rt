@@ -25,7 +25,7 @@ fn word(found: &Found) -> &'static str {
     }
 }
 
-fn found(
+fn word_of_search(
     rt: &impl Abort,
     alloc: Global,
     facts: &Facts,
@@ -88,7 +88,7 @@ fn found_from_others(
 ) -> Result<&'static str, AllocError> {
     assert!(rt; place < lits.len());
     let facts = others(alloc, lits, place, left_out)?;
-    let found = found(rt, alloc, &facts, &lits[place]);
+    let found = word_of_search(rt, alloc, &facts, &lits[place]);
     mem::drop(facts);
     found
 }
@@ -125,10 +125,10 @@ fn found_twice(
     facts: &mut Facts,
     goal: &Lit,
 ) -> Result<(&'static str, &'static str), AllocError> {
-    let before = found(rt, alloc, facts, goal)?;
+    let before = word_of_search(rt, alloc, facts, goal)?;
     facts.add(lit(alloc, "^abc=^abd")?)?;
     facts.add(lit(alloc, "^abd=0")?)?;
-    let after = found(rt, alloc, facts, goal)?;
+    let after = word_of_search(rt, alloc, facts, goal)?;
     Ok((before, after))
 }
 

@@ -58,7 +58,7 @@ impl Answer {
     }
 
     /// The text, if it is whole.
-    pub fn whole(self) -> Result<String, AllocError> {
+    pub fn into_text(self) -> Result<String, AllocError> {
         if self.whole {
             Ok(self.text)
         } else {

@@ -6,7 +6,7 @@
 
 use crate::answer::Answer;
 use crate::literals::literals;
-use crate::rows::{objects, quoted, two};
+use crate::rows::{objects, text_in_quotes, two};
 use e_clause::Rule;
 use e_figure::{
     Figure, Point, Round, Straight, cited_is_true, every_instance_is_true, holds, law, refutes,
@@ -118,7 +118,7 @@ fn put_truth(alloc: Global, out: &mut Answer, figure: &Figure, on: &str) -> Resu
 fn put_law(alloc: Global, out: &mut Answer, figure: &Figure, on: &str) -> Result<(), AllocError> {
     let (_, letters) = two(on.trim(), "\" ");
     let args = objects(alloc, letters)?;
-    match Rule::named(quoted(on).as_bytes()) {
+    match Rule::named(text_in_quotes(on).as_bytes()) {
         Some(rule) if !rule.is_transfer() => out.show(&law(alloc, figure, rule, &args)),
         _ => out.word("none"),
     }

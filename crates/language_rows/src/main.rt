@@ -43,10 +43,10 @@ fn put_answer(alloc: Global, out: &mut Answer, row: &str) -> Result<(), AllocErr
 }
 
 /// The answer to a row.
-fn answered(alloc: Global, row: &str) -> Result<String, AllocError> {
+fn answer_to(alloc: Global, row: &str) -> Result<String, AllocError> {
     let mut out = Answer::new(alloc);
     put_answer(alloc, &mut out, row)?;
-    out.whole()
+    out.into_text()
 }
 
 fn main(rt: HostRuntime) -> io::Result<()> {
@@ -55,7 +55,7 @@ fn main(rt: HostRuntime) -> io::Result<()> {
         if row.starts_with('*') {
             println!(rt; "{row}")?;
         } else {
-            println!(rt; "{row} =>{}", answered(rt.alloc(), row)?)?;
+            println!(rt; "{row} =>{}", answer_to(rt.alloc(), row)?)?;
         }
     }
     Ok(())

@@ -14,7 +14,7 @@ pub fn number(word: &str) -> usize {
 }
 
 /// The text between the first two quotation marks.
-pub fn quoted(row: &str) -> &str {
+pub fn text_in_quotes(row: &str) -> &str {
     row.split('"').nth(1).unwrap_or("")
 }
 

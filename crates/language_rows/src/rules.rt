@@ -1,7 +1,7 @@
 //! Rules, their instances, and a sum.
 
 use crate::answer::Answer;
-use crate::rows::{objects, quoted, two};
+use crate::rows::{objects, text_in_quotes, two};
 use e_clause::{RowName, Rule, Sum, instance};
 use e_literal::{Obj, Term};
 use std::alloc::{AllocError, Global};
@@ -10,7 +10,7 @@ use std::alloc::{AllocError, Global};
 pub fn put(alloc: Global, out: &mut Answer, call: &str, on: &str) -> Result<(), AllocError> {
     match call {
         "rule" => {
-            put_rule(out, quoted(on));
+            put_rule(out, text_in_quotes(on));
             Ok(())
         }
         "instance" => put_instance(alloc, out, on),

@@ -1,7 +1,7 @@
 //! Lines, words, names, titles and numerals.
 
 use crate::answer::Answer;
-use crate::rows::{bytes_of, number, quoted, two};
+use crate::rows::{bytes_of, number, text_in_quotes, two};
 use e_text::{Lines, Name, Title, Tokens, name_read_again, numeral, reserved, title_read_again};
 use std::alloc::{AllocError, Global};
 
@@ -9,17 +9,17 @@ use std::alloc::{AllocError, Global};
 pub fn put(alloc: Global, out: &mut Answer, call: &str, on: &str) -> Result<(), AllocError> {
     match call {
         "lines" => put_lines_of(alloc, out, on),
-        "tokens" => put_tokens(alloc, out, quoted(on)),
+        "tokens" => put_tokens(alloc, out, text_in_quotes(on)),
         "part" => {
             put_part(out);
             Ok(())
         }
         "numeral" => {
-            put_numeral(out, quoted(on).as_bytes());
+            put_numeral(out, text_in_quotes(on).as_bytes());
             Ok(())
         }
         _ => {
-            put_word(out, quoted(on).as_bytes());
+            put_word(out, text_in_quotes(on).as_bytes());
             Ok(())
         }
     }
@@ -49,7 +49,7 @@ fn put_lines(out: &mut Answer, lines: &mut Lines<'_>) {
 fn put_lines_of(alloc: Global, out: &mut Answer, on: &str) -> Result<(), AllocError> {
     let (longest, rest) = two(on, " ");
     let (most, rest) = two(rest, " ");
-    let text = bytes_of(alloc, quoted(rest))?;
+    let text = bytes_of(alloc, text_in_quotes(rest))?;
     put_lines(
         out,
         &mut Lines::new(&text, number(longest), number(most) as u64),

@@ -36,7 +36,7 @@ fn below(number: u64, bound: u16) -> u16
 }
 
 /// The hidden value of a term, by which rows are made true.
-fn hidden(term: u16) -> u64 {
+fn hidden_value(term: u16) -> u64 {
     1 + u64::from(term).wrapping_mul(37) % 23
 }
 
@@ -59,7 +59,7 @@ fn difference(
 
 /// A row that the hidden values satisfy.
 fn true_row(alloc: Global, a: u16, b: u16, strict: bool) -> Result<Option<Row>, AllocError> {
-    let (x, y) = (hidden(a), hidden(b));
+    let (x, y) = (hidden_value(a), hidden_value(b));
     if x == y {
         difference(alloc, RowSense::Zero, a, b)
     } else if x > y {

@@ -21,7 +21,7 @@
 mod runs;
 mod turns;
 
-use crate::runs::{Asked, Calls, ran};
+use crate::runs::{Asked, Calls, run_and_keep};
 use crate::turns::{each_read, each_write, over_no_sink};
 use std::alloc::{AllocError, Global};
 use std::io;
@@ -85,7 +85,7 @@ fn put_repeated(alloc: Global, out: &mut Vec<u8>, repeated: &str) -> Result<(), 
 }
 
 /// The bytes of the text of a row.
-fn unfolded(alloc: Global, text: &str) -> Result<Vec<u8>, AllocError> {
+fn bytes_of_text(alloc: Global, text: &str) -> Result<Vec<u8>, AllocError> {
     let mut out = Vec::new(alloc);
     for part in text.split('{') {
         match part.split_once('}') {
@@ -100,7 +100,12 @@ fn unfolded(alloc: Global, text: &str) -> Result<Vec<u8>, AllocError> {
 }
 
 /// The written bytes and the exit status, in one line; of more bytes than these the last line alone.
-fn folded(alloc: Global, written: &[u8], exit: u8, most: usize) -> Result<String, AllocError> {
+fn line_of_answer(
+    alloc: Global,
+    written: &[u8],
+    exit: u8,
+    most: usize,
+) -> Result<String, AllocError> {
     let lines = str::from_utf8(written).unwrap_or("");
     let mut text = String::new(alloc);
     if lines.len() > most {
@@ -123,15 +128,15 @@ fn answer_with(alloc: Global, row: &str, filling: &str) -> Result<String, AllocE
     let (front, back) = part(row, TEXT).split_once('@').unwrap_or(("", ""));
     let text = format!(in alloc; "{front}{filling}{back}")?;
     let words = words_of(alloc, part(row, 0))?;
-    let text = unfolded(alloc, text.as_str())?;
+    let text = bytes_of_text(alloc, text.as_str())?;
     let asked = Asked { words, text };
     let (reads, writes) = (
         calls_of(part(row, 1), READ),
         calls_of(part(row, 2), WRITTEN),
     );
-    let answered = ran(alloc, &asked, reads, writes)?;
+    let answered = run_and_keep(alloc, &asked, reads, writes)?;
     let most = if answered.exit == 0 { 0 } else { PRINTED };
-    folded(alloc, &answered.written, answered.exit, most)
+    line_of_answer(alloc, &answered.written, answered.exit, most)
 }
 
 /// What the program answers to the text of a row with each of the further texts in turn.
@@ -151,7 +156,7 @@ fn answers_in_turn(alloc: Global, row: &str) -> Result<String, AllocError> {
 /// What the program answers to a row with one text.
 fn answer(alloc: Global, row: &str) -> Result<String, AllocError> {
     let words = words_of(alloc, part(row, 0))?;
-    let text = unfolded(alloc, part(row, TEXT))?;
+    let text = bytes_of_text(alloc, part(row, TEXT))?;
     let asked = Asked { words, text };
     let (read, write) = (part(row, 1), part(row, 2));
     let (reads, writes) = (calls_of(read, READ), calls_of(write, WRITTEN));
@@ -162,8 +167,8 @@ fn answer(alloc: Global, row: &str) -> Result<String, AllocError> {
     } else if write == "nowhere" {
         over_no_sink(alloc, &asked, reads, writes)
     } else {
-        let answered = ran(alloc, &asked, reads, writes)?;
-        folded(alloc, &answered.written, answered.exit, PRINTED)
+        let answered = run_and_keep(alloc, &asked, reads, writes)?;
+        line_of_answer(alloc, &answered.written, answered.exit, PRINTED)
     }
 }
 

@@ -32,7 +32,7 @@ pub struct Answered {
 
 impl Calls {
     /// These calls, of which this one fails.
-    pub fn failing(self, call: u64) -> Calls {
+    pub fn with_failure_at(self, call: u64) -> Calls {
         Calls {
             fail: Some(call),
             piece: self.piece,
@@ -40,7 +40,7 @@ impl Calls {
     }
 }
 
-fn listed(alloc: Global, call: Option<u64>) -> Result<Vec<u64>, AllocError> {
+fn list_of_call(alloc: Global, call: Option<u64>) -> Result<Vec<u64>, AllocError> {
     let mut calls = Vec::new(alloc);
     if let Some(call) = call {
         calls.push(call)?;
@@ -49,7 +49,7 @@ fn listed(alloc: Global, call: Option<u64>) -> Result<Vec<u64>, AllocError> {
 }
 
 fn source_of(alloc: Global, text: &[u8], calls: Calls) -> Result<MemSource, AllocError> {
-    let fail = listed(alloc, calls.fail)?;
+    let fail = list_of_call(alloc, calls.fail)?;
     let text = Vec::from_slice(alloc, text)?;
     Ok(MemSource::new(text, fail, calls.piece.max(1)))
 }
@@ -76,14 +76,14 @@ fn number_of(status: &Status) -> u64 {
 }
 
 /// A run whose bytes are kept.
-pub fn ran(
+pub fn run_and_keep(
     alloc: Global,
     asked: &Asked,
     reads: Calls,
     writes: Calls,
 ) -> Result<Answered, AllocError> {
     let mut source = source_of(alloc, &asked.text, reads)?;
-    let fail = listed(alloc, writes.fail)?;
+    let fail = list_of_call(alloc, writes.fail)?;
     let mut sink = MemSink::new(alloc, ROOM, fail, writes.piece.max(1))?;
     let status = run(alloc, &asked.words, &mut source, &mut sink);
     Ok(Answered {
@@ -94,7 +94,11 @@ pub fn ran(
 }
 
 /// A run whose bytes are kept nowhere.
-pub fn ran_nowhere(alloc: Global, asked: &Asked, reads: Calls) -> Result<Answered, AllocError> {
+pub fn run_without_sink(
+    alloc: Global,
+    asked: &Asked,
+    reads: Calls,
+) -> Result<Answered, AllocError> {
     let mut source = source_of(alloc, &asked.text, reads)?;
     let mut sink = NullSink::new();
     let status = run(alloc, &asked.words, &mut source, &mut sink);

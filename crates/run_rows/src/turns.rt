@@ -1,6 +1,6 @@
 //! Runs of one text in which each call of the outside fails in turn, in one line.
 
-use crate::runs::{Answered, Asked, Calls, are_alike, ran, ran_nowhere};
+use crate::runs::{Answered, Asked, Calls, are_alike, run_and_keep, run_without_sink};
 use std::alloc::{AllocError, Global};
 
 /// More calls than any run of a row makes.
@@ -38,7 +38,7 @@ fn cut_off(
     writes: Calls,
     usual: &Answered,
 ) -> Result<Option<bool>, AllocError> {
-    let answered = ran(alloc, asked, reads, writes)?;
+    let answered = run_and_keep(alloc, asked, reads, writes)?;
     if answered.exit != WRITE_FAULT {
         return Ok(None);
     }
@@ -54,11 +54,11 @@ pub fn each_write(
     reads: Calls,
     writes: Calls,
 ) -> Result<String, AllocError> {
-    let usual = ran(alloc, asked, reads, writes)?;
+    let usual = run_and_keep(alloc, asked, reads, writes)?;
     let mut calls = 0u64;
     let mut fronts = 0u64;
     for call in 0..MOST_CALLS {
-        let Some(front) = cut_off(alloc, asked, reads, writes.failing(call), &usual)? else {
+        let Some(front) = cut_off(alloc, asked, reads, writes.with_failure_at(call), &usual)? else {
             break;
         };
         calls = calls.saturating_add(1);
@@ -99,7 +99,7 @@ fn blocks_in(text: &str) -> u64 {
 }
 
 /// Numbers in order, each with how often it comes before another one does.
-fn grouped(alloc: Global, numbers: &[u64]) -> Result<String, AllocError> {
+fn counts_in_turn(alloc: Global, numbers: &[u64]) -> Result<String, AllocError> {
     let mut text = String::new(alloc);
     let mut last = 0u64;
     let mut times = 0u64;
@@ -125,11 +125,11 @@ fn broken_off(
     writes: Calls,
     usual: &Answered,
 ) -> Result<Option<Broken>, AllocError> {
-    let answered = ran(alloc, asked, reads, writes)?;
+    let answered = run_and_keep(alloc, asked, reads, writes)?;
     if answered.exit != READ_FAULT {
         return Ok(None);
     }
-    let silent = ran_nowhere(alloc, asked, reads)?;
+    let silent = run_without_sink(alloc, asked, reads)?;
     let front = before_fault(&answered.written).unwrap_or("no fault is reported");
     Ok(Some(Broken {
         front: is_front(front, usual),
@@ -148,12 +148,12 @@ pub fn each_read(
     reads: Calls,
     writes: Calls,
 ) -> Result<String, AllocError> {
-    let usual = ran(alloc, asked, reads, writes)?;
+    let usual = run_and_keep(alloc, asked, reads, writes)?;
     let mut blocks = Vec::new(alloc);
     let mut fronts = 0u64;
     let mut alike = 0u64;
     for call in 0..MOST_CALLS {
-        let one = reads.failing(call);
+        let one = reads.with_failure_at(call);
         let Some(broken) = broken_off(alloc, asked, one, writes, &usual)? else {
             break;
         };
@@ -166,7 +166,7 @@ pub fn each_read(
         blocks.push(broken.blocks)?;
     }
     let calls = blocks.len();
-    let groups = grouped(alloc, &blocks)?;
+    let groups = counts_in_turn(alloc, &blocks)?;
     let exit = usual.exit;
     format!(in alloc;
         "{calls} reads fail, {fronts} fronts, {alike} alike over no sink, blocks{groups}; else exit {exit}"
@@ -181,8 +181,8 @@ pub fn over_no_sink(
     reads: Calls,
     writes: Calls,
 ) -> Result<String, AllocError> {
-    let usual = ran(alloc, asked, reads, writes)?;
-    let silent = ran_nowhere(alloc, asked, reads)?;
+    let usual = run_and_keep(alloc, asked, reads, writes)?;
+    let silent = run_without_sink(alloc, asked, reads)?;
     let exit = usual.exit;
     let number = usual.number;
     if are_alike(&usual, &silent) {

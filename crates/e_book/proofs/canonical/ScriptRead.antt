@@ -12,7 +12,7 @@ use Rattle.e_literal.specs.declared.literal.Lit.{Lit}
 use Rattle.e_literal.specs.Literal.{negation, all_in_scope}
 use Rattle.e_literal.specs.WellFormed.{is_well_formed}
 use Rattle.e_literal.specs.Scopes.{grown, are_of_sorts}
-use Rattle.e_literal.specs.Facts.{joined, joined_all}
+use Rattle.e_literal.specs.Facts.{with_fact, with_facts}
 use Rattle.e_literal.specs.Use.{gives_of_use}
 use Rattle.e_theorem.specs.Pattern.{is_pattern}
 use Rattle.e_clause.specs.declared.cert.By.{By}
@@ -104,7 +104,7 @@ no_more d last i close e h = ap (λ (l : List PlainStep). parser_after_close (pr
 
 -- ---- steps without a block inside
 
-pub cite_ready : (known : List TitledStatement) (d : TheoremParser) (i : Inside) (b : By) (rest : Script) (given : List Lit) (goal : Goal) → Ready known d i (Cite b rest) given goal → Ready known d (after_step i (Cited b) 1) rest (joined given b.lit) goal
+pub cite_ready : (known : List TitledStatement) (d : TheoremParser) (i : Inside) (b : By) (rest : Script) (given : List Lit) (goal : Goal) → Ready known d i (Cite b rest) given goal → Ready known d (after_step i (Cited b) 1) rest (with_fact given b.lit) goal
 unfolding is_plain placed_steps NewNamesFit size depth has_well_formed_literals few_facts few_terms names_theorems few_blanks
 cite_ready known d i b rest given goal r =
     let s = scope_of_names i.in_scope in
@@ -112,7 +112,7 @@ cite_ready known d i b rest given goal r =
       order = r.order;
       goal_sorts = r.goal_sorts;
       plain = r.plain;
-      fitting = (and_parts (is_citation s b) (list_all (line_fits (stated_by known)) (placed_steps (stated_by known) rest rest s (joined given b.lit) goal)) r.fitting).1;
+      fitting = (and_parts (is_citation s b) (list_all (line_fits (stated_by known)) (placed_steps (stated_by known) rest rest s (with_fact given b.lit) goal)) r.fitting).1;
       new_names = r.new_names;
       few = omega (arith, r.few);
       shallow = r.shallow;
@@ -127,7 +127,7 @@ cite_taken : (known : List TitledStatement) (d : TheoremParser) (i : Inside) (b 
 unfolding script_raw_lines placed_steps size has_well_formed_literals few_facts
 cite_taken known d i b rest given goal r t =
     let s = scope_of_names i.in_scope in
-    let fit = (and_parts (is_citation s b) (list_all (line_fits (stated_by known)) (placed_steps (stated_by known) rest rest s (joined given b.lit) goal)) r.fitting).0 in
+    let fit = (and_parts (is_citation s b) (list_all (line_fits (stated_by known)) (placed_steps (stated_by known) rest rest s (with_fact given b.lit) goal)) r.fitting).0 in
     let good = (and_parts (is_diagram_lit b.lit) (has_well_formed_literals rest) r.good).0 in
     let most = leb-true _ _ (and_parts (leb (i.facts + 1) most_facts) (few_facts (stated_by known) (i.facts + 1) s rest) r.facts).0 in
     record {
@@ -145,7 +145,7 @@ cite_taken known d i b rest given goal r t =
 abbrev pub inferred : Inside → Lit → Inside
 inferred i l = written (after_step i (Inferred l None) 1) (monomials l.atom)
 
-pub hence_ready : (known : List TitledStatement) (d : TheoremParser) (i : Inside) (l : Lit) (rest : Script) (given : List Lit) (goal : Goal) → Ready known d i (Hence l None rest) given goal → Ready known d (inferred i l) rest (joined given l) goal
+pub hence_ready : (known : List TitledStatement) (d : TheoremParser) (i : Inside) (l : Lit) (rest : Script) (given : List Lit) (goal : Goal) → Ready known d i (Hence l None rest) given goal → Ready known d (inferred i l) rest (with_fact given l) goal
 unfolding is_plain placed_steps NewNamesFit size depth has_well_formed_literals few_facts few_terms names_theorems few_blanks
 hence_ready known d i l rest given goal r =
     let s = scope_of_names i.in_scope in
@@ -154,7 +154,7 @@ hence_ready known d i l rest given goal r =
       order = r.order;
       goal_sorts = r.goal_sorts;
       plain = r.plain;
-      fitting = (and_parts (all_in_scope s l) (list_all (line_fits (stated_by known)) (placed_steps (stated_by known) rest rest s (joined given l) goal)) r.fitting).1;
+      fitting = (and_parts (all_in_scope s l) (list_all (line_fits (stated_by known)) (placed_steps (stated_by known) rest rest s (with_fact given l) goal)) r.fitting).1;
       new_names = r.new_names;
       few = omega (arith, r.few);
       shallow = r.shallow;
@@ -170,7 +170,7 @@ unfolding script_raw_lines placed_steps size has_well_formed_literals few_facts 
 hence_taken known d i l rest given goal r t =
     let s = scope_of_names i.in_scope in
     let n = i.terms + monomials l.atom in
-    let fit = (and_parts (all_in_scope s l) (list_all (line_fits (stated_by known)) (placed_steps (stated_by known) rest rest s (joined given l) goal)) r.fitting).0 in
+    let fit = (and_parts (all_in_scope s l) (list_all (line_fits (stated_by known)) (placed_steps (stated_by known) rest rest s (with_fact given l) goal)) r.fitting).0 in
     let good = (and_parts (is_well_formed l) (has_well_formed_literals rest) r.good).0 in
     let most = leb-true _ _ (and_parts (leb (i.facts + 1) most_facts) (few_facts (stated_by known) (i.facts + 1) s rest) r.facts).0 in
     let short = leb-true _ _ (and_parts (leb n most_terms) (few_terms (stated_by known) n s rest) r.terms).0 in
@@ -197,18 +197,18 @@ unfolding placed_steps NewNamesFit
 make_good known d i construction names rest given goal r =
     let s = scope_of_names i.in_scope in
     record {
-      fits = (and_parts (fits_construction construction s) (list_all (line_fits (stated_by known)) (placed_steps (stated_by known) rest rest (grown s (sorts_made construction)) (joined_all given (gives_of_construction construction s)) goal)) r.fitting).0;
+      fits = (and_parts (fits_construction construction s) (list_all (line_fits (stated_by known)) (placed_steps (stated_by known) rest rest (grown s (sorts_made construction)) (with_facts given (gives_of_construction construction s)) goal)) r.fitting).0;
       free = r.new_names.0;
       count = r.new_names.1;
     }
 
 pub make_ready : (known : List TitledStatement) (d : TheoremParser) (i : Inside) (construction : Construction) (names : List (List ℕ)) (rest : Script) (given : List Lit) (goal : Goal) → Ready known d i (Make construction names [] rest) given goal
-    → Ready known d (constructed i construction names) rest (joined_all given (gives_of_construction construction (scope_of_names i.in_scope))) goal
+    → Ready known d (constructed i construction names) rest (with_facts given (gives_of_construction construction (scope_of_names i.in_scope))) goal
 unfolding is_plain placed_steps NewNamesFit size depth has_well_formed_literals few_facts few_terms names_theorems few_blanks
 make_ready known d i construction names rest given goal r =
     let s = scope_of_names i.in_scope in
     let after = named i.in_scope (sorts_made construction) names in
-    let facts = joined_all given (gives_of_construction construction s) in
+    let facts = with_facts given (gives_of_construction construction s) in
     let n = i.facts + gifts i construction in
     let scope : grown s (sorts_made construction) ≡ scope_of_names after = named_scope i.in_scope (sorts_made construction) names r.new_names.1 in
     let p = and_parts (list_all is_name names) (is_plain rest) r.plain in
@@ -255,7 +255,7 @@ pub record ApplyParts (known : List TitledStatement) (d : TheoremParser) (i : In
   pub facts : i.facts + length (theorem_of known theorem).shown ≤ most_facts
   pub terms : i.terms + count_monomials (theorem_of known theorem).shown ≤ most_terms
   pub blanks : count_blanks args ≤ most_blanks
-  pub next : Ready known d (applied_after i (theorem_of known theorem) theorem args names) rest (joined_all given (gives_of_use (theorem_of known theorem) (written_args args) (scope_of_names i.in_scope))) goal
+  pub next : Ready known d (applied_after i (theorem_of known theorem) theorem args names) rest (with_facts given (gives_of_use (theorem_of known theorem) (written_args args) (scope_of_names i.in_scope))) goal
 
 pub apply_parts : (known : List TitledStatement) (d : TheoremParser) (i : Inside) (theorem : ℕ) (args : List (Option Obj)) (names : List (List ℕ)) (rest : Script) (given : List Lit) (goal : Goal) → Ready known d i (Apply theorem args names [] rest) given goal
     → ApplyParts known d i theorem args names rest given goal
@@ -265,7 +265,7 @@ apply_parts known d i theorem args names rest given goal r =
     let s = scope_of_names i.in_scope in
     let t = theorem_of known theorem in
     let after = applied_after i t theorem args names in
-    let facts = joined_all given (gives_of_use t (written_args args) s) in
+    let facts = with_facts given (gives_of_use t (written_args args) s) in
     let n = i.facts + length t.shown in
     let m = i.terms + count_monomials t.shown in
     let scope : grown s t.made ≡ scope_of_names after.in_scope = named_scope i.in_scope t.made names r.new_names.1 in
@@ -325,7 +325,7 @@ pub record ClaimParts (known : List TitledStatement) (i : Inside) (shown : List 
   pub plain_rest : is_plain rest ≡ true
   pub plain : Plain i.in_scope shown
   pub fit_inner : list_all (line_fits (stated_by known)) (placed_steps (stated_by known) inner inner (scope_of_names i.in_scope) given (goal_of shown)) ≡ true
-  pub fit_rest : list_all (line_fits (stated_by known)) (placed_steps (stated_by known) rest rest (scope_of_names i.in_scope) (joined_all given shown) goal) ≡ true
+  pub fit_rest : list_all (line_fits (stated_by known)) (placed_steps (stated_by known) rest rest (scope_of_names i.in_scope) (with_facts given shown) goal) ≡ true
   pub good_inner : has_well_formed_literals inner ≡ true
   pub theorems_inner : names_theorems known inner ≡ true
   pub blanks_inner : few_blanks inner ≡ true
@@ -346,7 +346,7 @@ claim_parts known d i shown inner rest given goal r =
     let facts = i.facts + length shown in
     let terms = i.terms + count_monomials shown in
     let inside = placed_steps (stated_by known) inner inner s given (goal_of shown) in
-    let after = placed_steps (stated_by known) rest rest s (joined_all given shown) goal in
+    let after = placed_steps (stated_by known) rest rest s (with_facts given shown) goal in
     let p = and_parts (ltb 0 (length shown)) (is_plain inner && is_plain rest) r.plain in
     let pp = and_parts (is_plain inner) (is_plain rest) p.1 in
     let f = and_parts (are_over s shown) (list_all (line_fits (stated_by known)) (inside ++ after)) r.fitting in
@@ -404,7 +404,7 @@ claim_inner known d i shown inner rest given goal r =
     }
 
 pub claim_rest : (known : List TitledStatement) (d : TheoremParser) (i : Inside) (n : ℕ) (shown : List Lit) (inner rest : Script) (given : List Lit) (goal : Goal) → n ≡ i.lines + 1 + size inner → Ready known d i (Claim shown inner rest) given goal
-    → Ready known d (resume i n (Claimed shown inner) shown) rest (joined_all given shown) goal
+    → Ready known d (resume i n (Claimed shown inner) shown) rest (with_facts given shown) goal
 unfolding NewNamesFit size depth
 claim_rest known d i n shown inner rest given goal e r =
     let p = claim_parts known d i shown inner rest given goal r in
@@ -452,8 +452,8 @@ pub record CopyParts (known : List TitledStatement) (i : Inside) (superposition 
   pub few : few_objects (named i.in_scope superposing.sorts_copied names) ≡ Ok tt
   pub plain_inner : is_plain inner ≡ true
   pub plain_rest : is_plain rest ≡ true
-  pub fit_inner : list_all (line_fits (stated_by known)) (placed_steps (stated_by known) inner inner (scope_of_names (named i.in_scope superposing.sorts_copied names)) (joined_all given (superposing.gives_of_superposition superposition (scope_of_names i.in_scope))) (goal_of shown)) ≡ true
-  pub fit_rest : list_all (line_fits (stated_by known)) (placed_steps (stated_by known) rest rest (scope_of_names i.in_scope) (joined_all given shown) goal) ≡ true
+  pub fit_inner : list_all (line_fits (stated_by known)) (placed_steps (stated_by known) inner inner (scope_of_names (named i.in_scope superposing.sorts_copied names)) (with_facts given (superposing.gives_of_superposition superposition (scope_of_names i.in_scope))) (goal_of shown)) ≡ true
+  pub fit_rest : list_all (line_fits (stated_by known)) (placed_steps (stated_by known) rest rest (scope_of_names i.in_scope) (with_facts given shown) goal) ≡ true
   pub good_inner : has_well_formed_literals inner ≡ true
   pub theorems_inner : names_theorems known inner ≡ true
   pub blanks_inner : few_blanks inner ≡ true
@@ -476,14 +476,14 @@ copy_parts known d i superposition names shown inner rest given goal r =
     let s = scope_of_names i.in_scope in
     let t = grown s superposing.sorts_copied in
     let gives = superposing.gives_of_superposition superposition s in
-    let begun = joined_all given gives in
+    let begun = with_facts given gives in
     let scope : t ≡ scope_of_names (named i.in_scope superposing.sorts_copied names) = named_scope i.in_scope superposing.sorts_copied names r.new_names.1 in
     let n = i.facts + length gives in
     let m = i.terms + count_monomials gives in
     let facts = i.facts + length shown in
     let terms = i.terms + count_monomials shown in
     let inside = placed_steps (stated_by known) inner inner t begun (goal_of shown) in
-    let after = placed_steps (stated_by known) rest rest s (joined_all given shown) goal in
+    let after = placed_steps (stated_by known) rest rest s (with_facts given shown) goal in
     let p = and_parts (list_all is_name names) (ltb 0 (length shown) && (is_plain inner && is_plain rest)) r.plain in
     let q = and_parts (ltb 0 (length shown)) (is_plain inner && is_plain rest) p.1 in
     let pp = and_parts (is_plain inner) (is_plain rest) q.1 in
@@ -524,7 +524,7 @@ copy_parts known d i superposition names shown inner rest given goal r =
     }
 
 pub copy_inner : (known : List TitledStatement) (d : TheoremParser) (i : Inside) (superposition : Superpose) (names : List (List ℕ)) (shown : List Lit) (inner rest : Script) (given : List Lit) (goal : Goal) → Ready known d i (Superposed superposition names shown [] inner rest) given goal
-    → Ready known d (copied i superposition names shown) inner (joined_all given (superposing.gives_of_superposition superposition (scope_of_names i.in_scope))) (goal_of shown)
+    → Ready known d (copied i superposition names shown) inner (with_facts given (superposing.gives_of_superposition superposition (scope_of_names i.in_scope))) (goal_of shown)
 unfolding NewNamesFit size depth
 copy_inner known d i superposition names shown inner rest given goal r =
     let p = copy_parts known d i superposition names shown inner rest given goal r in
@@ -544,7 +544,7 @@ copy_inner known d i superposition names shown inner rest given goal r =
     }
 
 pub copy_rest : (known : List TitledStatement) (d : TheoremParser) (i : Inside) (n : ℕ) (superposition : Superpose) (names : List (List ℕ)) (shown : List Lit) (inner rest : Script) (given : List Lit) (goal : Goal) → n ≡ i.lines + 1 + size inner
-    → Ready known d i (Superposed superposition names shown [] inner rest) given goal → Ready known d (resume i n (Copied superposition names shown [] inner) shown) rest (joined_all given shown) goal
+    → Ready known d i (Superposed superposition names shown [] inner rest) given goal → Ready known d (resume i n (Copied superposition names shown [] inner) shown) rest (with_facts given shown) goal
 unfolding NewNamesFit size depth
 copy_rest known d i n superposition names shown inner rest given goal e r =
     let p = copy_parts known d i superposition names shown inner rest given goal r in
@@ -593,8 +593,8 @@ pub record CasesParts (known : List TitledStatement) (i : Inside) (l : Lit) (one
   pub plain_first : is_plain one ≡ true
   pub plain_second : is_plain two ≡ true
   pub plain : PlainLit i.in_scope l
-  pub fit_first : list_all (line_fits (stated_by known)) (placed_steps (stated_by known) one one (scope_of_names i.in_scope) (joined given l) goal) ≡ true
-  pub fit_second : list_all (line_fits (stated_by known)) (placed_steps (stated_by known) two two (scope_of_names i.in_scope) (joined given (negation l)) goal) ≡ true
+  pub fit_first : list_all (line_fits (stated_by known)) (placed_steps (stated_by known) one one (scope_of_names i.in_scope) (with_fact given l) goal) ≡ true
+  pub fit_second : list_all (line_fits (stated_by known)) (placed_steps (stated_by known) two two (scope_of_names i.in_scope) (with_fact given (negation l)) goal) ≡ true
   pub good_first : has_well_formed_literals one ≡ true
   pub theorems_first : names_theorems known one ≡ true
   pub blanks_first : few_blanks one ≡ true
@@ -614,8 +614,8 @@ cases_parts known d i l one two given goal r =
     let s = scope_of_names i.in_scope in
     let n = i.facts + 1 in
     let m = i.terms + monomials l.atom in
-    let in_one = placed_steps (stated_by known) one one s (joined given l) goal in
-    let in_two = placed_steps (stated_by known) two two s (joined given (negation l)) goal in
+    let in_one = placed_steps (stated_by known) one one s (with_fact given l) goal in
+    let in_two = placed_steps (stated_by known) two two s (with_fact given (negation l)) goal in
     let p = and_parts (is_plain one) (is_plain two) r.plain in
     let f = and_parts (all_in_scope s l) (list_all (line_fits (stated_by known)) (in_one ++ in_two)) r.fitting in
     let ff = both_fit known in_one in_two f.1 in
@@ -647,7 +647,7 @@ cases_parts known d i l one two given goal r =
       terms_second = bb.1;
     }
 
-pub cases_first : (known : List TitledStatement) (d : TheoremParser) (i : Inside) (l : Lit) (one two : Script) (given : List Lit) (goal : Goal) → Ready known d i (Cases l one two) given goal → Ready known d (opens i l) one (joined given l) goal
+pub cases_first : (known : List TitledStatement) (d : TheoremParser) (i : Inside) (l : Lit) (one two : Script) (given : List Lit) (goal : Goal) → Ready known d i (Cases l one two) given goal → Ready known d (opens i l) one (with_fact given l) goal
 unfolding NewNamesFit size depth
 cases_first known d i l one two given goal r =
     let p = cases_parts known d i l one two given goal r in
@@ -667,7 +667,7 @@ cases_first known d i l one two given goal r =
     }
 
 pub cases_second : (known : List TitledStatement) (d : TheoremParser) (i : Inside) (n : ℕ) (l : Lit) (one two : Script) (given : List Lit) (goal : Goal) → n ≡ i.lines + 1 + size one → Ready known d i (Cases l one two) given goal
-    → Ready known d (second i n l one) two (joined given (negation l)) goal
+    → Ready known d (second i n l one) two (with_fact given (negation l)) goal
 unfolding NewNamesFit size depth
 cases_second known d i n l one two given goal e r =
     let p = cases_parts known d i l one two given goal r in
@@ -746,24 +746,24 @@ contradiction_taken known d i given goal r = record {
 
 pub run_script : (known : List TitledStatement) (d : TheoremParser) (i : Inside) (script : Script) (given : List Lit) (goal : Goal) → Ready known d i script given goal → Taken known d i script
 unfolding is_plain
-run_script known d i (Cite b rest) given goal r = cite_taken known d i b rest given goal r (run_script known d (after_step i (Cited b) 1) rest (joined given b.lit) goal (cite_ready known d i b rest given goal r))
-run_script known d i (Hence l None rest) given goal r = hence_taken known d i l rest given goal r (run_script known d (inferred i l) rest (joined given l) goal (hence_ready known d i l rest given goal r))
+run_script known d i (Cite b rest) given goal r = cite_taken known d i b rest given goal r (run_script known d (after_step i (Cited b) 1) rest (with_fact given b.lit) goal (cite_ready known d i b rest given goal r))
+run_script known d i (Hence l None rest) given goal r = hence_taken known d i l rest given goal r (run_script known d (inferred i l) rest (with_fact given l) goal (hence_ready known d i l rest given goal r))
 run_script known d i (Hence l (Some cert) rest) given goal r = absurd (no_cert r.plain)
 run_script known d i (Make construction names [] rest) given goal r =
-    make_taken known d i construction names rest given goal r (run_script known d (constructed i construction names) rest (joined_all given (gives_of_construction construction (scope_of_names i.in_scope))) goal (make_ready known d i construction names rest given goal r))
+    make_taken known d i construction names rest given goal r (run_script known d (constructed i construction names) rest (with_facts given (gives_of_construction construction (scope_of_names i.in_scope))) goal (make_ready known d i construction names rest given goal r))
 run_script known d i (Make construction names (c ∷ cs) rest) given goal r = absurd (no_cert r.plain)
 run_script known d i (Apply theorem args names [] rest) given goal r =
     let p = apply_parts known d i theorem args names rest given goal r in
     let t = theorem_of known theorem in
-    apply_taken known d i theorem args names rest given goal r (run_script known d (applied_after i t theorem args names) rest (joined_all given (gives_of_use t (written_args args) (scope_of_names i.in_scope))) goal p.next)
+    apply_taken known d i theorem args names rest given goal r (run_script known d (applied_after i t theorem args names) rest (with_facts given (gives_of_use t (written_args args) (scope_of_names i.in_scope))) goal p.next)
 run_script known d i (Apply theorem args names (c ∷ cs) rest) given goal r = absurd (no_cert r.plain)
 run_script known d i (Claim shown inner rest) given goal r =
     let t = run_script known d (deep i (kind.Claim shown) 0) inner given (goal_of shown) (claim_inner known d i shown inner rest given goal r) in
-    let u = run_script known d (resume i t.last.lines (Claimed shown inner) shown) rest (joined_all given shown) goal (claim_rest known d i t.last.lines shown inner rest given goal t.lines r) in
+    let u = run_script known d (resume i t.last.lines (Claimed shown inner) shown) rest (with_facts given shown) goal (claim_rest known d i t.last.lines shown inner rest given goal t.lines r) in
     claim_taken known d i shown inner rest given goal r t u
 run_script known d i (Superposed superposition names shown [] inner rest) given goal r =
-    let t = run_script known d (copied i superposition names shown) inner (joined_all given (superposing.gives_of_superposition superposition (scope_of_names i.in_scope))) (goal_of shown) (copy_inner known d i superposition names shown inner rest given goal r) in
-    let u = run_script known d (resume i t.last.lines (Copied superposition names shown [] inner) shown) rest (joined_all given shown) goal (copy_rest known d i t.last.lines superposition names shown inner rest given goal t.lines r) in
+    let t = run_script known d (copied i superposition names shown) inner (with_facts given (superposing.gives_of_superposition superposition (scope_of_names i.in_scope))) (goal_of shown) (copy_inner known d i superposition names shown inner rest given goal r) in
+    let u = run_script known d (resume i t.last.lines (Copied superposition names shown [] inner) shown) rest (with_facts given shown) goal (copy_rest known d i t.last.lines superposition names shown inner rest given goal t.lines r) in
     copy_taken known d i superposition names shown inner rest given goal r t u
 run_script known d i (Superposed superposition names shown (c ∷ cs) inner rest) given goal r = absurd (no_cert r.plain)
 run_script known d i (Qed os []) given goal r = qed_taken known d i os given goal r
@@ -771,6 +771,6 @@ run_script known d i (Qed os (c ∷ cs)) given goal r = absurd (no_cert r.plain)
 run_script known d i (Contradiction None) given goal r = contradiction_taken known d i given goal r
 run_script known d i (Contradiction (Some against)) given goal r = absurd (no_cert r.plain)
 run_script known d i (Cases l one two) given goal r =
-    let t = run_script known d (opens i l) one (joined given l) goal (cases_first known d i l one two given goal r) in
-    let u = run_script known d (second i t.last.lines l one) two (joined given (negation l)) goal (cases_second known d i t.last.lines l one two given goal t.lines r) in
+    let t = run_script known d (opens i l) one (with_fact given l) goal (cases_first known d i l one two given goal r) in
+    let u = run_script known d (second i t.last.lines l one) two (with_fact given (negation l)) goal (cases_second known d i t.last.lines l one two given goal t.lines r) in
     cases_taken known d i l one two given goal r t u

@@ -19,8 +19,8 @@ use Rattle.e_literal.specs.declared.literal.Lit.{Lit}
 use Rattle.e_literal.specs.Literal.{negation, is_in_scope, objects_of_atom, all_in_scope}
 use Rattle.e_literal.specs.Scopes.{grown, next_objects, are_of_sorts}
 use Rattle.e_literal.specs.WellFormed.{is_well_formed}
-use Rattle.e_literal.specs.Facts.{has, joined, joined_all}
-use Rattle.e_literal.specs.Rename.{mono_at, atom_at, number_at, renamed, image_in, paired}
+use Rattle.e_literal.specs.Facts.{has, with_fact, with_facts}
+use Rattle.e_literal.specs.Rename.{mono_at, atom_at, number_at, with_images, image_in, pairs_of}
 use Rattle.e_literal.specs.Use.{StatementView, is_statement, are_arguments, image_in_use, gives_of_use}
 use Rattle.e_literal.proofs.WithImages.{is_moved_in}
 use Rattle.e_literal.proofs.GrownScopes.{sorts_next}
@@ -77,15 +77,15 @@ either : (s : Scope) (facts : List Lit) (l : Lit) (n : ℕ) (b : Bool) → GoodF
 either s facts l n true g h = record { good = g.good; few = omega (arith, g.few) }
 either s facts l n false g h = record { good = all_both (is_well_formed_in s) facts (l ∷ []) g.good (rw h refl); few = omega (arith, g.few, one_more facts l) }
 
-good_joined : (s : Scope) (facts : List Lit) (l : Lit) (n : ℕ) → GoodFacts s facts n → is_well_formed_in s l ≡ true → GoodFacts s (joined facts l) (n + monomials l.atom)
-unfolding joined
+good_joined : (s : Scope) (facts : List Lit) (l : Lit) (n : ℕ) → GoodFacts s facts n → is_well_formed_in s l ≡ true → GoodFacts s (with_fact facts l) (n + monomials l.atom)
+unfolding with_fact
 good_joined s facts l n g h = either s facts l n (has facts l) g h
 
-pub all_joined : (s : Scope) (facts ls : List Lit) (n : ℕ) → GoodFacts s facts n → are_well_formed_in s ls ≡ true → GoodFacts s (joined_all facts ls) (n + count_monomials ls)
+pub all_joined : (s : Scope) (facts ls : List Lit) (n : ℕ) → GoodFacts s facts n → are_well_formed_in s ls ≡ true → GoodFacts s (with_facts facts ls) (n + count_monomials ls)
 all_joined s facts [] n g h = record { good = g.good; few = omega (arith, g.few) }
 all_joined s facts (l ∷ ls) n g h =
     let p = and_parts (is_well_formed_in s l) (are_well_formed_in s ls) h in
-    let r = all_joined s (joined facts l) ls (n + monomials l.atom) (good_joined s facts l n g p.0) p.1 in
+    let r = all_joined s (with_fact facts l) ls (n + monomials l.atom) (good_joined s facts l n g p.0) p.1 in
     record { good = r.good; few = omega (arith, r.few, count_first l ls) }
 
 -- ---- literals
@@ -133,7 +133,7 @@ good_goal before s sorts os [] w f h k = refl
 good_goal before s sorts os (l ∷ shown) w f h k =
     let p = and_parts (all_in_scope (grown before sorts) l) (list_all (all_in_scope (grown before sorts)) shown) h in
     let q = and_parts (is_well_formed l) (list_all is_well_formed shown) k in
-    let image = image_in (paired (next_objects before sorts) os) in
+    let image = image_in (pairs_of (next_objects before sorts) os) in
     let here = moved_lit s image l (every (is_in_scope (grown before sorts)) (is_moved_in s image) (λ o i. made_moved before s sorts os o f i (in_more before s w o)) (objects_of_atom l.atom) p.0) in
     rw (here, renamed_good image l q.0, good_goal before s sorts os shown w f p.1 q.1) refl
 
@@ -151,10 +151,10 @@ moved_monomials p l c (atoms.MagLt x y) = omega (arith, length-append x y, lengt
 moved_monomials p l c a = refl
 
 -- literals have as many monomials with other objects
-moved_count : (image : Obj → Option Obj) (ls : List Lit) → count_monomials (map (renamed image) ls) ≡ count_monomials ls
+moved_count : (image : Obj → Option Obj) (ls : List Lit) → count_monomials (map (with_images image) ls) ≡ count_monomials ls
 moved_count image [] = refl
 moved_count image (l ∷ ls) =
-    omega (arith, count_first l ls, count_first (renamed image l) (map (renamed image) ls), moved_count image ls, moved_monomials (number_at image kinds.Point) (number_at image kinds.Line) (number_at image kinds.Circle) l.atom)
+    omega (arith, count_first l ls, count_first (with_images image l) (map (with_images image) ls), moved_count image ls, moved_monomials (number_at image kinds.Point) (number_at image kinds.Line) (number_at image kinds.Circle) l.atom)
 
 -- ---- lines
 
@@ -186,7 +186,7 @@ room n b h = let p = and_parts (leb n most_terms) b h in (leb-true n most_terms 
 
 -- what a line gives that uses an earlier theorem
 good_gifts : (bs : List StatementView) (k : ℕ) (s : Scope) (args : List Obj) (facts : List Lit) (n : ℕ) → list_all is_statement bs ≡ true → ltb k (length bs) ≡ true → are_arguments (theorem_at bs k) s args ≡ true → GoodFacts s facts n
-    → GoodFacts (grown s (theorem_at bs k).made) (joined_all facts (gives_of_use (theorem_at bs k) args s)) (n + count_monomials (theorem_at bs k).shown)
+    → GoodFacts (grown s (theorem_at bs k).made) (with_facts facts (gives_of_use (theorem_at bs k) args s)) (n + count_monomials (theorem_at bs k).shown)
 good_gifts bs k s args facts n states lt fit g =
     let t = theorem_at bs k in
     let u = grown s t.made in
@@ -202,28 +202,28 @@ pub lines_good : (bs : List StatementView) → list_all is_statement bs ≡ true
     → list_all (line_fits bs) (placed_steps bs script g s other (goal_for before sorts shown)) ≡ true → LitsFit bs (placed_steps bs script f s facts (goal_for before sorts shown))
 unfolding placed_steps has_well_formed_literals few_terms
 lines_good bs states before sorts shown goal (Cite by rest) g f s other facts n good w le few h fit =
-    let p = and_parts (is_citation s by) (list_all (line_fits bs) (placed_steps bs rest (rest_of g) s (joined other by.lit) (goal_for before sorts shown))) fit in
+    let p = and_parts (is_citation s by) (list_all (line_fits bs) (placed_steps bs rest (rest_of g) s (with_fact other by.lit) (goal_for before sorts shown))) fit in
     let q = and_parts (is_diagram_lit by.lit) (has_well_formed_literals rest) h in
     let lit : is_well_formed_in s by.lit ≡ true = rw (cited_in_scope s by p.0, diagram_is_well_formed by.lit q.0) refl in
     let next = good_joined s facts by.lit n good lit in
-    let same : GoodFacts s (joined facts by.lit) n = record { good = next.good; few = omega (arith, next.few, no_monomials by.lit.atom q.0) } in
-    (facts_fit s facts n good le, λ is. (refl, lines_good bs states before sorts shown goal rest (rest_of g) (rest_of f) s (joined other by.lit) (joined facts by.lit) n same w le few q.1 p.1))
+    let same : GoodFacts s (with_fact facts by.lit) n = record { good = next.good; few = omega (arith, next.few, no_monomials by.lit.atom q.0) } in
+    (facts_fit s facts n good le, λ is. (refl, lines_good bs states before sorts shown goal rest (rest_of g) (rest_of f) s (with_fact other by.lit) (with_fact facts by.lit) n same w le few q.1 p.1))
 lines_good bs states before sorts shown goal (Hence lit cert rest) g f s other facts n good w le few h fit =
     let m = n + monomials lit.atom in
-    let p = and_parts (all_in_scope s lit) (list_all (line_fits bs) (placed_steps bs rest (rest_of g) s (joined other lit) (goal_for before sorts shown))) fit in
+    let p = and_parts (all_in_scope s lit) (list_all (line_fits bs) (placed_steps bs rest (rest_of g) s (with_fact other lit) (goal_for before sorts shown))) fit in
     let q = and_parts (is_well_formed lit) (has_well_formed_literals rest) h in
     let r = room m (few_terms bs m s rest) few in
     let here : is_well_formed_in s lit ≡ true = rw (p.0, q.0) refl in (
       facts_fit s facts n good le,
       λ is. (
         one_good s lit here,
-        lines_good bs states before sorts shown goal rest (rest_of g) (rest_of f) s (joined other lit) (joined facts lit) m (good_joined s facts lit n good here) w r.0 r.1 q.1 p.1,
+        lines_good bs states before sorts shown goal rest (rest_of g) (rest_of f) s (with_fact other lit) (with_fact facts lit) m (good_joined s facts lit n good here) w r.0 r.1 q.1 p.1,
       ),
     )
 lines_good bs states before sorts shown goal (Make construction names certs rest) g f s other facts n good w le few h fit =
     let t = grown s (sorts_made construction) in
-    let more = joined_all facts (gives_of_construction construction s) in
-    let p = and_parts (fits_construction construction s) (list_all (line_fits bs) (placed_steps bs rest (rest_of g) t (joined_all other (gives_of_construction construction s)) (goal_for before sorts shown))) fit in
+    let more = with_facts facts (gives_of_construction construction s) in
+    let p = and_parts (fits_construction construction s) (list_all (line_fits bs) (placed_steps bs rest (rest_of g) t (with_facts other (gives_of_construction construction s)) (goal_for before sorts shown))) fit in
     let larger : Within s t = grows s (sorts_made construction) in
     let start : GoodFacts t facts n = record { good = good_more s t larger facts good.good; few = good.few } in
     let next = all_joined t facts (gives_of_construction construction s) n start (gives_good construction s p.0) in
@@ -231,14 +231,14 @@ lines_good bs states before sorts shown goal (Make construction names certs rest
       facts_fit s facts n good le,
       λ is. (
         needs_good construction s p.0,
-        lines_good bs states before sorts shown goal rest (rest_of g) (rest_of f) t (joined_all other (gives_of_construction construction s)) more n same (λ sort. omega (arith, w sort, larger sort)) le few h p.1,
+        lines_good bs states before sorts shown goal rest (rest_of g) (rest_of f) t (with_facts other (gives_of_construction construction s)) more n same (λ sort. omega (arith, w sort, larger sort)) le few h p.1,
       ),
     )
 lines_good bs states before sorts shown goal (Apply theorem pattern names certs rest) g f s other facts n good w le few h fit =
     let t = theorem_at bs theorem in
     let u = grown s t.made in
     let m = n + count_monomials t.shown in
-    let p = and_parts (ltb theorem (length bs) && is_pattern t s pattern) (list_all (line_fits bs) (placed_steps bs rest (rest_of g) u (joined_all other (gives_of_use t (args_of g) s)) (goal_for before sorts shown))) fit in
+    let p = and_parts (ltb theorem (length bs) && is_pattern t s pattern) (list_all (line_fits bs) (placed_steps bs rest (rest_of g) u (with_facts other (gives_of_use t (args_of g) s)) (goal_for before sorts shown))) fit in
     let earlier : ltb theorem (length bs) ≡ true = (and_parts (ltb theorem (length bs)) (is_pattern t s pattern) p.0).0 in
     let r = room m (few_terms bs m u rest) few in
     let larger : Within s u = grows s t.made in
@@ -247,14 +247,14 @@ lines_good bs states before sorts shown goal (Apply theorem pattern names certs 
       facts_fit s facts n good le,
       λ is. (
         needs_of_use_good t (args_of f) s (stated_at bs theorem states earlier) (chosen is),
-        lines_good bs states before sorts shown goal rest (rest_of g) (rest_of f) u (joined_all other (gives_of_use t (args_of g) s)) (joined_all facts (gives_of_use t (args_of f) s)) m
+        lines_good bs states before sorts shown goal rest (rest_of g) (rest_of f) u (with_facts other (gives_of_use t (args_of g) s)) (with_facts facts (gives_of_use t (args_of f) s)) m
             (good_gifts bs theorem s (args_of f) facts n states earlier (chosen is) good) (λ sort. omega (arith, w sort, larger sort)) r.0 r.1 h p.1,
       ),
     )
 lines_good bs states before sorts shown goal (Claim claimed inner rest) g f s other facts n good w le few h fit =
     let m = n + count_monomials claimed in
     let inside = placed_steps bs inner (inner_of g) s other (goal_for s [] claimed) in
-    let after = placed_steps bs rest (rest_of g) s (joined_all other claimed) (goal_for before sorts shown) in
+    let after = placed_steps bs rest (rest_of g) s (with_facts other claimed) (goal_for before sorts shown) in
     let p = and_parts (are_over s claimed) (list_all (line_fits bs) (inside ++ after)) fit in
     let q = parted (line_fits bs) inside after p.1 in
     let l = and_parts (list_all is_well_formed claimed) (has_well_formed_literals inner && has_well_formed_literals rest) h in
@@ -266,9 +266,9 @@ lines_good bs states before sorts shown goal (Claim claimed inner rest) g f s ot
       facts_fit s facts n good le,
       λ is. (
         refl,
-        both_parts bs (placed_steps bs inner (inner_of f) s facts (goal_for s [] claimed)) (placed_steps bs rest (rest_of f) s (joined_all facts claimed) (goal_for before sorts shown))
+        both_parts bs (placed_steps bs inner (inner_of f) s facts (goal_for s [] claimed)) (placed_steps bs rest (rest_of f) s (with_facts facts claimed) (goal_for before sorts shown))
             (lines_good bs states s [] claimed own inner (inner_of g) (inner_of f) s other facts n good (λ sort. omega arith) le r.0 k.0 q.0)
-            (lines_good bs states before sorts shown goal rest (rest_of g) (rest_of f) s (joined_all other claimed) (joined_all facts claimed) m next w v.0 v.1 k.1 q.1),
+            (lines_good bs states before sorts shown goal rest (rest_of g) (rest_of f) s (with_facts other claimed) (with_facts facts claimed) m next w v.0 v.1 k.1 q.1),
       ),
     )
 lines_good bs states before sorts shown goal (Superposed superposition names copied certs inner rest) g f s other facts n good w le few h fit =
@@ -276,8 +276,8 @@ lines_good bs states before sorts shown goal (Superposed superposition names cop
     let given = superposing.gives_of_superposition superposition s in
     let i = n + count_monomials given in
     let m = n + count_monomials copied in
-    let inside = placed_steps bs inner (inner_of g) t (joined_all other given) (goal_for s [] copied) in
-    let after = placed_steps bs rest (rest_of g) s (joined_all other copied) (goal_for before sorts shown) in
+    let inside = placed_steps bs inner (inner_of g) t (with_facts other given) (goal_for s [] copied) in
+    let after = placed_steps bs rest (rest_of g) s (with_facts other copied) (goal_for before sorts shown) in
     let p = and_parts (superposing.fits_superposition superposition s && are_over s copied) (list_all (line_fits bs) (inside ++ after)) fit in
     let o = and_parts (superposing.fits_superposition superposition s) (are_over s copied) p.0 in
     let q = parted (line_fits bs) inside after p.1 in
@@ -294,9 +294,9 @@ lines_good bs states before sorts shown goal (Superposed superposition names cop
       facts_fit s facts n good le,
       λ is. (
         superposition_needs_good superposition s o.0,
-        both_parts bs (placed_steps bs inner (inner_of f) t (joined_all facts given) (goal_for s [] copied)) (placed_steps bs rest (rest_of f) s (joined_all facts copied) (goal_for before sorts shown))
-            (lines_good bs states s [] copied own inner (inner_of g) (inner_of f) t (joined_all other given) (joined_all facts given) i first larger a.0 r.0 k.0 q.0)
-            (lines_good bs states before sorts shown goal rest (rest_of g) (rest_of f) s (joined_all other copied) (joined_all facts copied) m next w v.0 v.1 k.1 q.1),
+        both_parts bs (placed_steps bs inner (inner_of f) t (with_facts facts given) (goal_for s [] copied)) (placed_steps bs rest (rest_of f) s (with_facts facts copied) (goal_for before sorts shown))
+            (lines_good bs states s [] copied own inner (inner_of g) (inner_of f) t (with_facts other given) (with_facts facts given) i first larger a.0 r.0 k.0 q.0)
+            (lines_good bs states before sorts shown goal rest (rest_of g) (rest_of f) s (with_facts other copied) (with_facts facts copied) m next w v.0 v.1 k.1 q.1),
       ),
     )
 lines_good bs states before sorts shown goal (Qed objects certs) g f s other facts n good w le few h fit =
@@ -306,8 +306,8 @@ lines_good bs states before sorts shown goal (Qed objects certs) g f s other fac
 lines_good bs states before sorts shown goal (Contradiction against) g f s other facts n good w le few h fit = (facts_fit s facts n good le, λ is. (refl, tt))
 lines_good bs states before sorts shown goal (Cases lit first second) g f s other facts n good w le few h fit =
     let m = n + monomials lit.atom in
-    let one = placed_steps bs first (inner_of g) s (joined other lit) (goal_for before sorts shown) in
-    let two = placed_steps bs second (rest_of g) s (joined other (negation lit)) (goal_for before sorts shown) in
+    let one = placed_steps bs first (inner_of g) s (with_fact other lit) (goal_for before sorts shown) in
+    let two = placed_steps bs second (rest_of g) s (with_fact other (negation lit)) (goal_for before sorts shown) in
     let p = and_parts (all_in_scope s lit) (list_all (line_fits bs) (one ++ two)) fit in
     let q = parted (line_fits bs) one two p.1 in
     let l = and_parts (is_well_formed lit) (has_well_formed_literals first && has_well_formed_literals second) h in
@@ -318,8 +318,8 @@ lines_good bs states before sorts shown goal (Cases lit first second) g f s othe
       facts_fit s facts n good le,
       λ is. (
         refl,
-        both_parts bs (placed_steps bs first (inner_of f) s (joined facts lit) (goal_for before sorts shown)) (placed_steps bs second (rest_of f) s (joined facts (negation lit)) (goal_for before sorts shown))
-            (lines_good bs states before sorts shown goal first (inner_of g) (inner_of f) s (joined other lit) (joined facts lit) m (good_joined s facts lit n good here) w a.0 r.0 k.0 q.0)
-            (lines_good bs states before sorts shown goal second (rest_of g) (rest_of f) s (joined other (negation lit)) (joined facts (negation lit)) m (good_joined s facts (negation lit) n good here) w a.0 r.1 k.1 q.1),
+        both_parts bs (placed_steps bs first (inner_of f) s (with_fact facts lit) (goal_for before sorts shown)) (placed_steps bs second (rest_of f) s (with_fact facts (negation lit)) (goal_for before sorts shown))
+            (lines_good bs states before sorts shown goal first (inner_of g) (inner_of f) s (with_fact other lit) (with_fact facts lit) m (good_joined s facts lit n good here) w a.0 r.0 k.0 q.0)
+            (lines_good bs states before sorts shown goal second (rest_of g) (rest_of f) s (with_fact other (negation lit)) (with_fact facts (negation lit)) m (good_joined s facts (negation lit) n good here) w a.0 r.1 k.1 q.1),
       ),
     )

@@ -10,7 +10,7 @@ use Rattle.e_literal.specs.declared.literal.Lit.{Lit}
 use Rattle.e_literal.specs.Literal.{negation, all_in_scope}
 use Rattle.e_literal.specs.Scopes.{grown}
 use Rattle.e_literal.specs.WellFormed.{is_well_formed}
-use Rattle.e_literal.specs.Facts.{joined, joined_all}
+use Rattle.e_literal.specs.Facts.{with_fact, with_facts}
 use Rattle.e_literal.specs.Use.{StatementView, scope_of, is_statement, gives_of_use}
 use Rattle.e_literal.proofs.Booleans.{all_both}
 use Rattle.e_construct.specs.Construct.{sorts_made, gives_of_construction}
@@ -58,12 +58,12 @@ few_named ns e =
 -- before each line few objects are in scope
 small_scopes : (bs : List StatementView) (script f : Script) (ns : Names) (facts : List Lit) (goal : Goal) → FewNamed ns → NewNamesFit bs ns script → list_all is_small_line (placed_steps bs script f (scope_of_names ns) facts goal) ≡ true
 unfolding placed_steps NewNamesFit
-small_scopes bs (Cite by rest) f ns facts goal few fit = and_from _ _ (few_is_small ns few) (small_scopes bs rest (rest_of f) ns (joined facts by.lit) goal few fit)
-small_scopes bs (Hence lit cert rest) f ns facts goal few fit = and_from _ _ (few_is_small ns few) (small_scopes bs rest (rest_of f) ns (joined facts lit) goal few fit)
+small_scopes bs (Cite by rest) f ns facts goal few fit = and_from _ _ (few_is_small ns few) (small_scopes bs rest (rest_of f) ns (with_fact facts by.lit) goal few fit)
+small_scopes bs (Hence lit cert rest) f ns facts goal few fit = and_from _ _ (few_is_small ns few) (small_scopes bs rest (rest_of f) ns (with_fact facts lit) goal few fit)
 small_scopes bs (Make construction names certs rest) f ns facts goal few fit =
     let s = scope_of_names ns in
     let after = named ns (sorts_made construction) names in
-    let more = joined_all facts (gives_of_construction construction s) in
+    let more = with_facts facts (gives_of_construction construction s) in
     let scopes : grown s (sorts_made construction) ≡ scope_of_names after = named_scope ns (sorts_made construction) names fit.1 in
     and_from _ _ (few_is_small ns few)
     (subst (λ (z : Scope). list_all is_small_line (placed_steps bs rest (rest_of f) z more goal) ≡ true) (sym scopes) (small_scopes bs rest (rest_of f) after more goal (few_named after fit.2) fit.3))
@@ -71,29 +71,29 @@ small_scopes bs (Apply theorem args names certs rest) f ns facts goal few fit =
     let s = scope_of_names ns in
     let t = theorem_at bs theorem in
     let after = named ns t.made names in
-    let more = joined_all facts (gives_of_use t (args_of f) s) in
+    let more = with_facts facts (gives_of_use t (args_of f) s) in
     let scopes : grown s t.made ≡ scope_of_names after = named_scope ns t.made names fit.1 in
     and_from _ _ (few_is_small ns few)
     (subst (λ (z : Scope). list_all is_small_line (placed_steps bs rest (rest_of f) z more goal) ≡ true) (sym scopes) (small_scopes bs rest (rest_of f) after more goal (few_named after fit.2) fit.3))
 small_scopes bs (Claim shown inner rest) f ns facts goal few fit =
     and_from _ _ (few_is_small ns few)
     (all_both is_small_line (placed_steps bs inner (inner_of f) (scope_of_names ns) facts (goal_of shown)) _ (small_scopes bs inner (inner_of f) ns facts (goal_of shown) few fit.0)
-    (small_scopes bs rest (rest_of f) ns (joined_all facts shown) goal few fit.1))
+    (small_scopes bs rest (rest_of f) ns (with_facts facts shown) goal few fit.1))
 small_scopes bs (Superposed superposition names shown certs inner rest) f ns facts goal few fit =
     let s = scope_of_names ns in
     let after = named ns superposing.sorts_copied names in
-    let more = joined_all facts (superposing.gives_of_superposition superposition s) in
+    let more = with_facts facts (superposing.gives_of_superposition superposition s) in
     let scopes : grown s superposing.sorts_copied ≡ scope_of_names after = named_scope ns superposing.sorts_copied names fit.1 in
     let inside : list_all is_small_line (placed_steps bs inner (inner_of f) (grown s superposing.sorts_copied) more (goal_of shown)) ≡ true =
     subst (λ (z : Scope). list_all is_small_line (placed_steps bs inner (inner_of f) z more (goal_of shown)) ≡ true) (sym scopes) (small_scopes bs inner (inner_of f) after more (goal_of shown) (few_named after fit.2) fit.3) in
     and_from _ _ (few_is_small ns few)
-    (all_both is_small_line (placed_steps bs inner (inner_of f) (grown s superposing.sorts_copied) more (goal_of shown)) _ inside (small_scopes bs rest (rest_of f) ns (joined_all facts shown) goal few fit.4))
+    (all_both is_small_line (placed_steps bs inner (inner_of f) (grown s superposing.sorts_copied) more (goal_of shown)) _ inside (small_scopes bs rest (rest_of f) ns (with_facts facts shown) goal few fit.4))
 small_scopes bs (Qed objects certs) f ns facts goal few fit = and_from _ _ (few_is_small ns few) refl
 small_scopes bs (Contradiction against) f ns facts goal few fit = and_from _ _ (few_is_small ns few) refl
 small_scopes bs (Cases lit first second) f ns facts goal few fit =
     and_from _ _ (few_is_small ns few)
-    (all_both is_small_line (placed_steps bs first (inner_of f) (scope_of_names ns) (joined facts lit) goal) _ (small_scopes bs first (inner_of f) ns (joined facts lit) goal few fit.0)
-    (small_scopes bs second (rest_of f) ns (joined facts (negation lit)) goal few fit.1))
+    (all_both is_small_line (placed_steps bs first (inner_of f) (scope_of_names ns) (with_fact facts lit) goal) _ (small_scopes bs first (inner_of f) ns (with_fact facts lit) goal few fit.0)
+    (small_scopes bs second (rest_of f) ns (with_fact facts (negation lit)) goal few fit.1))
 
 -- ---- the statement
 

@@ -9,7 +9,7 @@ use Rattle.e_literal.specs.declared.object.Obj.{Obj}
 use Rattle.e_literal.specs.declared.object.Scope.{Scope}
 use Rattle.e_literal.specs.declared.literal.Lit.{Lit}
 use Rattle.e_literal.specs.Literal.{negation, all_in_scope}
-use Rattle.e_literal.specs.Facts.{joined, joined_all}
+use Rattle.e_literal.specs.Facts.{with_fact, with_facts}
 use Rattle.e_literal.specs.Scopes.{grown, are_of_sorts}
 use Rattle.e_literal.specs.WellFormed.{is_well_formed}
 use Rattle.e_literal.specs.Use.{StatementView, gives_of_use}
@@ -51,8 +51,8 @@ abbrev pub scope_at : Spot → Scope
 scope_at at = scope_of_names at.names
 
 -- with the facts that these literals are too
-abbrev pub with_facts : Spot → List Lit → Spot
-with_facts at ls = spot at.before at.names (at.facts + length ls) (at.terms + count_monomials ls)
+abbrev pub spot_with_facts : Spot → List Lit → Spot
+spot_with_facts at ls = spot at.before at.names (at.facts + length ls) (at.terms + count_monomials ls)
 
 -- where the first line of a superposition's block stands
 abbrev pub with_copies : Spot → Superpose → List (List ℕ) → Spot
@@ -135,7 +135,7 @@ pub fits_cited : (at : Spot) (sorts : List Sort) (level : ℕ) (by : By) (rest :
     → ScriptFits (spot at.before at.names (at.facts + 1) at.terms) sorts level rest → ScriptFits at sorts level (Cite by rest)
 unfolding placed_steps NewNamesFit has_well_formed_literals few_facts few_terms few_blanks depth
 fits_cited at sorts level by rest cited plain le r = record {
-  forms = λ f known goal m. and_from _ _ cited (r.forms (rest_of f) (joined known by.lit) goal m);
+  forms = λ f known goal m. and_from _ _ cited (r.forms (rest_of f) (with_fact known by.lit) goal m);
   new_names = r.new_names;
   literals = and_from _ _ plain r.literals;
   facts = few _ _ _ le r.facts;
@@ -148,7 +148,7 @@ pub fits_inferred : (at : Spot) (sorts : List Sort) (level : ℕ) (lit : Lit) (r
     → at.terms + monomials lit.atom ≤ most_terms → ScriptFits (with_lit at lit) sorts level rest → ScriptFits at sorts level (Hence lit None rest)
 unfolding placed_steps NewNamesFit has_well_formed_literals few_facts few_terms few_blanks depth
 fits_inferred at sorts level lit rest over good le lt r = record {
-  forms = λ f known goal m. and_from _ _ over (r.forms (rest_of f) (joined known lit) goal m);
+  forms = λ f known goal m. and_from _ _ over (r.forms (rest_of f) (with_fact known lit) goal m);
   new_names = r.new_names;
   literals = and_from _ _ good r.literals;
   facts = few _ _ _ le r.facts;
@@ -166,7 +166,7 @@ fits_made at sorts level construction names certs rest g objects le r =
     let n = at.facts + length (gives_of_construction construction s) in
     let scopes : grown s (sorts_made construction) ≡ scope_of_names (named at.names (sorts_made construction) names) = named_scope at.names (sorts_made construction) names g.count in
     record {
-      forms = λ f known goal m. let more = joined_all known (gives_of_construction construction s) in
+      forms = λ f known goal m. let more = with_facts known (gives_of_construction construction s) in
           and_from _ _ g.fits (subst (λ (z : Scope). list_all (line_fits at.before) (placed_steps at.before rest (rest_of f) z more goal) ≡ true) (sym scopes) (r.forms (rest_of f) more goal m));
       new_names = (g.free, g.count, objects, r.new_names);
       literals = r.literals;
@@ -184,7 +184,7 @@ fits_applied at sorts level theorem args names certs rest u r =
     let t = theorem_at at.before theorem in
     let scopes : grown s t.made ≡ scope_of_names (named at.names t.made names) = named_scope at.names t.made names u.count in
     record {
-      forms = λ f known goal m. let more = joined_all known (gives_of_use t (args_of f) s) in
+      forms = λ f known goal m. let more = with_facts known (gives_of_use t (args_of f) s) in
           and_from _ _ (and_from _ _ u.earlier u.entries) (subst (λ (z : Scope). list_all (line_fits at.before) (placed_steps at.before rest (rest_of f) z more goal) ≡ true) (sym scopes) (r.forms (rest_of f) more goal m));
       new_names = (u.free, u.count, u.objects, r.new_names);
       literals = r.literals;
@@ -195,10 +195,10 @@ fits_applied at sorts level theorem args names certs rest u r =
     }
 
 pub fits_claimed : (at : Spot) (sorts : List Sort) (level : ℕ) (shown : List Lit) (inner rest : Script) → ShownFit at shown → ScriptFits at [] (level + 1) inner
-    → at.facts + length shown ≤ most_facts → at.terms + count_monomials shown ≤ most_terms → ScriptFits (with_facts at shown) sorts level rest → ScriptFits at sorts level (Claim shown inner rest)
+    → at.facts + length shown ≤ most_facts → at.terms + count_monomials shown ≤ most_terms → ScriptFits (spot_with_facts at shown) sorts level rest → ScriptFits at sorts level (Claim shown inner rest)
 unfolding placed_steps NewNamesFit has_well_formed_literals few_facts few_terms few_blanks depth
 fits_claimed at sorts level shown inner rest s i le lt r = record {
-  forms = λ f known goal m. and_from _ _ s.over (all_both (line_fits at.before) (placed_steps at.before inner (inner_of f) (scope_at at) known (goal_of shown)) _ (i.forms (inner_of f) known (goal_of shown) refl) (r.forms (rest_of f) (joined_all known shown) goal m));
+  forms = λ f known goal m. and_from _ _ s.over (all_both (line_fits at.before) (placed_steps at.before inner (inner_of f) (scope_at at) known (goal_of shown)) _ (i.forms (inner_of f) known (goal_of shown) refl) (r.forms (rest_of f) (with_facts known shown) goal m));
   new_names = (i.new_names, r.new_names);
   literals = and_from _ _ s.good (and_from _ _ i.literals r.literals);
   facts = and_from _ _ i.facts (few _ _ _ le r.facts);
@@ -209,7 +209,7 @@ fits_claimed at sorts level shown inner rest s i le lt r = record {
 
 pub fits_copied : (at : Spot) (sorts : List Sort) (level : ℕ) (superposition : Superpose) (names : List (List ℕ)) (shown : List Lit) (certs : List Cert) (inner rest : Script) → CopyFits at superposition names
     → ShownFit at shown → ScriptFits (with_copies at superposition names) [] (level + 1) inner → at.facts + length shown ≤ most_facts → at.terms + count_monomials shown ≤ most_terms
-    → ScriptFits (with_facts at shown) sorts level rest → ScriptFits at sorts level (Superposed superposition names shown certs inner rest)
+    → ScriptFits (spot_with_facts at shown) sorts level rest → ScriptFits at sorts level (Superposed superposition names shown certs inner rest)
 unfolding placed_steps NewNamesFit has_well_formed_literals few_facts few_terms few_blanks depth
 fits_copied at sorts level superposition names shown certs inner rest c s i le lt r =
     let scope = scope_at at in
@@ -217,11 +217,11 @@ fits_copied at sorts level superposition names shown certs inner rest c s i le l
     let n = at.facts + length given in
     let t = at.terms + count_monomials given in
     let scopes : grown scope superposing.sorts_copied ≡ scope_of_names (named at.names superposing.sorts_copied names) = named_scope at.names superposing.sorts_copied names c.count in
-    let inside : (f : Script) (known : List Lit) → list_all (line_fits at.before) (placed_steps at.before inner f (grown scope superposing.sorts_copied) (joined_all known given) (goal_of shown)) ≡ true = λ f known.
-    subst (λ (z : Scope). list_all (line_fits at.before) (placed_steps at.before inner f z (joined_all known given) (goal_of shown)) ≡ true) (sym scopes) (i.forms f (joined_all known given) (goal_of shown) refl) in
+    let inside : (f : Script) (known : List Lit) → list_all (line_fits at.before) (placed_steps at.before inner f (grown scope superposing.sorts_copied) (with_facts known given) (goal_of shown)) ≡ true = λ f known.
+    subst (λ (z : Scope). list_all (line_fits at.before) (placed_steps at.before inner f z (with_facts known given) (goal_of shown)) ≡ true) (sym scopes) (i.forms f (with_facts known given) (goal_of shown) refl) in
     record {
       forms = λ f known goal m. and_from _ _ (and_from _ _ c.fits s.over)
-          (all_both (line_fits at.before) (placed_steps at.before inner (inner_of f) (grown scope superposing.sorts_copied) (joined_all known given) (goal_of shown)) _ (inside (inner_of f) known) (r.forms (rest_of f) (joined_all known shown) goal m));
+          (all_both (line_fits at.before) (placed_steps at.before inner (inner_of f) (grown scope superposing.sorts_copied) (with_facts known given) (goal_of shown)) _ (inside (inner_of f) known) (r.forms (rest_of f) (with_facts known shown) goal m));
       new_names = (c.free, c.count, c.objects, i.new_names, r.new_names);
       literals = and_from _ _ s.good (and_from _ _ i.literals r.literals);
       facts = few _ _ _ c.facts (and_from _ _ (subst (λ (z : Scope). few_facts at.before n z inner ≡ true) (sym scopes) i.facts) (few _ _ _ le r.facts));
@@ -261,7 +261,7 @@ pub fits_split : (at : Spot) (sorts : List Sort) (level : ℕ) (lit : Lit) (firs
 unfolding placed_steps NewNamesFit has_well_formed_literals few_facts few_terms few_blanks depth
 fits_split at sorts level lit first second s a b = record {
   forms = λ f known goal m. and_from _ _ s.over
-      (all_both (line_fits at.before) (placed_steps at.before first (inner_of f) (scope_at at) (joined known lit) goal) _ (a.forms (inner_of f) (joined known lit) goal m) (b.forms (rest_of f) (joined known (negation lit)) goal m));
+      (all_both (line_fits at.before) (placed_steps at.before first (inner_of f) (scope_at at) (with_fact known lit) goal) _ (a.forms (inner_of f) (with_fact known lit) goal m) (b.forms (rest_of f) (with_fact known (negation lit)) goal m));
   new_names = (a.new_names, b.new_names);
   literals = and_from _ _ s.good (and_from _ _ a.literals b.literals);
   facts = few _ _ _ s.facts (and_from _ _ a.facts b.facts);

@@ -10,13 +10,13 @@ use Rattle.e_literal.specs.declared.literal.Lit.{Lit}
 use Rattle.e_literal.specs.Literal.{obj, count_of, is_in_scope}
 use Rattle.e_literal.specs.Scopes.{same_sort, with_one, grown, next_objects, are_of_sorts}
 use Rattle.e_literal.specs.WellFormed.{is_well_formed}
-use Rattle.e_literal.specs.Rename.{renamed, same_obj, image_in, paired}
+use Rattle.e_literal.specs.Rename.{with_images, same_obj, image_in, pairs_of}
 use Rattle.e_literal.proofs.WithImages.{is_moved_in, renamed_well_formed}
 use Rattle.e_literal.proofs.Sorts.{same_sort_is}
 
 -- ---- well formed
 
-pub renamed_good : (image : Obj → Option Obj) (l : Lit) → is_well_formed l ≡ true → is_well_formed (renamed image l) ≡ true
+pub renamed_good : (image : Obj → Option Obj) (l : Lit) → is_well_formed l ≡ true → is_well_formed (with_images image l) ≡ true
 renamed_good image l h = renamed_well_formed image l ∙ h
 
 -- ---- made objects
@@ -47,7 +47,7 @@ first_or c n t rest false h k = k refl
 
 -- with objects in scope for the made ones, where all others are in scope
 pub made_moved : (before s : Scope) (sorts : List Sort) (os : List Obj) (o : Obj) → are_of_sorts s sorts os ≡ true → is_in_scope (grown before sorts) o ≡ true → (is_in_scope before o ≡ true → is_in_scope s o ≡ true)
-    → is_moved_in s (image_in (paired (next_objects before sorts) os)) o ≡ true
+    → is_moved_in s (image_in (pairs_of (next_objects before sorts) os)) o ≡ true
 made_moved before s [] [] o f i w = w i
 made_moved before s [] (t ∷ os) o f i w = absurd cc
 made_moved before s (x ∷ sorts) [] o f i w = absurd cc
@@ -57,5 +57,5 @@ made_moved before s (x ∷ sorts) (t ∷ os) o f i w =
     let new : Obj = obj x (count_of before x) in
     let image : same_obj new o ≡ true → ltb t.num (count_of s o.sort) ≡ true = λ e.
     subst (λ (y : Sort). ltb t.num (count_of s y) ≡ true) (sym (same_sort_is x t.sort p.0) ∙ same_sort_is x o.sort (and_parts (same_sort x o.sort) (eqb (count_of before x) o.num) e).0) q.0 in
-    first_or (count_of s o.sort) o.num t (image_in (paired (next_objects (with_one before x) sorts) os) o) (same_obj new o) image
+    first_or (count_of s o.sort) o.num t (image_in (pairs_of (next_objects (with_one before x) sorts) os) o) (same_obj new o) image
     (λ e. made_moved (with_one before x) s sorts os o q.1 i (λ j. w (not_new before x o.sort o.num e j)))

@@ -7,7 +7,7 @@ use Rattle.e_text.specs.declared.line.LineEnd.{LineEnd}
 use Rattle.e_text.specs.declared.line.LineEnd.TheVariants.{TextEnd}
 use Rattle.e_text.specs.declared.line.LineFault.{LineFault}
 use Rattle.e_text.specs.Tokens.{tokens_of}
-use Rattle.e_text.specs.Lines.{is_lf, Bounds, Spot, LineView, HaveNoFault, checked, line_before_lf, ended, lines_of}
+use Rattle.e_text.specs.Lines.{is_lf, Bounds, Spot, LineView, HaveNoFault, line_or_fault, line_before_lf, ended, lines_of}
 use Rattle.e_text.proofs.FirstLine.{then_lines}
 use Rattle.e_text.proofs.LinesOfTexts.{lines_of-closed, lines_of-open, next_spot}
 use Rattle.e_line.specs.declared.fault.BookFault.{BookFault}
@@ -98,12 +98,12 @@ good_accepted lines ts n h = good_taken _ nothing_known lines ts h.known h.rest 
 
 -- ---- a text without a faulty line is short enough
 
-not_passed : (w : Bounds) (at : Spot) (bytes : List ℕ) (end : LineEnd) (later : ℕ) (rest : Rest) → w.most < later → HaveNoFault (then_lines (checked w at bytes end later) rest) → ⊥
+not_passed : (w : Bounds) (at : Spot) (bytes : List ℕ) (end : LineEnd) (later : ℕ) (rest : Rest) → w.most < later → HaveNoFault (then_lines (line_or_fault w at bytes end later) rest) → ⊥
 not_passed w at bytes end later rest far good =
     let test : ltb w.most later ≡ true = lt-ltb _ _ far in
     rw test at good
 
-not_passed_alone : (w : Bounds) (at : Spot) (bytes : List ℕ) (end : LineEnd) (later : ℕ) → w.most < later → HaveNoFault (checked w at bytes end later ∷ []) → ⊥
+not_passed_alone : (w : Bounds) (at : Spot) (bytes : List ℕ) (end : LineEnd) (later : ℕ) → w.most < later → HaveNoFault (line_or_fault w at bytes end later ∷ []) → ⊥
 not_passed_alone w at bytes end later far good =
     let test : ltb w.most later ≡ true = lt-ltb _ _ far in
     rw test at good

@@ -16,7 +16,7 @@ use Rattle.e_text.specs.Lines.{is_lf, IsOpen, ends_in_cr, Bounds, Spot, LineView
 use Rattle.e_text.specs.Names.{is_digit}
 use Rattle.e_text.specs.Numerals.{is_numeral}
 use Rattle.e_text.specs.Tokens.{is_blank, has_bytes, is_token, tokens_of}
-use Rattle.e_text.proofs.FirstLine.{then_lines, split_more, parts_of, seen-checked}
+use Rattle.e_text.proofs.FirstLine.{then_lines, split_more, parts_of, seen-line_or_fault}
 use Rattle.e_text.proofs.LinesOfTexts.{next_spot}
 use Rattle.e_text.proofs.TokenWords.{tokens_of-spaced}
 use Rattle.e_text.proofs.NumeralWords.{is_numeral-decimal}
@@ -147,7 +147,7 @@ titles_by (Ok l) more bytes k same c good = ap (λ (x : ℕ). x + titles more) (
 titles_by (Err f) more bytes k same c good = absurd good
 
 closed_bytes : (w : Bounds) (at : Spot) (part : List ℕ) (l : LineView) → line_before_lf w at part ≡ Ok l → l.bytes ≡ (ended part []).0
-closed_bytes w at part l e = ap (λ (x : LineView). x.bytes) (sym (seen-checked w at (ended part []).0 (ended part []).1 (at.before + length part + 1) l e))
+closed_bytes w at part l e = ap (λ (x : LineView). x.bytes) (sym (seen-line_or_fault w at (ended part []).0 (ended part []).1 (at.before + length part + 1) l e))
 
 adds_line : (part : List ℕ) (k : ℕ) → IsOpen part → one_if (has_title (tokens_of (ended part []).0)) ≡ k → Adds k (part ++ 10 ∷ [])
 adds_line part k h c = λ w at rest good.

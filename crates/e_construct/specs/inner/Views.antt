@@ -4,7 +4,7 @@ use Rattle.e_literal.specs.declared.object.Obj.{Obj}
 use Rattle.e_literal.specs.declared.literal.Lit.{Lit}
 use Rattle.e_literal.specs.declared.literal.Atom.{Atom}
 use Rattle.e_literal.specs.declared.literal.Atom.TheVariants as atom
-use Rattle.e_literal.specs.Rename.{image_in, paired}
+use Rattle.e_literal.specs.Rename.{image_in, pairs_of}
 use Rattle.e_construct.specs.declared.pattern.Relation.{Relation}
 use Rattle.e_construct.specs.declared.pattern.Relation.TheVariants.{On, OnC, Inside, Center}
 use Rattle.e_construct.specs.declared.pattern.Relation.TheVariants.{Between, Same, MeetLL, MeetLC}
@@ -51,4 +51,4 @@ shape_row_view r =
 -- the objects for the variables: the arguments, and the new objects
 abbrev pub image_of : Naming → Obj → Option Obj
 image_of n =
-    image_in (paired n.letters.now n.objects.now ++ paired n.new_letters.now n.new_objects.now)
+    image_in (pairs_of n.letters.now n.objects.now ++ pairs_of n.new_letters.now n.new_objects.now)

@@ -7,7 +7,7 @@ use Rattle.e_literal.specs.declared.literal.Lit.{Lit}
 use Rattle.e_literal.specs.declared.map.Entry.{Entry}
 use Rattle.e_literal.specs.Literal.{obj, count_of}
 use Rattle.e_literal.specs.Facts.{is_metric}
-use Rattle.e_literal.specs.Rename.{image_in, renamed, paired}
+use Rattle.e_literal.specs.Rename.{image_in, with_images, pairs_of}
 use Rattle.e_clause.specs.Allowed.{Allowed, AllAllowed}
 use Rattle.e_clause.specs.LimitedFacts.{is_well_formed_in}
 use Rattle.e_clause.specs.Wide.{IsTooWideLit}
@@ -51,7 +51,7 @@ spans_of s _ _ = []
 
 -- the images of the objects
 abbrev pub images_of_choice : Scope → List Obj → List (Option Obj) → List ℕ → List Entry
-images_of_choice s os entries c = paired os (filled_arguments s os entries c)
+images_of_choice s os entries c = pairs_of os (filled_arguments s os entries c)
 
 -- ---- what is licensed at the first numbers of a choice
 
@@ -67,15 +67,15 @@ are_metric relations.Metric = true
 abbrev pub AllBound : Basis → List Entry → List Lit → Type 0
 AllBound b now [] = Unit {0}
 AllBound b now (l ∷ ls) =
-    (IsTrue (is_well_formed_in b.scope (renamed (image_in now) l))
-    → Allowed b.scope b.facts (renamed (image_in now) l)) × AllBound b now ls
+    (IsTrue (is_well_formed_in b.scope (with_images (image_in now) l))
+    → Allowed b.scope b.facts (with_images (image_in now) l)) × AllBound b now ls
 
 -- the same of the metric literals alone, or of the others
 abbrev pub AllBoundOf : Basis → List Entry → Bool → List Lit → Type 0
 AllBoundOf b now metric [] = Unit {0}
 AllBoundOf b now metric (l ∷ ls) =
-    (is_metric l ≡ metric → IsTrue (is_well_formed_in b.scope (renamed (image_in now) l))
-    → Allowed b.scope b.facts (renamed (image_in now) l)) × AllBoundOf b now metric ls
+    (is_metric l ≡ metric → IsTrue (is_well_formed_in b.scope (with_images (image_in now) l))
+    → Allowed b.scope b.facts (with_images (image_in now) l)) × AllBoundOf b now metric ls
 
 -- of a whole choice each literal is allowed; of the first numbers of one nothing is known
 abbrev pub IsKeptChoice : Basis → List Obj → List (Option Obj) → List Lit → List ℕ → Type 0
@@ -87,7 +87,7 @@ IsKeptChoice b os entries given part =
 abbrev pub IsWanted : Basis → List Obj → List (Option Obj) → List Lit → List ℕ → Type 0
 IsWanted b os entries given c =
     FitsSpans (spans_of b.scope os entries) c × AllAllowed b.scope b.facts
-    (map (renamed (image_in (images_of_choice b.scope os entries c))) given)
+    (map (with_images (image_in (images_of_choice b.scope os entries c))) given)
 
 -- all objects of the literal are in scope, and it is not allowed
 pub record IsRefused (b : Basis) (image : Lit) : Type 0 where
@@ -101,10 +101,10 @@ pub record IsWideImage (b : Basis) (image : Lit) (w : ℕ) : Type 0 where
 
 -- the same of the literal by the images of its objects
 abbrev pub IsRefusedAt : Basis → List Entry → Lit → Type 0
-IsRefusedAt b now l = IsRefused b (renamed (image_in now) l)
+IsRefusedAt b now l = IsRefused b (with_images (image_in now) l)
 
 abbrev pub IsWideUnder : Basis → List Entry → Lit → ℕ → Type 0
-IsWideUnder b now l w = IsWideImage b (renamed (image_in now) l) w
+IsWideUnder b now l w = IsWideImage b (with_images (image_in now) l) w
 
 -- one of the literals is so
 pub record SomeIsRefusedAt (b : Basis) (now : List Entry) (ls : List Lit) : Type 0 where
@@ -125,7 +125,7 @@ KnownIs b image verdict.No = IsRefused b image
 KnownIs b image (verdict.TooWide w) = IsWideImage b image w
 
 abbrev pub OneIs : Basis → List Entry → Lit → Verdict (Unit {0}) → Type 0
-OneIs b now l v = KnownIs b (renamed (image_in now) l) v
+OneIs b now l v = KnownIs b (with_images (image_in now) l) v
 
 -- what is answered on the metric ones, or on the others, where all these are asked or some
 abbrev pub AreIs : Basis → List Entry → Bool → Bool → List Lit → Verdict (Unit {0}) → Type 0

@@ -2,7 +2,7 @@
 use Rattle.std.specs.Prelude.{◌≡◌, ℕ, ◌<◌, ◌≤◌, ◌⊎◌, List, Bool, true, Option, Some, slice_get}
 use Rattle.e_literal.specs.declared.object.Obj.{Obj}
 use Rattle.e_literal.specs.declared.literal.Lit.{Lit}
-use Rattle.e_literal.specs.Rename.{image_in, renamed}
+use Rattle.e_literal.specs.Rename.{image_in, with_images}
 use Rattle.e_clause.specs.Allowed.{Allowed}
 use Rattle.e_transfer.specs.declared.walk.Span.{Span}
 use Rattle.e_transfer.specs.Choice.{FitsSpans}
@@ -43,7 +43,7 @@ choosing b = record {
 }
 
 abbrev pub lit_with : Choosing → List ℕ → Lit → Lit
-lit_with g c l = renamed (image_in (images_of_choice g.basis.scope g.objects g.entries c)) l
+lit_with g c l = with_images (image_in (images_of_choice g.basis.scope g.objects g.entries c)) l
 
 abbrev pub spans_with : Choosing → List Span
 spans_with g = spans_of g.basis.scope g.objects g.entries

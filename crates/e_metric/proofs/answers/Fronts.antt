@@ -6,7 +6,7 @@ use Rattle.std.proofs.lemmas.List.{take_all, take-take, take-append-le, length-t
 use Rattle.e_literal.specs.declared.object.Kind.{Kind}
 use Rattle.e_literal.specs.declared.object.Kind.TheVariants.{Segment, Angle, Area as AreaKind}
 use Rattle.e_literal.specs.declared.literal.Lit.{Lit}
-use Rattle.e_literal.specs.Facts.{has, joined}
+use Rattle.e_literal.specs.Facts.{has, with_fact}
 use Rattle.e_clause.specs.declared.cert.MetricCert.{MetricCert}
 use Rattle.e_clause.specs.System.{of_kind, against_goal}
 use Rattle.e_metric.specs.declared.consequence.Metric.{Metric}
@@ -91,13 +91,13 @@ fronts_more facts more m h = record {
 }
 
 -- a fact that joins them changes nothing
-pub fronts_joined : (facts : List Lit) (l : Lit) (m : MetricFacts) → AreFronts facts m → AreFronts (joined facts l) m
-unfolding joined
+pub fronts_joined : (facts : List Lit) (l : Lit) (m : MetricFacts) → AreFronts facts m → AreFronts (with_fact facts l) m
+unfolding with_fact
 fronts_joined facts l m h = by (has facts l)
   where
     by : (b : Bool) → AreFronts (cond b facts (facts ++ l ∷ [])) m
     by true = h
     by false = fronts_more facts (l ∷ []) m h
 
-pub fronts_joined_at : (facts new : List Lit) (l : Lit) (m : MetricFacts) → AreFronts facts m → new ≡ joined facts l → AreFronts new m
+pub fronts_joined_at : (facts new : List Lit) (l : Lit) (m : MetricFacts) → AreFronts facts m → new ≡ with_fact facts l → AreFronts new m
 fronts_joined_at facts new l m h e = subst (λ v. AreFronts v m) (sym e) (fronts_joined facts l m h)

@@ -12,7 +12,7 @@ use Rattle.e_literal.specs.declared.literal.Lit.{Lit}
 use Rattle.e_literal.specs.Literal.{all_in_scope}
 use Rattle.e_literal.specs.WellFormed.{is_well_formed}
 use Rattle.e_literal.specs.Scopes.{are_of_sorts}
-use Rattle.e_literal.specs.Rename.{renamed}
+use Rattle.e_literal.specs.Rename.{with_images}
 use Rattle.e_literal.specs.Use.{is_statement, are_arguments, image_in_use}
 use Rattle.e_clause.specs.LimitedFacts.{is_well_formed_in, are_well_formed_in}
 use Rattle.e_theorem.specs.declared.notion.Notion.{Notion}
@@ -136,7 +136,7 @@ is_known_one notions title n all e = notion_at notions title n all (known_is (no
 meant_some : (notions : List Titled) (ns : Names) (most : ℕ) (raw : RawAs) (ls : List Lit) → 0 < most → Meant notions ns most raw ls → 0 < length ls
 meant_some notions ns most raw ls room m =
     let some = ltb-true 0 (length m.notion.means) (and_parts (means_something m.notion) (is_small_statement (as_stated m.notion)) m.is_one).0 in
-    omega (arith, room, some, ap (λ (x : List Lit). length x) m.are, length-take most (expanded m.notion m.args (scope_of_names ns)), length-map m.notion.means (renamed (image_in_use (as_stated m.notion) m.args (scope_of_names ns))))
+    omega (arith, room, some, ap (λ (x : List Lit). length x) m.are, length-take most (expanded m.notion m.args (scope_of_names ns)), length-map m.notion.means (with_images (image_in_use (as_stated m.notion) m.args (scope_of_names ns))))
 
 -- ---- literals with names
 

@@ -6,7 +6,7 @@ use Rattle.std.specs.List.{list_all}
 use Rattle.e_literal.specs.declared.object.Scope.{Scope}
 use Rattle.e_literal.specs.declared.literal.Lit.{Lit}
 use Rattle.e_literal.specs.Literal.{negation, all_in_scope}
-use Rattle.e_literal.specs.Facts.{joined, joined_all, others}
+use Rattle.e_literal.specs.Facts.{with_fact, with_facts, others}
 use Rattle.e_literal.specs.Same.{same_lit}
 use Rattle.e_literal.specs.Scopes.{grown}
 use Rattle.e_literal.specs.Use.{StatementView, gives_of_use}
@@ -27,7 +27,7 @@ use Rattle.e_clause.specs.Versions.{is_name_of, is_sum_of, are_sums_of, is_part_
 use Rattle.e_clause.specs.Written.{is_writable_name, is_writable_sum, are_writable_sums, is_writable_part, is_writable_cert, is_writable_against}
 use Rattle.e_construct.specs.Construct.{fits_construction, sorts_made, gives_of_construction}
 use Rattle.e_construct.specs.Superposing as superposing
-use Rattle.e_deriv.specs.Script.{Script, Cite, Hence, Make, Apply, Claim, Superposed, Qed, Contradiction, Cases, erased}
+use Rattle.e_deriv.specs.Script.{Script, Cite, Hence, Make, Apply, Claim, Superposed, Qed, Contradiction, Cases, script_without_certs}
 use Rattle.e_deriv.specs.Goal.{Goal, goal_of, are_for}
 use Rattle.e_deriv.specs.PlacedSteps.{PlacedStep, placed_step, placed_steps, theorem_at}
 use Rattle.e_deriv.specs.Parts.{has_no_blank, written}
@@ -62,15 +62,15 @@ pub numbered_certified : (before : List StatementView) (d : Script) (s : Scope) 
 unfolding placed_steps with_places
 numbered_certified before (Cite by rest) s facts goal h =
     let first : Bool = is_certified before (placed_step (Cite by rest) (Cite by rest) s facts goal) in
-    let next : List PlacedStep = placed_steps before rest rest s (joined facts by.lit) goal in
-    both_true _ _ (and_left first (are_certified before next) h) (numbered_certified before rest s (joined facts by.lit) goal (and_right first (are_certified before next) h))
+    let next : List PlacedStep = placed_steps before rest rest s (with_fact facts by.lit) goal in
+    both_true _ _ (and_left first (are_certified before next) h) (numbered_certified before rest s (with_fact facts by.lit) goal (and_right first (are_certified before next) h))
 numbered_certified before (Hence lit cert rest) s facts goal h =
     let first : Bool = is_certified before (placed_step (Hence lit cert rest) (Hence lit cert rest) s facts goal) in
-    let next : List PlacedStep = placed_steps before rest rest s (joined facts lit) goal in
-    both_true _ _ (by cert (and_left first (are_certified before next) h)) (numbered_certified before rest s (joined facts lit) goal (and_right first (are_certified before next) h))
+    let next : List PlacedStep = placed_steps before rest rest s (with_fact facts lit) goal in
+    both_true _ _ (by cert (and_left first (are_certified before next) h)) (numbered_certified before rest s (with_fact facts lit) goal (and_right first (are_certified before next) h))
   where
     placed : Script
-    placed = with_places before rest s (joined facts lit) goal
+    placed = with_places before rest s (with_fact facts lit) goal
 
     by : (c : Option Cert) → is_certified before (placed_step (Hence lit c rest) (Hence lit c rest) s facts goal) ≡ true
         → is_certified before (placed_step (Hence lit (option_map (cert_with_places facts lit) c) placed) (Hence lit (option_map (cert_with_places facts lit) c) placed) s facts goal) ≡ true
@@ -78,34 +78,34 @@ numbered_certified before (Hence lit cert rest) s facts goal h =
     by (Some c) k = with_certs (all_in_scope s lit) _ _ true (certs_certified s facts (lit ∷ []) (c ∷ [])) k
 numbered_certified before (Make construction names certs rest) s facts goal h =
     let first : Bool = is_certified before (placed_step (Make construction names certs rest) (Make construction names certs rest) s facts goal) in
-    let next : List PlacedStep = placed_steps before rest rest (grown s (sorts_made construction)) (joined_all facts (gives_of_construction construction s)) goal in
+    let next : List PlacedStep = placed_steps before rest rest (grown s (sorts_made construction)) (with_facts facts (gives_of_construction construction s)) goal in
     both_true _ _ (with_certs (fits_construction construction s) _ _ true (certs_certified s facts (needs before (placed_step (Make construction names certs rest) (Make construction names certs rest) s facts goal)) certs) (and_left first (are_certified before next) h))
-    (numbered_certified before rest (grown s (sorts_made construction)) (joined_all facts (gives_of_construction construction s)) goal (and_right first (are_certified before next) h))
+    (numbered_certified before rest (grown s (sorts_made construction)) (with_facts facts (gives_of_construction construction s)) goal (and_right first (are_certified before next) h))
 numbered_certified before (Apply theorem args names certs rest) s facts goal h =
     let t : StatementView = theorem_at before theorem in
     let first : Bool = is_certified before (placed_step (Apply theorem args names certs rest) (Apply theorem args names certs rest) s facts goal) in
-    let next : List PlacedStep = placed_steps before rest rest (grown s t.made) (joined_all facts (gives_of_use t (written args) s)) goal in
+    let next : List PlacedStep = placed_steps before rest rest (grown s t.made) (with_facts facts (gives_of_use t (written args) s)) goal in
     both_true _ _ (with_certs (is_applied before theorem s args (written args)) _ _ (has_no_blank args) (certs_certified s facts (needs before (placed_step (Apply theorem args names certs rest) (Apply theorem args names certs rest) s facts goal)) certs) (and_left first (are_certified before next) h))
-    (numbered_certified before rest (grown s t.made) (joined_all facts (gives_of_use t (written args) s)) goal (and_right first (are_certified before next) h))
+    (numbered_certified before rest (grown s t.made) (with_facts facts (gives_of_use t (written args) s)) goal (and_right first (are_certified before next) h))
 numbered_certified before (Claim shown inner rest) s facts goal h =
     let first : Bool = is_certified before (placed_step (Claim shown inner rest) (Claim shown inner rest) s facts goal) in
     let within : List PlacedStep = placed_steps before inner inner s facts (goal_of shown) in
-    let next : List PlacedStep = placed_steps before rest rest s (joined_all facts shown) goal in
+    let next : List PlacedStep = placed_steps before rest rest s (with_facts facts shown) goal in
     let later = and_right first (are_certified before (within ++ next)) h in
     both_true _ _ (and_left first (are_certified before (within ++ next)) h)
-    (all_both (is_certified before) (lines_of before (with_places before inner s facts (goal_of shown)) s facts (goal_of shown)) (lines_of before (with_places before rest s (joined_all facts shown) goal) s (joined_all facts shown) goal)
+    (all_both (is_certified before) (lines_of before (with_places before inner s facts (goal_of shown)) s facts (goal_of shown)) (lines_of before (with_places before rest s (with_facts facts shown) goal) s (with_facts facts shown) goal)
     (numbered_certified before inner s facts (goal_of shown) (all_left (is_certified before) within next later))
-    (numbered_certified before rest s (joined_all facts shown) goal (all_right (is_certified before) within next later)))
+    (numbered_certified before rest s (with_facts facts shown) goal (all_right (is_certified before) within next later)))
 numbered_certified before (Superposed superposition names shown certs inner rest) s facts goal h =
     let first : Bool = is_certified before (placed_step (Superposed superposition names shown certs inner rest) (Superposed superposition names shown certs inner rest) s facts goal) in
-    let within : List PlacedStep = placed_steps before inner inner (grown s superposing.sorts_copied) (joined_all facts (superposing.gives_of_superposition superposition s)) (goal_of shown) in
-    let next : List PlacedStep = placed_steps before rest rest s (joined_all facts shown) goal in
+    let within : List PlacedStep = placed_steps before inner inner (grown s superposing.sorts_copied) (with_facts facts (superposing.gives_of_superposition superposition s)) (goal_of shown) in
+    let next : List PlacedStep = placed_steps before rest rest s (with_facts facts shown) goal in
     let later = and_right first (are_certified before (within ++ next)) h in
     both_true _ _ (with_certs (superposing.fits_superposition superposition s && are_over s shown) _ _ true (certs_certified s facts (superposing.needs_of_superposition superposition) certs) (and_left first (are_certified before (within ++ next)) h))
-    (all_both (is_certified before) (lines_of before (with_places before inner (grown s superposing.sorts_copied) (joined_all facts (superposing.gives_of_superposition superposition s)) (goal_of shown)) (grown s superposing.sorts_copied) (joined_all facts (superposing.gives_of_superposition superposition s)) (goal_of shown))
-    (lines_of before (with_places before rest s (joined_all facts shown) goal) s (joined_all facts shown) goal)
-    (numbered_certified before inner (grown s superposing.sorts_copied) (joined_all facts (superposing.gives_of_superposition superposition s)) (goal_of shown) (all_left (is_certified before) within next later))
-    (numbered_certified before rest s (joined_all facts shown) goal (all_right (is_certified before) within next later)))
+    (all_both (is_certified before) (lines_of before (with_places before inner (grown s superposing.sorts_copied) (with_facts facts (superposing.gives_of_superposition superposition s)) (goal_of shown)) (grown s superposing.sorts_copied) (with_facts facts (superposing.gives_of_superposition superposition s)) (goal_of shown))
+    (lines_of before (with_places before rest s (with_facts facts shown) goal) s (with_facts facts shown) goal)
+    (numbered_certified before inner (grown s superposing.sorts_copied) (with_facts facts (superposing.gives_of_superposition superposition s)) (goal_of shown) (all_left (is_certified before) within next later))
+    (numbered_certified before rest s (with_facts facts shown) goal (all_right (is_certified before) within next later)))
 numbered_certified before (Qed objects certs) s facts goal h =
     let first : Bool = is_certified before (placed_step (Qed objects certs) (Qed objects certs) s facts goal) in
     both_true _ _ (with_certs (are_for goal s objects) _ _ true (certs_certified s facts (needs before (placed_step (Qed objects certs) (Qed objects certs) s facts goal)) certs) (and_left first true h)) refl
@@ -115,32 +115,32 @@ numbered_certified before (Contradiction (Some against)) s facts goal h =
     both_true _ _ (against_certified s facts against (and_left first true h)) refl
 numbered_certified before (Cases lit one two) s facts goal h =
     let first : Bool = is_certified before (placed_step (Cases lit one two) (Cases lit one two) s facts goal) in
-    let within : List PlacedStep = placed_steps before one one s (joined facts lit) goal in
-    let next : List PlacedStep = placed_steps before two two s (joined facts (negation lit)) goal in
+    let within : List PlacedStep = placed_steps before one one s (with_fact facts lit) goal in
+    let next : List PlacedStep = placed_steps before two two s (with_fact facts (negation lit)) goal in
     let later = and_right first (are_certified before (within ++ next)) h in
     both_true _ _ (and_left first (are_certified before (within ++ next)) h)
-    (all_both (is_certified before) (lines_of before (with_places before one s (joined facts lit) goal) s (joined facts lit) goal) (lines_of before (with_places before two s (joined facts (negation lit)) goal) s (joined facts (negation lit)) goal)
-    (numbered_certified before one s (joined facts lit) goal (all_left (is_certified before) within next later))
-    (numbered_certified before two s (joined facts (negation lit)) goal (all_right (is_certified before) within next later)))
+    (all_both (is_certified before) (lines_of before (with_places before one s (with_fact facts lit) goal) s (with_fact facts lit) goal) (lines_of before (with_places before two s (with_fact facts (negation lit)) goal) s (with_fact facts (negation lit)) goal)
+    (numbered_certified before one s (with_fact facts lit) goal (all_left (is_certified before) within next later))
+    (numbered_certified before two s (with_fact facts (negation lit)) goal (all_right (is_certified before) within next later)))
 
 -- ---- the script is the same
 
-pub numbered_erased : (before : List StatementView) (d : Script) (s : Scope) (facts : List Lit) (goal : Goal) → erased (with_places before d s facts goal) ≡ erased d
-unfolding erased with_places
-numbered_erased before (Cite by rest) s facts goal = ap (Cite by) (numbered_erased before rest s (joined facts by.lit) goal)
-numbered_erased before (Hence lit cert rest) s facts goal = ap (Hence lit None) (numbered_erased before rest s (joined facts lit) goal)
-numbered_erased before (Make construction names certs rest) s facts goal = ap (Make construction names []) (numbered_erased before rest (grown s (sorts_made construction)) (joined_all facts (gives_of_construction construction s)) goal)
+pub numbered_erased : (before : List StatementView) (d : Script) (s : Scope) (facts : List Lit) (goal : Goal) → script_without_certs (with_places before d s facts goal) ≡ script_without_certs d
+unfolding script_without_certs with_places
+numbered_erased before (Cite by rest) s facts goal = ap (Cite by) (numbered_erased before rest s (with_fact facts by.lit) goal)
+numbered_erased before (Hence lit cert rest) s facts goal = ap (Hence lit None) (numbered_erased before rest s (with_fact facts lit) goal)
+numbered_erased before (Make construction names certs rest) s facts goal = ap (Make construction names []) (numbered_erased before rest (grown s (sorts_made construction)) (with_facts facts (gives_of_construction construction s)) goal)
 numbered_erased before (Apply theorem args names certs rest) s facts goal =
-    ap (Apply theorem args names []) (numbered_erased before rest (grown s (theorem_at before theorem).made) (joined_all facts (gives_of_use (theorem_at before theorem) (written args) s)) goal)
+    ap (Apply theorem args names []) (numbered_erased before rest (grown s (theorem_at before theorem).made) (with_facts facts (gives_of_use (theorem_at before theorem) (written args) s)) goal)
 numbered_erased before (Claim shown inner rest) s facts goal =
-    ap₂ {A = Script} {B = Script} (Claim shown) (numbered_erased before inner s facts (goal_of shown)) (numbered_erased before rest s (joined_all facts shown) goal)
+    ap₂ {A = Script} {B = Script} (Claim shown) (numbered_erased before inner s facts (goal_of shown)) (numbered_erased before rest s (with_facts facts shown) goal)
 numbered_erased before (Superposed superposition names shown certs inner rest) s facts goal =
     ap₂ {A = Script} {B = Script} (Superposed superposition names shown [])
-    (numbered_erased before inner (grown s superposing.sorts_copied) (joined_all facts (superposing.gives_of_superposition superposition s)) (goal_of shown)) (numbered_erased before rest s (joined_all facts shown) goal)
+    (numbered_erased before inner (grown s superposing.sorts_copied) (with_facts facts (superposing.gives_of_superposition superposition s)) (goal_of shown)) (numbered_erased before rest s (with_facts facts shown) goal)
 numbered_erased before (Qed objects certs) s facts goal = refl
 numbered_erased before (Contradiction against) s facts goal = refl
 numbered_erased before (Cases lit one two) s facts goal =
-    ap₂ {A = Script} {B = Script} (Cases lit) (numbered_erased before one s (joined facts lit) goal) (numbered_erased before two s (joined facts (negation lit)) goal)
+    ap₂ {A = Script} {B = Script} (Cases lit) (numbered_erased before one s (with_fact facts lit) goal) (numbered_erased before two s (with_fact facts (negation lit)) goal)
 
 -- ---- the version
 
@@ -241,10 +241,10 @@ few_of facts b h = ltb-true (length facts) (2 ^ 32) (and_left (nat_lt (length fa
 pub numbered_of_second : (before : List StatementView) (d : Script) (s : Scope) (facts : List Lit) (goal : Goal) → is_written_well d ≡ true → list_all has_few (lines_of before d s facts goal) ≡ true
     → has_certs_of version.Two (with_places before d s facts goal) ≡ true
 unfolding placed_steps with_places has_certs_of
-numbered_of_second before (Cite by rest) s facts goal w h = numbered_of_second before rest s (joined facts by.lit) goal (cite_written by rest w).1 (and_right _ _ h)
+numbered_of_second before (Cite by rest) s facts goal w h = numbered_of_second before rest s (with_fact facts by.lit) goal (cite_written by rest w).1 (and_right _ _ h)
 numbered_of_second before (Hence lit cert rest) s facts goal w h =
     let k = hence_written lit cert rest w in
-    both_true _ _ (by cert k.1) (numbered_of_second before rest s (joined facts lit) goal k.2 (and_right _ _ h))
+    both_true _ _ (by cert k.1) (numbered_of_second before rest s (with_fact facts lit) goal k.2 (and_right _ _ h))
   where
     by : (c : Option Cert) → option_map_or is_writable_cert c true ≡ true → option_map_or (is_cert_of version.Two) (option_map (cert_with_places facts lit) c) true ≡ true
     by None k = refl
@@ -252,34 +252,34 @@ numbered_of_second before (Hence lit cert rest) s facts goal w h =
 numbered_of_second before (Make construction names certs rest) s facts goal w h =
     let k = make_written construction names certs rest w in
     both_true _ _ (certs_of_second facts (few_of facts _ h) (needs before (placed_step (Make construction names certs rest) (Make construction names certs rest) s facts goal)) certs k.0)
-    (numbered_of_second before rest (grown s (sorts_made construction)) (joined_all facts (gives_of_construction construction s)) goal k.1 (and_right _ _ h))
+    (numbered_of_second before rest (grown s (sorts_made construction)) (with_facts facts (gives_of_construction construction s)) goal k.1 (and_right _ _ h))
 numbered_of_second before (Apply theorem args names certs rest) s facts goal w h =
     let k = apply_written theorem args names certs rest w in
     both_true _ _ (certs_of_second facts (few_of facts _ h) (needs before (placed_step (Apply theorem args names certs rest) (Apply theorem args names certs rest) s facts goal)) certs k.0)
-    (numbered_of_second before rest (grown s (theorem_at before theorem).made) (joined_all facts (gives_of_use (theorem_at before theorem) (written args) s)) goal k.1 (and_right _ _ h))
+    (numbered_of_second before rest (grown s (theorem_at before theorem).made) (with_facts facts (gives_of_use (theorem_at before theorem) (written args) s)) goal k.1 (and_right _ _ h))
 numbered_of_second before (Claim shown inner rest) s facts goal w h =
     let within : List PlacedStep = placed_steps before inner inner s facts (goal_of shown) in
-    let next : List PlacedStep = placed_steps before rest rest s (joined_all facts shown) goal in
+    let next : List PlacedStep = placed_steps before rest rest s (with_facts facts shown) goal in
     let later = and_right (nat_lt (length facts) (2 ^ 32)) (list_all has_few (within ++ next)) h in
     let k = claim_written shown inner rest w in
     both_true _ _ (numbered_of_second before inner s facts (goal_of shown) k.1 (all_left has_few within next later))
-    (numbered_of_second before rest s (joined_all facts shown) goal k.2 (all_right has_few within next later))
+    (numbered_of_second before rest s (with_facts facts shown) goal k.2 (all_right has_few within next later))
 numbered_of_second before (Superposed superposition names shown certs inner rest) s facts goal w h =
-    let within : List PlacedStep = placed_steps before inner inner (grown s superposing.sorts_copied) (joined_all facts (superposing.gives_of_superposition superposition s)) (goal_of shown) in
-    let next : List PlacedStep = placed_steps before rest rest s (joined_all facts shown) goal in
+    let within : List PlacedStep = placed_steps before inner inner (grown s superposing.sorts_copied) (with_facts facts (superposing.gives_of_superposition superposition s)) (goal_of shown) in
+    let next : List PlacedStep = placed_steps before rest rest s (with_facts facts shown) goal in
     let later = and_right (nat_lt (length facts) (2 ^ 32)) (list_all has_few (within ++ next)) h in
     let k = superposed_written superposition names shown certs inner rest w in
     both_true _ _ (certs_of_second facts (few_of facts _ h) (superposing.needs_of_superposition superposition) certs k.1)
-    (both_true _ _ (numbered_of_second before inner (grown s superposing.sorts_copied) (joined_all facts (superposing.gives_of_superposition superposition s)) (goal_of shown) k.2 (all_left has_few within next later))
-    (numbered_of_second before rest s (joined_all facts shown) goal k.3 (all_right has_few within next later)))
+    (both_true _ _ (numbered_of_second before inner (grown s superposing.sorts_copied) (with_facts facts (superposing.gives_of_superposition superposition s)) (goal_of shown) k.2 (all_left has_few within next later))
+    (numbered_of_second before rest s (with_facts facts shown) goal k.3 (all_right has_few within next later)))
 numbered_of_second before (Qed objects certs) s facts goal w h =
     certs_of_second facts (few_of facts _ h) (needs before (placed_step (Qed objects certs) (Qed objects certs) s facts goal)) certs (qed_written objects certs w)
 numbered_of_second before (Contradiction None) s facts goal w h = refl
 numbered_of_second before (Contradiction (Some against)) s facts goal w h = against_of_second facts (few_of facts _ h) against (contradiction_written (Some against) w)
 numbered_of_second before (Cases lit one two) s facts goal w h =
-    let within : List PlacedStep = placed_steps before one one s (joined facts lit) goal in
-    let next : List PlacedStep = placed_steps before two two s (joined facts (negation lit)) goal in
+    let within : List PlacedStep = placed_steps before one one s (with_fact facts lit) goal in
+    let next : List PlacedStep = placed_steps before two two s (with_fact facts (negation lit)) goal in
     let later = and_right (nat_lt (length facts) (2 ^ 32)) (list_all has_few (within ++ next)) h in
     let k = cases_written lit one two w in
-    both_true _ _ (numbered_of_second before one s (joined facts lit) goal k.1 (all_left has_few within next later))
-    (numbered_of_second before two s (joined facts (negation lit)) goal k.2 (all_right has_few within next later))
+    both_true _ _ (numbered_of_second before one s (with_fact facts lit) goal k.1 (all_left has_few within next later))
+    (numbered_of_second before two s (with_fact facts (negation lit)) goal k.2 (all_right has_few within next later))

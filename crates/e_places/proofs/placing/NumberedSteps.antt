@@ -7,7 +7,7 @@ use Rattle.std.proofs.lemmas.Grind.{common_steps}
 use Rattle.e_literal.specs.declared.object.Obj.{Obj}
 use Rattle.e_literal.specs.declared.literal.Lit.{Lit}
 use Rattle.e_literal.specs.Literal.{negation, all_in_scope}
-use Rattle.e_literal.specs.Facts.{joined, joined_all}
+use Rattle.e_literal.specs.Facts.{with_fact, with_facts}
 use Rattle.e_literal.specs.Use.{StatementView, are_arguments, gives_of_use, needs_of_use}
 use Rattle.e_literal.proofs.Booleans.{and_left, and_right, all_left, all_right, all_both}
 use Rattle.e_clause.specs.Certify.{certify_all}
@@ -44,12 +44,12 @@ use Rattle.e_verify.proofs.checking.InnerBlocks.{kept_on, restored_is}
 
 -- ---- what is put at one line
 
-cite_places : (before : List StatementView) (by : By) (x : StepState) (rest : Script) (goal : Goal) → places_at before (Cite by rest) x goal ≡ Cite by (places_at before rest (state_with_facts (joined x.facts by.lit) x) goal)
+cite_places : (before : List StatementView) (by : By) (x : StepState) (rest : Script) (goal : Goal) → places_at before (Cite by rest) x goal ≡ Cite by (places_at before rest (state_with_facts (with_fact x.facts by.lit) x) goal)
 unfolding with_places
 cite_places before by x rest goal = refl
 
 hence_places : (before : List StatementView) (lit : Lit) (cert : Option Cert) (x : StepState) (rest : Script) (goal : Goal)
-    → places_at before (Hence lit cert rest) x goal ≡ Hence lit (option_map (cert_with_places x.facts lit) cert) (places_at before rest (state_with_facts (joined x.facts lit) x) goal)
+    → places_at before (Hence lit cert rest) x goal ≡ Hence lit (option_map (cert_with_places x.facts lit) cert) (places_at before rest (state_with_facts (with_fact x.facts lit) x) goal)
 unfolding with_places
 hence_places before lit cert x rest goal = refl
 
@@ -65,13 +65,13 @@ unfolding with_places
 apply_places before theorem args names certs x rest goal = refl
 
 claim_places : (before : List StatementView) (shown : List Lit) (inner : Script) (x : StepState) (rest : Script) (goal : Goal)
-    → places_at before (Claim shown inner rest) x goal ≡ Claim shown (places_at before inner x (goal_of shown)) (places_at before rest (state_with_facts (joined_all x.facts shown) x) goal)
+    → places_at before (Claim shown inner rest) x goal ≡ Claim shown (places_at before inner x (goal_of shown)) (places_at before rest (state_with_facts (with_facts x.facts shown) x) goal)
 unfolding with_places
 claim_places before shown inner x rest goal = refl
 
 superposed_places : (before : List StatementView) (superposition : Superpose) (names : List (List ℕ)) (shown : List Lit) (certs : List Cert) (inner : Script) (x : StepState) (rest : Script) (goal : Goal)
     → places_at before (Superposed superposition names shown certs inner rest) x goal
-    ≡ Superposed superposition names shown (certs_with_places x.facts (superposing.needs_of_superposition superposition) certs) (places_at before inner (state_after_superposed superposition x) (goal_of shown)) (places_at before rest (state_with_facts (joined_all x.facts shown) x) goal)
+    ≡ Superposed superposition names shown (certs_with_places x.facts (superposing.needs_of_superposition superposition) certs) (places_at before inner (state_after_superposed superposition x) (goal_of shown)) (places_at before rest (state_with_facts (with_facts x.facts shown) x) goal)
 unfolding with_places
 superposed_places before superposition names shown certs inner x rest goal = refl
 
@@ -84,7 +84,7 @@ unfolding with_places
 contradiction_places before against x goal = refl
 
 cases_places : (before : List StatementView) (lit : Lit) (first second : Script) (x : StepState) (goal : Goal)
-    → places_at before (Cases lit first second) x goal ≡ Cases lit (places_at before first (state_with_facts (joined x.facts lit) x) goal) (places_at before second (state_with_facts (joined x.facts (negation lit)) x) goal)
+    → places_at before (Cases lit first second) x goal ≡ Cases lit (places_at before first (state_with_facts (with_fact x.facts lit) x) goal) (places_at before second (state_with_facts (with_fact x.facts (negation lit)) x) goal)
 unfolding with_places
 cases_places before lit first second x goal = refl
 
@@ -153,12 +153,12 @@ apply_fits before theorem args names certs x r =
 -- the blocks inside
 pub claim_ready : (before : List StatementView) (shown : List Lit) (inner : Script) (x : StepState) → AreReady before (Claim shown inner) x → IsReady before inner x (goal_of shown)
 claim_ready before shown inner x r =
-    (both_ready before (Claim shown inner r.rest) x r.goal (steps_in_state before inner x (goal_of shown)) (steps_in_state before r.rest (state_with_facts (joined_all x.facts shown) x) r.goal) (claim_lines before shown inner x r.rest r.goal) r.ready).0
+    (both_ready before (Claim shown inner r.rest) x r.goal (steps_in_state before inner x (goal_of shown)) (steps_in_state before r.rest (state_with_facts (with_facts x.facts shown) x) r.goal) (claim_lines before shown inner x r.rest r.goal) r.ready).0
 
 pub superposed_ready : (before : List StatementView) (superposition : Superpose) (names : List (List ℕ)) (shown : List Lit) (certs : List Cert) (inner : Script) (x z : StepState) → z ≡ state_after_superposed superposition x
     → AreReady before (Superposed superposition names shown certs inner) x → IsReady before inner z (goal_of shown)
 superposed_ready before superposition names shown certs inner x z begun r =
-    subst (λ w. IsReady before inner w (goal_of shown)) (sym begun) (both_ready before (Superposed superposition names shown certs inner r.rest) x r.goal (steps_in_state before inner (state_after_superposed superposition x) (goal_of shown)) (steps_in_state before r.rest (state_with_facts (joined_all x.facts shown) x) r.goal)
+    subst (λ w. IsReady before inner w (goal_of shown)) (sym begun) (both_ready before (Superposed superposition names shown certs inner r.rest) x r.goal (steps_in_state before inner (state_after_superposed superposition x) (goal_of shown)) (steps_in_state before r.rest (state_with_facts (with_facts x.facts shown) x) r.goal)
     (superposed_lines before superposition names shown certs inner x r.rest r.goal) r.ready).0
 
 -- a step as the code has it
@@ -167,24 +167,24 @@ ready_as before f g x e r = record { rest = r.rest; goal = r.goal; ready = subst
 
 -- ---- steps of one line
 
-pub cite_numbered : (before : List StatementView) (by : By) (x after : StepState) (s : Step) → s ≡ CiteStep by → after ≡ state_with_facts (joined x.facts by.lit) x → IsNumberedStep before (Cite by) x (step_script s) after
+pub cite_numbered : (before : List StatementView) (by : By) (x after : StepState) (s : Step) → s ≡ CiteStep by → after ≡ state_with_facts (with_fact x.facts by.lit) x → IsNumberedStep before (Cite by) x (step_script s) after
 cite_numbered before by x after s is end =
     subst (λ (y : StepState). IsNumberedStep before (Cite by) x (step_script s) y) (sym end)
     (record {
-      same = λ rest goal. cite_places before by x rest goal ∙ sym (ap (λ t. step_script t (places_at before rest (state_with_facts (joined x.facts by.lit) x) goal)) is ∙ step_script-Cite by _);
-      few = λ few rest goal h. few_line before (Cite by rest) x goal rest (state_with_facts (joined x.facts by.lit) x) few (cite_lines before by x rest goal) h;
-      ready = λ rest goal h. rest_ready before (Cite by rest) x goal rest (state_with_facts (joined x.facts by.lit) x) (cite_lines before by x rest goal) h;
+      same = λ rest goal. cite_places before by x rest goal ∙ sym (ap (λ t. step_script t (places_at before rest (state_with_facts (with_fact x.facts by.lit) x) goal)) is ∙ step_script-Cite by _);
+      few = λ few rest goal h. few_line before (Cite by rest) x goal rest (state_with_facts (with_fact x.facts by.lit) x) few (cite_lines before by x rest goal) h;
+      ready = λ rest goal h. rest_ready before (Cite by rest) x goal rest (state_with_facts (with_fact x.facts by.lit) x) (cite_lines before by x rest goal) h;
       kept = stay_joined x.facts by.lit;
     })
 
-pub hence_numbered : (before : List StatementView) (lit : Lit) (cert : Option Cert) (x after : StepState) (s : Step) → s ≡ HenceStep lit (option_map (cert_with_places x.facts lit) cert) → after ≡ state_with_facts (joined x.facts lit) x
+pub hence_numbered : (before : List StatementView) (lit : Lit) (cert : Option Cert) (x after : StepState) (s : Step) → s ≡ HenceStep lit (option_map (cert_with_places x.facts lit) cert) → after ≡ state_with_facts (with_fact x.facts lit) x
     → IsNumberedStep before (Hence lit cert) x (step_script s) after
 hence_numbered before lit cert x after s is end =
     subst (λ (y : StepState). IsNumberedStep before (Hence lit cert) x (step_script s) y) (sym end)
     (record {
-      same = λ rest goal. hence_places before lit cert x rest goal ∙ sym (ap (λ t. step_script t (places_at before rest (state_with_facts (joined x.facts lit) x) goal)) is ∙ step_script-Hence lit (option_map (cert_with_places x.facts lit) cert) _);
-      few = λ few rest goal h. few_line before (Hence lit cert rest) x goal rest (state_with_facts (joined x.facts lit) x) few (hence_lines before lit cert x rest goal) h;
-      ready = λ rest goal h. rest_ready before (Hence lit cert rest) x goal rest (state_with_facts (joined x.facts lit) x) (hence_lines before lit cert x rest goal) h;
+      same = λ rest goal. hence_places before lit cert x rest goal ∙ sym (ap (λ t. step_script t (places_at before rest (state_with_facts (with_fact x.facts lit) x) goal)) is ∙ step_script-Hence lit (option_map (cert_with_places x.facts lit) cert) _);
+      few = λ few rest goal h. few_line before (Hence lit cert rest) x goal rest (state_with_facts (with_fact x.facts lit) x) few (hence_lines before lit cert x rest goal) h;
+      ready = λ rest goal h. rest_ready before (Hence lit cert rest) x goal rest (state_with_facts (with_fact x.facts lit) x) (hence_lines before lit cert x rest goal) h;
       kept = stay_joined x.facts lit;
     })
 
@@ -225,15 +225,15 @@ pub ruleset placing = (common_steps, cite_numbered, hence_numbered, make_numbere
 -- ---- steps with a block inside
 
 -- back where the block was entered, with what it shows
-back_is : (o : Checkpoint) (x z after : StepState) (again shown : List Lit) → o ≡ checkpoint_of_state x → KeepsFirstFacts x z → again ≡ shown → after ≡ state_with_facts (joined_all (state_restored o z).facts again) (state_restored o z) → after ≡ state_with_facts (joined_all x.facts shown) x
+back_is : (o : Checkpoint) (x z after : StepState) (again shown : List Lit) → o ≡ checkpoint_of_state x → KeepsFirstFacts x z → again ≡ shown → after ≡ state_with_facts (with_facts (state_restored o z).facts again) (state_restored o z) → after ≡ state_with_facts (with_facts x.facts shown) x
 back_is o x z after again shown e k twice end =
-    end ∙ ap (λ w. state_with_facts (joined_all w.facts again) w) (restored_is o x z (state_restored o z) e k refl) ∙ ap (λ ls. state_with_facts (joined_all x.facts ls) x) twice
+    end ∙ ap (λ w. state_with_facts (with_facts w.facts again) w) (restored_is o x z (state_restored o z) e k refl) ∙ ap (λ ls. state_with_facts (with_facts x.facts ls) x) twice
 
 pub claim_numbered : (before : List StatementView) (shown : List Lit) (inner : Script) (numbered : Block) (x z after : StepState) (o : Checkpoint) (s : Step) → script_of numbered ≡ places_at before inner x (goal_of shown)
     → HaveFew before inner x (goal_of shown) → o ≡ checkpoint_of_state x → KeepsFirstFacts x z → ((rest : Script) → step_script s rest ≡ Claim shown (script_of numbered) rest)
-    → after ≡ state_with_facts (joined_all (state_restored o z).facts shown) (state_restored o z) → IsNumberedStep before (Claim shown inner) x (step_script s) after
+    → after ≡ state_with_facts (with_facts (state_restored o z).facts shown) (state_restored o z) → IsNumberedStep before (Claim shown inner) x (step_script s) after
 claim_numbered before shown inner numbered x z after o s placed few e k made end =
-    let later : StepState = state_with_facts (joined_all x.facts shown) x in
+    let later : StepState = state_with_facts (with_facts x.facts shown) x in
     subst (λ (w : StepState). IsNumberedStep before (Claim shown inner) x (step_script s) w) (sym (back_is o x z after shown shown e k refl end))
     (record {
       same = λ rest goal.
@@ -248,11 +248,11 @@ claim_numbered before shown inner numbered x z after o s placed few e k made end
 pub superposed_numbered : (before : List StatementView) (superposition : Superpose) (names : List (List ℕ)) (shown : List Lit) (certs placed : List Cert) (inner : Script) (numbered : Block) (x z w after : StepState) (o : Checkpoint) (s : Step)
     → placed ≡ certs_with_places x.facts (superposing.needs_of_superposition superposition) certs → z ≡ state_after_superposed superposition x → script_of numbered ≡ places_at before inner z (goal_of shown) → HaveFew before inner z (goal_of shown)
     → o ≡ checkpoint_of_state x → KeepsFirstFacts z w → ((rest : Script) → step_script s rest ≡ Superposed superposition names shown placed (script_of numbered) rest)
-    → after ≡ state_with_facts (joined_all (state_restored o w).facts shown) (state_restored o w) → IsNumberedStep before (Superposed superposition names shown certs inner) x (step_script s) after
+    → after ≡ state_with_facts (with_facts (state_restored o w).facts shown) (state_restored o w) → IsNumberedStep before (Superposed superposition names shown certs inner) x (step_script s) after
 superposed_numbered before superposition names shown certs placed inner numbered x z w after o s put begun block_is few e k made end =
     let kept = kept_on x z w (subst (KeepsFirstFacts x) (sym begun) (stay_all x.facts (superposing.gives_of_superposition superposition x.scope))) k in
     let begin : StepState = state_after_superposed superposition x in
-    let later : StepState = state_with_facts (joined_all x.facts shown) x in
+    let later : StepState = state_with_facts (with_facts x.facts shown) x in
     let block_placed : script_of numbered ≡ places_at before inner begin (goal_of shown) = block_is ∙ ap (λ q. places_at before inner q (goal_of shown)) begun in
     let block_few : HaveFew before inner begin (goal_of shown) = subst (λ q. HaveFew before inner q (goal_of shown)) begun few in
     subst (λ (q : StepState). IsNumberedStep before (Superposed superposition names shown certs inner) x (step_script s) q) (sym (back_is o x w after shown shown e kept refl end))
@@ -339,29 +339,29 @@ qed_fits before c objects certs x goal is r =
 -- ---- a split
 
 -- what holds after the first block
-pub after_cases : (x z w y after : StepState) (lit : Lit) (o : Checkpoint) → z ≡ state_with_facts (joined x.facts lit) x → o ≡ checkpoint_of_state x → KeepsFirstFacts z w → y ≡ state_restored o w → after ≡ state_with_facts (joined y.facts (negation lit)) y
-    → after ≡ state_with_facts (joined x.facts (negation lit)) x
+pub after_cases : (x z w y after : StepState) (lit : Lit) (o : Checkpoint) → z ≡ state_with_facts (with_fact x.facts lit) x → o ≡ checkpoint_of_state x → KeepsFirstFacts z w → y ≡ state_restored o w → after ≡ state_with_facts (with_fact y.facts (negation lit)) y
+    → after ≡ state_with_facts (with_fact x.facts (negation lit)) x
 after_cases x z w y after lit o begun e k left end =
     let kept = kept_on x z w (subst (KeepsFirstFacts x) (sym begun) (stay_joined x.facts lit)) k in
-    end ∙ ap (λ q. state_with_facts (joined q.facts (negation lit)) q) (restored_is o x w y e kept left)
+    end ∙ ap (λ q. state_with_facts (with_fact q.facts (negation lit)) q) (restored_is o x w y e kept left)
 
 pub cases_numbered : (before : List StatementView) (c : Close) (lit : Lit) (first second : Box Block Global) (b1 b2 n1 n2 : Block) (x z after : StepState) (goal : Goal)
-    → c ≡ CasesClose lit first second → b1 ≡ first.value → b2 ≡ second.value → z ≡ state_with_facts (joined x.facts lit) x → script_of n1 ≡ places_at before (script_of b1) z goal → after ≡ state_with_facts (joined x.facts (negation lit)) x
+    → c ≡ CasesClose lit first second → b1 ≡ first.value → b2 ≡ second.value → z ≡ state_with_facts (with_fact x.facts lit) x → script_of n1 ≡ places_at before (script_of b1) z goal → after ≡ state_with_facts (with_fact x.facts (negation lit)) x
     → script_of n2 ≡ places_at before (script_of b2) after goal → Cases lit (script_of n1) (script_of n2) ≡ places_at before (close_script c) x goal
 cases_numbered before c lit first second b1 b2 n1 n2 x z after goal is at1 at2 begun placed1 back placed2 =
-    let p1 : script_of n1 ≡ places_at before (script_of first.value) (state_with_facts (joined x.facts lit) x) goal =
-    placed1 ∙ ap (λ q. places_at before (script_of b1) q goal) begun ∙ ap (λ b. places_at before (script_of b) (state_with_facts (joined x.facts lit) x) goal) at1 in
-    let p2 : script_of n2 ≡ places_at before (script_of second.value) (state_with_facts (joined x.facts (negation lit)) x) goal =
-    placed2 ∙ ap (λ q. places_at before (script_of b2) q goal) back ∙ ap (λ b. places_at before (script_of b) (state_with_facts (joined x.facts (negation lit)) x) goal) at2 in
+    let p1 : script_of n1 ≡ places_at before (script_of first.value) (state_with_facts (with_fact x.facts lit) x) goal =
+    placed1 ∙ ap (λ q. places_at before (script_of b1) q goal) begun ∙ ap (λ b. places_at before (script_of b) (state_with_facts (with_fact x.facts lit) x) goal) at1 in
+    let p2 : script_of n2 ≡ places_at before (script_of second.value) (state_with_facts (with_fact x.facts (negation lit)) x) goal =
+    placed2 ∙ ap (λ q. places_at before (script_of b2) q goal) back ∙ ap (λ b. places_at before (script_of b) (state_with_facts (with_fact x.facts (negation lit)) x) goal) at2 in
     ap₂ {A = Script} {B = Script} (Cases lit) p1 p2 ∙ sym (cases_places before lit (script_of first.value) (script_of second.value) x goal)
     ∙ sym (ap (λ d. places_at before d x goal) (ap close_script is ∙ close_script-Cases lit first second))
 
 pub cases_few : (before : List StatementView) (c : Close) (lit : Lit) (first second : Box Block Global) (b1 b2 : Block) (x z after : StepState) (goal : Goal) → length x.facts < 2 ^ 32
-    → c ≡ CasesClose lit first second → b1 ≡ first.value → b2 ≡ second.value → z ≡ state_with_facts (joined x.facts lit) x → HaveFew before (script_of b1) z goal → after ≡ state_with_facts (joined x.facts (negation lit)) x → HaveFew before (script_of b2) after goal
+    → c ≡ CasesClose lit first second → b1 ≡ first.value → b2 ≡ second.value → z ≡ state_with_facts (with_fact x.facts lit) x → HaveFew before (script_of b1) z goal → after ≡ state_with_facts (with_fact x.facts (negation lit)) x → HaveFew before (script_of b2) after goal
     → HaveFew before (close_script c) x goal
 cases_few before c lit first second b1 b2 x z after goal all is at1 at2 begun few1 back few2 =
-    let one = state_with_facts (joined x.facts lit) x in
-    let two = state_with_facts (joined x.facts (negation lit)) x in
+    let one = state_with_facts (with_fact x.facts lit) x in
+    let two = state_with_facts (with_fact x.facts (negation lit)) x in
     ap (λ d. list_all has_few (steps_in_state before d x goal)) (ap close_script is ∙ close_script-Cases lit first second)
     ∙ ap (list_all has_few) (cases_lines before lit (script_of first.value) (script_of second.value) x goal)
     ∙ ap₂ {A = Bool} {B = Bool} (λ a b. a && b) (few_first x all)
@@ -369,10 +369,10 @@ cases_few before c lit first second b1 b2 x z after goal all is at1 at2 begun fe
     (subst (λ b. HaveFew before (script_of b) one goal) at1 (subst (λ q. HaveFew before (script_of b1) q goal) begun few1)) (subst (λ b. HaveFew before (script_of b) two goal) at2 (subst (λ q. HaveFew before (script_of b2) q goal) back few2)))
 
 pub cases_ready : (before : List StatementView) (c : Close) (lit : Lit) (first second : Box Block Global) (x : StepState) (goal : Goal) → c ≡ CasesClose lit first second → IsReady before (close_script c) x goal
-    → IsReady before (script_of first.value) (state_with_facts (joined x.facts lit) x) goal × IsReady before (script_of second.value) (state_with_facts (joined x.facts (negation lit)) x) goal
+    → IsReady before (script_of first.value) (state_with_facts (with_fact x.facts lit) x) goal × IsReady before (script_of second.value) (state_with_facts (with_fact x.facts (negation lit)) x) goal
 cases_ready before c lit first second x goal is r =
     let d : Script = Cases lit (script_of first.value) (script_of second.value) in
-    both_ready before d x goal (steps_in_state before (script_of first.value) (state_with_facts (joined x.facts lit) x) goal) (steps_in_state before (script_of second.value) (state_with_facts (joined x.facts (negation lit)) x) goal) (cases_lines before lit (script_of first.value) (script_of second.value) x goal)
+    both_ready before d x goal (steps_in_state before (script_of first.value) (state_with_facts (with_fact x.facts lit) x) goal) (steps_in_state before (script_of second.value) (state_with_facts (with_fact x.facts (negation lit)) x) goal) (cases_lines before lit (script_of first.value) (script_of second.value) x goal)
     (subst (λ e. IsReady before e x goal) (ap close_script is ∙ close_script-Cases lit first second) r)
 
 pub block_ready : (before : List StatementView) (block : Block) (inner : Box Block Global) (y z : StepState) (goal : Goal) → block ≡ inner.value → z ≡ y → IsReady before (script_of inner.value) y goal → IsReady before (script_of block) z goal

@@ -3,7 +3,7 @@ use Rattle.std.specs.Prelude.{◌≡◌, ℕ, ◌+◌, ◌<◌, ◌^◌, List, [
 use Rattle.e_literal.specs.declared.object.Obj.{Obj}
 use Rattle.e_literal.specs.declared.object.Scope.{Scope}
 use Rattle.e_literal.specs.declared.literal.Lit.{Lit}
-use Rattle.e_literal.specs.Facts.{joined, joined_all}
+use Rattle.e_literal.specs.Facts.{with_fact, with_facts}
 use Rattle.e_literal.specs.Scopes.{grown}
 use Rattle.e_literal.specs.Use.{StatementView, scope_of, gives_of_use}
 use Rattle.e_clause.specs.LimitedFacts.{are_limited_facts}
@@ -28,7 +28,7 @@ start_with_names t names =
 
 -- after a step that gives one literal
 abbrev pub after_literal : Lit → StepState → StepState
-after_literal l x = record x { context = record x.context { facts = joined x.context.facts l } }
+after_literal l x = record x { context = record x.context { facts = with_fact x.context.facts l } }
 
 -- after a construction, whose new objects have these names
 abbrev pub after_make : Construction → List (List ℕ) → StepState → StepState
@@ -36,7 +36,7 @@ after_make construction names x =
     record {
       context = record x.context {
         scope = grown x.context.scope (sorts_made construction);
-        facts = joined_all x.context.facts (gives_of_construction construction x.context.scope);
+        facts = with_facts x.context.facts (gives_of_construction construction x.context.scope);
       };
       names = named x.names (sorts_made construction) names;
     }
@@ -47,7 +47,7 @@ after_apply t args names x =
     record {
       context = record x.context {
         scope = grown x.context.scope t.made;
-        facts = joined_all x.context.facts (gives_of_use t args x.context.scope);
+        facts = with_facts x.context.facts (gives_of_use t args x.context.scope);
       };
       names = named x.names t.made names;
     }
@@ -58,7 +58,7 @@ after_superposed superposition names x =
     record {
       context = record x.context {
         scope = grown x.context.scope superposing.sorts_copied;
-        facts = joined_all x.context.facts
+        facts = with_facts x.context.facts
             (superposing.gives_of_superposition superposition x.context.scope);
       };
       names = named x.names superposing.sorts_copied names;
@@ -67,7 +67,7 @@ after_superposed superposition names x =
 -- after an inner block that shows these literals
 abbrev pub after_block : List Lit → StepState → StepState
 after_block shown x =
-    record x { context = record x.context { facts = joined_all x.context.facts shown } }
+    record x { context = record x.context { facts = with_facts x.context.facts shown } }
 
 -- with other held states
 abbrev pub with_held : List State → StepState → StepState
@@ -91,7 +91,7 @@ abbrev pub IsLeftWith : Names → List Lit → StepState → StepState → Type 
 IsLeftWith names shown x after =
     (before : List State) (last : State) → x.context.held ≡ before ++ last ∷ [] →
     after ≡ record {
-      context = record { scope = last.scope; facts = joined_all last.facts shown; held = before };
+      context = record { scope = last.scope; facts = with_facts last.facts shown; held = before };
       names = names;
     }
 
@@ -99,7 +99,7 @@ IsLeftWith names shown x after =
 abbrev pub CanJoinLast : List Lit → StepState → Type 0
 CanJoinLast shown x =
     (before : List State) (last : State) → x.context.held ≡ before ++ last ∷ []
-    → IsTrue (are_limited_facts last.scope (joined_all last.facts shown))
+    → IsTrue (are_limited_facts last.scope (with_facts last.facts shown))
 
 -- two objects more of each sort have numbers of 16 bits
 pub record HasRoomForMore (s : Scope) : Type 0 where

@@ -6,7 +6,7 @@ use Rattle.std.proofs.lemmas.Bool.{and_parts, and_from, eq-eqb}
 use Rattle.e_literal.specs.declared.literal.Lit.{Lit}
 use Rattle.e_literal.specs.declared.object.Scope.{Scope}
 use Rattle.e_literal.specs.Literal.{all_in_scope, negation}
-use Rattle.e_literal.specs.Facts.{is_metric, has, others, joined, joined_all}
+use Rattle.e_literal.specs.Facts.{is_metric, has, others, with_fact, with_facts}
 use Rattle.e_literal.specs.Rows.{Row}
 use Rattle.e_literal.specs.Scopes.{grown}
 use Rattle.e_literal.specs.Use.{StatementView, scope_of, gives_of_use}
@@ -155,30 +155,30 @@ formed_lines : (before : List StatementView) (d : Script) (s : Scope) (facts : L
 unfolding placed_steps
 formed_lines before (Cite by rest) s facts goal h w =
     let x = placed_step (Cite by rest) (Cite by rest) s facts goal in
-    let after = placed_steps before rest rest s (joined facts by.lit) goal in
+    let after = placed_steps before rest rest s (with_fact facts by.lit) goal in
     let p = first_of (is_certified before) x after h in
-    then_lines before x after (line_is before x (one_certified before x p.0) refl refl) (formed_lines before rest s (joined facts by.lit) goal p.1 (cite_written by rest w).1)
+    then_lines before x after (line_is before x (one_certified before x p.0) refl refl) (formed_lines before rest s (with_fact facts by.lit) goal p.1 (cite_written by rest w).1)
 formed_lines before (Hence lit None rest) s facts goal h w =
     let x = placed_step (Hence lit None rest) (Hence lit None rest) s facts goal in
-    let after = placed_steps before rest rest s (joined facts lit) goal in
+    let after = placed_steps before rest rest s (with_fact facts lit) goal in
     let p = first_of (is_certified before) x after h in
-    then_lines before x after (line_is before x (one_certified before x p.0) refl refl) (formed_lines before rest s (joined facts lit) goal p.1 (hence_written lit None rest w).2)
+    then_lines before x after (line_is before x (one_certified before x p.0) refl refl) (formed_lines before rest s (with_fact facts lit) goal p.1 (hence_written lit None rest w).2)
 formed_lines before (Hence lit (Some c) rest) s facts goal h w =
     let x = placed_step (Hence lit (Some c) rest) (Hence lit (Some c) rest) s facts goal in
-    let after = placed_steps before rest rest s (joined facts lit) goal in
+    let after = placed_steps before rest rest s (with_fact facts lit) goal in
     let p = first_of (is_certified before) x after h in
     let g = hence_written lit (Some c) rest w in
-    then_lines before x after (line_is before x (one_certified before x p.0) (rw g.1 refl) refl) (formed_lines before rest s (joined facts lit) goal p.1 g.2)
+    then_lines before x after (line_is before x (one_certified before x p.0) (rw g.1 refl) refl) (formed_lines before rest s (with_fact facts lit) goal p.1 g.2)
 formed_lines before (Make construction names certs rest) s facts goal h w =
     let x = placed_step (Make construction names certs rest) (Make construction names certs rest) s facts goal in
-    let after = placed_steps before rest rest (grown s (sorts_made construction)) (joined_all facts (gives_of_construction construction s)) goal in
+    let after = placed_steps before rest rest (grown s (sorts_made construction)) (with_facts facts (gives_of_construction construction s)) goal in
     let p = first_of (is_certified before) x after h in
     let g = make_written construction names certs rest w in
-    then_lines before x after (line_is before x (one_certified before x p.0) g.0 refl) (formed_lines before rest (grown s (sorts_made construction)) (joined_all facts (gives_of_construction construction s)) goal p.1 g.1)
+    then_lines before x after (line_is before x (one_certified before x p.0) g.0 refl) (formed_lines before rest (grown s (sorts_made construction)) (with_facts facts (gives_of_construction construction s)) goal p.1 g.1)
 formed_lines before (Apply theorem args names certs rest) s facts goal h w =
     let x = placed_step (Apply theorem args names certs rest) (Apply theorem args names certs rest) s facts goal in
     let t = theorem_at before theorem in
-    let more = joined_all facts (gives_of_use t (written args) s) in
+    let more = with_facts facts (gives_of_use t (written args) s) in
     let after = placed_steps before rest rest (grown s t.made) more goal in
     let p = first_of (is_certified before) x after h in
     let g = apply_written theorem args names certs rest w in
@@ -187,22 +187,22 @@ formed_lines before (Apply theorem args names certs rest) s facts goal h w =
 formed_lines before (Claim shown inner rest) s facts goal h w =
     let x = placed_step (Claim shown inner rest) (Claim shown inner rest) s facts goal in
     let inside = placed_steps before inner inner s facts (goal_of shown) in
-    let after = placed_steps before rest rest s (joined_all facts shown) goal in
+    let after = placed_steps before rest rest s (with_facts facts shown) goal in
     let p = first_of (is_certified before) x (inside ++ after) h in
     let q = both_of (is_certified before) inside after p.1 in
     let g = claim_written shown inner rest w in
     then_lines before x (inside ++ after) (line_is before x (one_certified before x p.0) refl refl)
-    (all_both (is_formed before) inside after (formed_lines before inner s facts (goal_of shown) q.0 g.1) (formed_lines before rest s (joined_all facts shown) goal q.1 g.2))
+    (all_both (is_formed before) inside after (formed_lines before inner s facts (goal_of shown) q.0 g.1) (formed_lines before rest s (with_facts facts shown) goal q.1 g.2))
 formed_lines before (Superposed superposition names shown certs inner rest) s facts goal h w =
     let x = placed_step (Superposed superposition names shown certs inner rest) (Superposed superposition names shown certs inner rest) s facts goal in
-    let given = joined_all facts (superposing.gives_of_superposition superposition s) in
+    let given = with_facts facts (superposing.gives_of_superposition superposition s) in
     let inside = placed_steps before inner inner (grown s superposing.sorts_copied) given (goal_of shown) in
-    let after = placed_steps before rest rest s (joined_all facts shown) goal in
+    let after = placed_steps before rest rest s (with_facts facts shown) goal in
     let p = first_of (is_certified before) x (inside ++ after) h in
     let q = both_of (is_certified before) inside after p.1 in
     let g = superposed_written superposition names shown certs inner rest w in
     then_lines before x (inside ++ after) (line_is before x (one_certified before x p.0) g.1 refl)
-    (all_both (is_formed before) inside after (formed_lines before inner (grown s superposing.sorts_copied) given (goal_of shown) q.0 g.2) (formed_lines before rest s (joined_all facts shown) goal q.1 g.3))
+    (all_both (is_formed before) inside after (formed_lines before inner (grown s superposing.sorts_copied) given (goal_of shown) q.0 g.2) (formed_lines before rest s (with_facts facts shown) goal q.1 g.3))
 formed_lines before (Qed objects certs) s facts goal h w =
     let x = placed_step (Qed objects certs) (Qed objects certs) s facts goal in
     let p = first_of (is_certified before) x [] h in
@@ -218,13 +218,13 @@ formed_lines before (Contradiction (Some a)) s facts goal h w =
     then_lines before x [] (line_is before x one refl (against_is s facts a one.beside (contradiction_written (Some a) w))) refl
 formed_lines before (Cases lit first second) s facts goal h w =
     let x = placed_step (Cases lit first second) (Cases lit first second) s facts goal in
-    let one = placed_steps before first first s (joined facts lit) goal in
-    let other = placed_steps before second second s (joined facts (negation lit)) goal in
+    let one = placed_steps before first first s (with_fact facts lit) goal in
+    let other = placed_steps before second second s (with_fact facts (negation lit)) goal in
     let p = first_of (is_certified before) x (one ++ other) h in
     let q = both_of (is_certified before) one other p.1 in
     let g = cases_written lit first second w in
     then_lines before x (one ++ other) (line_is before x (one_certified before x p.0) refl refl)
-    (all_both (is_formed before) one other (formed_lines before first s (joined facts lit) goal q.0 g.1) (formed_lines before second s (joined facts (negation lit)) goal q.1 g.2))
+    (all_both (is_formed before) one other (formed_lines before first s (with_fact facts lit) goal q.0 g.1) (formed_lines before second s (with_fact facts (negation lit)) goal q.1 g.2))
 
 pub certified_formed : (before : List StatementView) (t : StatementView) (d : Script) → Certified before t d → is_written_well d ≡ true → Formed before t d
 certified_formed before t d c w = formed_lines before d (scope_of t) (facts_of_statement t) (goal_of_statement t) c w

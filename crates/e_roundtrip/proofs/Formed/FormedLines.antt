@@ -7,7 +7,7 @@ use Rattle.e_literal.specs.declared.object.Scope.{Scope}
 use Rattle.e_literal.specs.declared.literal.Lit.{Lit}
 use Rattle.e_literal.specs.Literal.{negation, all_in_scope}
 use Rattle.e_literal.specs.Rename.{same_obj}
-use Rattle.e_literal.specs.Facts.{joined, joined_all}
+use Rattle.e_literal.specs.Facts.{with_fact, with_facts}
 use Rattle.e_literal.specs.Scopes.{grown}
 use Rattle.e_literal.specs.Use.{StatementView, Used, are_arguments, needs_of_use, gives_of_use, use_of}
 use Rattle.e_literal.proofs.Booleans.{all_both}
@@ -57,7 +57,7 @@ cited_formed known ns goal by x w h facts =
     let before = stated_by known in
     let s = scope_of_names ns in
     let l = placed_step (Cite by x) (Cite by x) s facts goal in
-    then_lines before l (placed_steps before x x s (joined facts by.lit) goal) (one_formed before l w refl refl) (h (joined facts by.lit))
+    then_lines before l (placed_steps before x x s (with_fact facts by.lit) goal) (one_formed before l w refl refl) (h (with_fact facts by.lit))
 
 pub one_each_formed : (s : Scope) (l : Lit) (cs : List Cert) → certs_formed s (l ∷ []) cs ≡ true → length cs ≤ 1
 one_each_formed s l [] h = absurd (true≢false (sym h))
@@ -72,7 +72,7 @@ inferred_formed known ns goal lit (d ∷ []) x w c h facts =
     let before = stated_by known in
     let s = scope_of_names ns in
     let l = placed_step (Hence lit (Some d) x) (Hence lit (Some d) x) s facts goal in
-    then_lines before l (placed_steps before x x s (joined facts lit) goal) (one_formed before l w c refl) (h (joined facts lit))
+    then_lines before l (placed_steps before x x s (with_fact facts lit) goal) (one_formed before l w c refl) (h (with_fact facts lit))
 inferred_formed known ns goal lit (d ∷ e ∷ cs) x w c h facts =
     let p = and_parts (cert_formed (scope_of_names ns) lit d) (certs_formed (scope_of_names ns) [] (e ∷ cs)) c in absurd (true≢false (sym p.1))
 
@@ -88,7 +88,7 @@ unfolding placed_steps
 made_formed known ns goal construction names cs x m h facts =
     let before = stated_by known in
     let s = scope_of_names ns in
-    let more = joined_all facts (gives_of_construction construction s) in
+    let more = with_facts facts (gives_of_construction construction s) in
     let l = placed_step (Make construction names cs x) (Make construction names cs x) s facts goal in
     let after = subst (λ (z : Scope). list_all (is_formed before) (placed_steps before x x z more goal) ≡ true) (sym (named_scope ns (sorts_made construction) names m.count)) (h more) in
     then_lines before l (placed_steps before x x (grown s (sorts_made construction)) more goal) (one_formed before l m.fits m.certs refl) after
@@ -107,7 +107,7 @@ applied_formed known ns goal theorem args names cs x u h facts =
     let before = stated_by known in
     let s = scope_of_names ns in
     let t = theorem_of known theorem in
-    let more = joined_all facts (gives_of_use t (written args) s) in
+    let more = with_facts facts (gives_of_use t (written args) s) in
     let l = placed_step (Apply theorem args names cs x) (Apply theorem args names cs x) s facts goal in
     let after = subst (λ (z : Scope). list_all (is_formed before) (placed_steps before x x z more goal) ≡ true) (sym (named_scope ns t.made names u.count)) (h more) in
     then_lines before l (placed_steps before x x (grown s t.made) more goal) (one_formed before l u.fits u.certs u.full) after
@@ -120,8 +120,8 @@ claimed_formed known ns goal shown inner x w i h facts =
     let s = scope_of_names ns in
     let l = placed_step (Claim shown inner x) (Claim shown inner x) s facts goal in
     let inside = placed_steps before inner inner s facts (goal_of shown) in
-    let after = placed_steps before x x s (joined_all facts shown) goal in
-    then_lines before l (inside ++ after) (one_formed before l w refl refl) (all_both (is_formed before) inside after (i facts) (h (joined_all facts shown)))
+    let after = placed_steps before x x s (with_facts facts shown) goal in
+    then_lines before l (inside ++ after) (one_formed before l w refl refl) (all_both (is_formed before) inside after (i facts) (h (with_facts facts shown)))
 
 -- a superposition, with its certificates: it fits, what it shows is over the objects before it, and each copied point has a new name
 pub record CopyFormed (ns : Names) (superposition : Superpose) (names : List (List ℕ)) (shown : List Lit) (cs : List Cert) : Type 0 where
@@ -136,13 +136,13 @@ unfolding placed_steps
 copied_formed known ns goal superposition names shown cs inner x c i h facts =
     let before = stated_by known in
     let s = scope_of_names ns in
-    let given = joined_all facts (superposing.gives_of_superposition superposition s) in
+    let given = with_facts facts (superposing.gives_of_superposition superposition s) in
     let l = placed_step (Superposed superposition names shown cs inner x) (Superposed superposition names shown cs inner x) s facts goal in
     let inside = placed_steps before inner inner (grown s superposing.sorts_copied) given (goal_of shown) in
-    let after = placed_steps before x x s (joined_all facts shown) goal in
+    let after = placed_steps before x x s (with_facts facts shown) goal in
     let within = subst (λ (z : Scope). list_all (is_formed before) (placed_steps before inner inner z given (goal_of shown)) ≡ true) (sym (named_scope ns superposing.sorts_copied names c.count)) (i given) in
     then_lines before l (inside ++ after) (one_formed before l (and_from (superposing.fits_superposition superposition s) (are_over s shown) c.fits c.over) c.certs refl)
-    (all_both (is_formed before) inside after within (h (joined_all facts shown)))
+    (all_both (is_formed before) inside after within (h (with_facts facts shown)))
 
 -- ---- closes
 
@@ -168,9 +168,9 @@ cases_formed known ns goal lit first second w h k facts =
     let before = stated_by known in
     let s = scope_of_names ns in
     let l = placed_step (Cases lit first second) (Cases lit first second) s facts goal in
-    let one = placed_steps before first first s (joined facts lit) goal in
-    let other = placed_steps before second second s (joined facts (negation lit)) goal in
-    then_lines before l (one ++ other) (one_formed before l w refl refl) (all_both (is_formed before) one other (h (joined facts lit)) (k (joined facts (negation lit))))
+    let one = placed_steps before first first s (with_fact facts lit) goal in
+    let other = placed_steps before second second s (with_fact facts (negation lit)) goal in
+    then_lines before l (one ++ other) (one_formed before l w refl refl) (all_both (is_formed before) one other (h (with_fact facts lit)) (k (with_fact facts (negation lit))))
 
 -- ---- arguments that are all written
 

@@ -11,7 +11,7 @@ use Rattle.e_literal.specs.declared.object.Scope.{Scope}
 use Rattle.e_literal.specs.declared.literal.Lit.{Lit}
 use Rattle.e_literal.specs.WellFormed.{is_well_formed}
 use Rattle.e_literal.specs.Scopes.{next_objects}
-use Rattle.e_literal.specs.Rename.{renamed, image_in, paired}
+use Rattle.e_literal.specs.Rename.{with_images, image_in, pairs_of}
 use Rattle.e_clause.specs.declared.cert.By.{By}
 use Rattle.e_construct.specs.declared.construction.Shape.{Shape}
 use Rattle.e_construct.specs.declared.construction.Shape.TheVariants.{Free, OnLine, Within, Beyond, SideOf, Opposite, OnCircle, Inside, Outside, LineThrough, CircleAt, MeetLines, MeetOne, MeetBoth, MeetWithin, MeetBeyond, CirclesOne, CirclesBoth, CirclesSide, CirclesOpposite}
@@ -165,7 +165,7 @@ one_each s (o ∷ os) avoid le = length-map avoid _
 pub avoided_give : (construction : Construction) (s : Scope) → length construction.avoid ≤ length (gives_of_construction construction s)
 avoided_give construction s =
     let r = row_of_construction construction in
-    let first : List Lit = map (renamed (image_in (paired r.args construction.args ++ paired r.made (made_by_row r s)))) r.gives in
+    let first : List Lit = map (with_images (image_in (pairs_of r.args construction.args ++ pairs_of r.made (made_by_row r s)))) r.gives in
     let last = gives_of_avoided (made_by_row r s) construction.avoid in
     omega (arith, length-append first last, one_each s r.made construction.avoid (leb-true 1 (length r.made) (makes construction.shape)))
 

@@ -8,7 +8,7 @@ use Rattle.e_literal.specs.declared.literal.Lit.{Lit}
 use Rattle.e_literal.specs.Literal.{count_of, is_in_scope, all_in_scope, objects_of_atom}
 use Rattle.e_literal.specs.Scopes.{nothing, grown, next_objects}
 use Rattle.e_literal.specs.Rename.{same_obj}
-use Rattle.e_literal.specs.Facts.{joined_all}
+use Rattle.e_literal.specs.Facts.{with_facts}
 use Rattle.e_literal.specs.WellFormed.{is_well_formed}
 use Rattle.e_literal.specs.Use.{StatementView, scope_of, is_statement, are_arguments, needs_of_use, gives_of_use}
 use Rattle.e_literal.proofs.GrownScopes.{counts_nothing}
@@ -25,7 +25,7 @@ use Rattle.e_deriv.specs.Parts.{written, has_no_blank}
 use Rattle.e_deriv.specs.Goal.{Goal}
 use Rattle.e_deriv.specs.PlacedSteps.{placed_steps, theorem_at}
 use Rattle.e_deriv.specs.Certified.{is_certified}
-use Rattle.e_trim.specs.Looked.{Wants, no_wants, both, needed, of_step, of_certs}
+use Rattle.e_trim.specs.Looked.{Wants, no_wants, both, wanted_objects, of_step, of_certs}
 use Rattle.e_trim.specs.Trimmed.{joins_at, supplies, is_needed, is_kept, as_step, wants, obj_at, lit_among_kept, cert_at, args_at, trimmed_from}
 use Rattle.e_trim.proofs.renumbering.Members.{in_left, in_right, in_either}
 use Rattle.e_trim.proofs.renumbering.Counting.{scope_kept, scope_more}
@@ -89,9 +89,9 @@ given_speaks t (l ∷ ls) h =
 
 pub apply_goes : (before : List StatementView) → list_all is_statement before ≡ true → (kept : List Obj) (s : Scope) (facts : List Lit) (goal : Goal) (theorem : ℕ) (args : List (Option Obj)) (names : List (List ℕ)) (certs : List Cert) (rest : Script)
     → list_all (is_cert_of version.One) certs ≡ true → is_certified before (as_step (Apply theorem args names certs rest) s facts goal) ≡ true
-    → ((more : List Obj) → Goes before more (grown s (theorem_at before theorem).made) (joined_all facts (joins_at before (Apply theorem args names certs rest) s)) goal
-    (wants before rest (grown s (theorem_at before theorem).made) (joined_all facts (joins_at before (Apply theorem args names certs rest) s)) goal)
-    (trimmed_from before more rest (grown s (theorem_at before theorem).made) (joined_all facts (joins_at before (Apply theorem args names certs rest) s)) goal))
+    → ((more : List Obj) → Goes before more (grown s (theorem_at before theorem).made) (with_facts facts (joins_at before (Apply theorem args names certs rest) s)) goal
+    (wants before rest (grown s (theorem_at before theorem).made) (with_facts facts (joins_at before (Apply theorem args names certs rest) s)) goal)
+    (trimmed_from before more rest (grown s (theorem_at before theorem).made) (with_facts facts (joins_at before (Apply theorem args names certs rest) s)) goal))
     → Goes before kept s facts goal (wants before (Apply theorem args names certs rest) s facts goal) (trimmed_from before kept (Apply theorem args names certs rest) s facts goal)
 unfolding wants trimmed_from placed_steps
 apply_goes before st kept s facts goal theorem args names certs rest v h more now goal' r = by (is_kept before here s facts w) refl r
@@ -115,7 +115,7 @@ apply_goes before st kept s facts goal theorem args names certs rest v h more no
     wide = kept ++ next_objects s th.made
 
     after : List Lit
-    after = joined_all facts given
+    after = with_facts facts given
 
     w : Wants
     w = wants before rest (grown s th.made) after goal
@@ -143,8 +143,8 @@ apply_goes before st kept s facts goal theorem args names certs rest v h more no
         let q = and_parts (certify_all s facts needs certs) (has_no_blank args) p.1 in
         let scopes = both_in s os (looked.objects ++ []) (objects_in s th.declared os fit) (both_in s looked.objects [] (certs_scope s facts facts needs certs q.0) (λ o i. absurd i)) in
         let c = covered kept s facts now goal goal' own line_ready scopes in
-        let objects = (cover_left kept own.lits (needed os) (both looked no_wants) c).objects in
-        let own_certs = cover_left kept own.lits looked no_wants (cover_right kept own.lits (needed os) (both looked no_wants) c) in
+        let objects = (cover_left kept own.lits (wanted_objects os) (both looked no_wants) c).objects in
+        let own_certs = cover_left kept own.lits looked no_wants (cover_right kept own.lits (wanted_objects os) (both looked no_wants) c) in
         let vars = next_objects nothing th.declared in
         let z : sorts vars ≡ sorts os = Rattle.e_literal.proofs.GrownScopes.sorts_next nothing th.declared ∙ sorts_are s th.declared os fit in
         let speaks = given_speaks th th.given (good_scope (scope_of th) th.given halves.0) in
@@ -161,16 +161,16 @@ apply_goes before st kept s facts goal theorem args names certs rest v h more no
         = λ o i. elim (in_either o os (next_objects s th.made) i) [ inl j ↦ in_left o kept (next_objects s th.made) (objects o j) | inr j ↦ in_right o kept (next_objects s th.made) j ] in
         let given_over : OverLits wide given
         = subst (OverLits wide) (sym (use_pairs th os s th.shown fit)) (vars_over wide (sources th) (targets th os s) th.shown (sorts_agree th os s fit) (speak_all th th.shown shown_scope) targets_kept) in
-        let next = more wide (joined_all now (map (lit_among_kept wide) given)) goal' (made_ready kept s th.made facts now given goal goal' w given_over (first kept s facts now goal goal' w (both own no_wants) k)) in
+        let next = more wide (with_facts now (map (lit_among_kept wide) given)) goal' (made_ready kept s th.made facts now given goal goal' w given_over (first kept s facts now goal goal' w (both own no_wants) k)) in
         let args' = written_at kept args in
         let filled : is_choice th (scope_kept kept) (args_at kept args) (written (args_at kept args)) ≡ true
         = and_from (fills (args_at kept args) (written (args_at kept args))) (are_arguments th (scope_kept kept) (written (args_at kept args))) (fills_own (args_at kept args) (blanks_at kept args ∙ q.1)) (ap (are_arguments th (scope_kept kept)) args' ∙ fit') in
         and_from (is_certified before (as_step (Apply theorem (args_at kept args) names (map (cert_at kept) certs) t) (scope_kept kept) now goal')) _
         (and_from (ltb theorem (length before) && is_choice th (scope_kept kept) (args_at kept args) (written (args_at kept args))) _ (and_from (ltb theorem (length before)) _ f.0 filled)
         (and_from _ (has_no_blank (args_at kept args)) (ap (λ xs. certify_all (scope_kept kept) now (needs_of_use th xs (scope_kept kept)) (map (cert_at kept) certs)) args' ∙ ap (λ ls. certify_all (scope_kept kept) now ls (map (cert_at kept) certs)) needs_move ∙ done) (blanks_at kept args ∙ q.1)))
-        (ap (λ sc. certified_from before t sc (joined_all now (gives_of_use th (written (args_at kept args)) (scope_kept kept))) goal') (sym (scope_more kept s th.made))
-        ∙ ap (λ xs. certified_from before t (scope_kept wide) (joined_all now (gives_of_use th xs (scope_kept kept))) goal') args'
-        ∙ ap (λ ls. certified_from before t (scope_kept wide) (joined_all now ls) goal') gives_move ∙ next)
+        (ap (λ sc. certified_from before t sc (with_facts now (gives_of_use th (written (args_at kept args)) (scope_kept kept))) goal') (sym (scope_more kept s th.made))
+        ∙ ap (λ xs. certified_from before t (scope_kept wide) (with_facts now (gives_of_use th xs (scope_kept kept))) goal') args'
+        ∙ ap (λ ls. certified_from before t (scope_kept wide) (with_facts now ls) goal') gives_move ∙ next)
     by false e k =
         let p = or_parts (list_any (supplies facts w) given) (list_any (is_needed w) (next_objects s th.made)) e in
         more kept now goal' (unmade_ready kept s th.made facts now given goal goal' w p.0 p.1 k)

@@ -28,7 +28,7 @@ use Rattle.e_clause.specs.MetricCertificate.{row_name_in, sum_in, are_sums_in, s
 use Rattle.e_clause.specs.PartCertificate.{part_certifies, part_in}
 use Rattle.e_clause.specs.TransferCertificate.{parts_certify, instance_certifies, transfer_certifies, transfer_in}
 use Rattle.e_clause.specs.Certify.{certifies, certify_all, certifies_against}
-use Rattle.e_trim.specs.Looked.{no_wants, both, needed, of_lit, of_row, of_sum, of_sums, of_part, of_parts, of_transfer, of_cert, of_certs, of_against}
+use Rattle.e_trim.specs.Looked.{no_wants, both, wanted_objects, of_lit, of_row, of_sum, of_sums, of_part, of_parts, of_transfer, of_cert, of_certs, of_against}
 use Rattle.e_trim.specs.Trimmed.{lit_among_kept, obj_at, row_name_among_kept, sum_at, sums_at, part_at, transfer_among_kept, cert_at, against_at}
 use Rattle.e_trim.proofs.renumbering.Members.{In, in_left, in_right}
 use Rattle.e_trim.proofs.renumbering.Counting.{scope_kept}
@@ -124,8 +124,8 @@ transfer_cover : (kept : List Obj) (facts looked : List Lit) (l : Lit) (t : Tran
     → AllKept kept t.args × Covered kept looked (of_parts facts (others lits l) t.parts)
 transfer_cover kept facts looked l t lits e c =
     let w = option_map_or (λ ls. of_parts facts (others ls l) t.parts) (Inst t.rule t.args) no_wants in
-    let args = cover_left kept looked (needed t.args) w c in
-    let rest = cover_right kept looked (needed t.args) w c in
+    let args = cover_left kept looked (wanted_objects t.args) w c in
+    let rest = cover_right kept looked (wanted_objects t.args) w c in
     (args.objects, subst (λ o. Covered kept looked (option_map_or (λ ls. of_parts facts (others ls l) t.parts) o no_wants)) e rest)
 
 pub transfer_stays : (kept : List Obj) (facts now looked : List Lit) (l : Lit) (t : TransferCert) → list_all (is_part_of version.One) t.parts ≡ true → Stays kept facts now looked → OverLit kept l → Covered kept looked (of_transfer facts l t)

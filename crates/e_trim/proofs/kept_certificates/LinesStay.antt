@@ -11,7 +11,7 @@ use Rattle.e_literal.specs.declared.object.Sort.{Sort}
 use Rattle.e_literal.specs.declared.literal.Lit.{Lit}
 use Rattle.e_literal.specs.Literal.{negation, count_of, is_in_scope, all_in_scope}
 use Rattle.e_literal.specs.Scopes.{grown, next_objects}
-use Rattle.e_literal.specs.Facts.{has, has_all, others, joined_all}
+use Rattle.e_literal.specs.Facts.{has, has_all, others, with_facts}
 use Rattle.e_literal.specs.Rename.{same_obj}
 use Rattle.e_literal.proofs.Sorts.{same_obj_self}
 use Rattle.e_construct.proofs.Moving.{grows}
@@ -153,7 +153,7 @@ goal_widens kept s xs goal now (inr g) = inr (record {
 
 -- a kept step that makes objects: what it gives joins on both sides, over the new objects too
 pub made_ready : (kept : List Obj) (s : Scope) (xs : List Sort) (facts now ls : List Lit) (goal goal' : Goal) (w : Wants) → OverLits (kept ++ next_objects s xs) ls → Ready kept s facts now goal goal' w
-    → Ready (kept ++ next_objects s xs) (grown s xs) (joined_all facts ls) (joined_all now (map (lit_among_kept (kept ++ next_objects s xs)) ls)) goal goal' w
+    → Ready (kept ++ next_objects s xs) (grown s xs) (with_facts facts ls) (with_facts now (map (lit_among_kept (kept ++ next_objects s xs)) ls)) goal goal' w
 made_ready kept s xs facts now ls goal goal' w o r = record {
   stays = joins_all (kept ++ next_objects s xs) facts now w.lits ls o (comes kept s xs facts now w.lits r.bound r.stays);
   needed = λ x i h. elim (cases_lt x.num (count_of s x.sort)) [
@@ -166,7 +166,7 @@ made_ready kept s xs facts now ls goal goal' w o r = record {
 
 -- a dropped step: none of its objects is needed, and none of its literals looked up
 pub unmade_ready : (kept : List Obj) (s : Scope) (xs : List Sort) (facts now ls : List Lit) (goal goal' : Goal) (w : Wants) → list_any (supplies facts w) ls ≡ false → list_any (is_needed w) (next_objects s xs) ≡ false
-    → Ready kept s facts now goal goal' w → Ready kept (grown s xs) (joined_all facts ls) now goal goal' w
+    → Ready kept s facts now goal goal' w → Ready kept (grown s xs) (with_facts facts ls) now goal goal' w
 unmade_ready kept s xs facts now ls goal goal' w e n r = record {
   stays = dropped_all kept facts now w ls e r.stays;
   needed = λ x i h. elim (cases_lt x.num (count_of s x.sort)) [

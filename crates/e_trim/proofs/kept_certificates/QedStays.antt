@@ -11,7 +11,7 @@ use Rattle.e_literal.specs.declared.object.Sort.{Sort}
 use Rattle.e_literal.specs.declared.literal.Lit.{Lit}
 use Rattle.e_literal.specs.Literal.{obj, count_of, is_in_scope, all_in_scope, objects_of_atom}
 use Rattle.e_literal.specs.Scopes.{same_sort, nothing, with_one, grown, next_objects, are_of_sorts}
-use Rattle.e_literal.specs.Rename.{renamed, number_at, image_in, paired}
+use Rattle.e_literal.specs.Rename.{with_images, number_at, image_in, pairs_of}
 use Rattle.e_literal.specs.WellFormed.{is_well_formed}
 use Rattle.e_literal.specs.Use.{StatementView, scope_of, is_statement}
 use Rattle.e_literal.proofs.GrownScopes.{counts_nothing}
@@ -24,7 +24,7 @@ use Rattle.e_deriv.specs.Script.{Qed}
 use Rattle.e_deriv.specs.Goal.{Goal, goal_of, goal_of_statement, are_for, goal_with}
 use Rattle.e_deriv.specs.PlacedSteps.{placed_steps}
 use Rattle.e_deriv.specs.Certified.{is_certified}
-use Rattle.e_trim.specs.Looked.{no_wants, both, needed, of_step, of_certs}
+use Rattle.e_trim.specs.Looked.{no_wants, both, wanted_objects, of_step, of_certs}
 use Rattle.e_trim.specs.Trimmed.{is_lesser_of_sort, kept_before, obj_at, lit_among_kept, cert_at, as_step, wants, trimmed_from, declared_of}
 use Rattle.e_trim.proofs.renumbering.Members.{In, in_left, all_in}
 use Rattle.e_trim.proofs.renumbering.Counting.{scope_kept, is_one, is_none, none_less, number_stays, next_above, less_from, not_less}
@@ -98,11 +98,11 @@ shown_holds kept s (x ∷ os) shown o h k = absurd (true≢false (sym h))
 
 -- the object is made, or declared
 made_or_declared : (t : StatementView) (os : List Obj) (o : Obj) → sorts (next_objects (scope_of t) t.made) ≡ sorts os → is_in_scope (grown (scope_of t) t.made) o ≡ true
-    → ((y : Obj) × (image_in (paired (next_objects (scope_of t) t.made) os) o ≡ Some y)) ⊎ ((image_in (paired (next_objects (scope_of t) t.made) os) o ≡ None) × (o.num < count_of (scope_of t) o.sort))
-made_or_declared t os o z h = by (image_in (paired (next_objects (scope_of t) t.made) os) o) refl
+    → ((y : Obj) × (image_in (pairs_of (next_objects (scope_of t) t.made) os) o ≡ Some y)) ⊎ ((image_in (pairs_of (next_objects (scope_of t) t.made) os) o ≡ None) × (o.num < count_of (scope_of t) o.sort))
+made_or_declared t os o z h = by (image_in (pairs_of (next_objects (scope_of t) t.made) os) o) refl
   where
-    by : (x : Option Obj) → image_in (paired (next_objects (scope_of t) t.made) os) o ≡ x
-        → ((y : Obj) × (image_in (paired (next_objects (scope_of t) t.made) os) o ≡ Some y)) ⊎ ((image_in (paired (next_objects (scope_of t) t.made) os) o ≡ None) × (o.num < count_of (scope_of t) o.sort))
+    by : (x : Option Obj) → image_in (pairs_of (next_objects (scope_of t) t.made) os) o ≡ x
+        → ((y : Obj) × (image_in (pairs_of (next_objects (scope_of t) t.made) os) o ≡ Some y)) ⊎ ((image_in (pairs_of (next_objects (scope_of t) t.made) os) o ≡ None) × (o.num < count_of (scope_of t) o.sort))
     by (Some y) e = inl (y, e)
     by None e = inr (
       e,
@@ -114,7 +114,7 @@ made_or_declared t os o z h = by (image_in (paired (next_objects (scope_of t) t.
 
 number_goes : (kept : List Obj) (t : StatementView) (more os : List Obj) (o : Obj) → kept ≡ declared_of t ++ more → ((k : Obj) → In k more → count_of (scope_of t) k.sort ≤ k.num) → sorts (next_objects (scope_of t) t.made) ≡ sorts os
     → is_in_scope (grown (scope_of t) t.made) o ≡ true
-    → number_at (image_in (paired (next_objects (scope_of t) t.made) (map (obj_at kept) os))) o.sort o.num ≡ kept_before kept o.sort (number_at (image_in (paired (next_objects (scope_of t) t.made) os)) o.sort o.num)
+    → number_at (image_in (pairs_of (next_objects (scope_of t) t.made) (map (obj_at kept) os))) o.sort o.num ≡ kept_before kept o.sort (number_at (image_in (pairs_of (next_objects (scope_of t) t.made) os)) o.sort o.num)
 number_goes kept t more os o first above z h = elim (made_or_declared t os o z h) [
   | inl y ↦ number_moves kept (next_objects (scope_of t) t.made) os o z (ap is_some y.1)
   | inr d ↦
@@ -125,18 +125,18 @@ number_goes kept t more os o first above z h = elim (made_or_declared t os o z h
 
 shown_move : (kept : List Obj) (t : StatementView) (more os : List Obj) (ls : List Lit) → kept ≡ declared_of t ++ more → ((k : Obj) → In k more → count_of (scope_of t) k.sort ≤ k.num) → sorts (next_objects (scope_of t) t.made) ≡ sorts os
     → list_all (λ (l : Lit). is_well_formed l && all_in_scope (grown (scope_of t) t.made) l) ls ≡ true
-    → map (renamed (image_in (paired (next_objects (scope_of t) t.made) (map (obj_at kept) os)))) ls ≡ map (lit_among_kept kept) (map (renamed (image_in (paired (next_objects (scope_of t) t.made) os))) ls)
+    → map (with_images (image_in (pairs_of (next_objects (scope_of t) t.made) (map (obj_at kept) os)))) ls ≡ map (lit_among_kept kept) (map (with_images (image_in (pairs_of (next_objects (scope_of t) t.made) os))) ls)
 shown_move kept t more os [] first above z h = refl
 shown_move kept t more os (l ∷ ls) first above z h =
     let made = next_objects (scope_of t) t.made in
     let p = and_parts (is_well_formed l && all_in_scope (grown (scope_of t) t.made) l) (list_all (λ (x : Lit). is_well_formed x && all_in_scope (grown (scope_of t) t.made) x) ls) h in
     let q = and_parts (is_well_formed l) (all_in_scope (grown (scope_of t) t.made) l) p.0 in
-    let one = ap (λ a. record { neg = l.neg; atom = a }) (moved_atom kept (number_at (image_in (paired made os))) (number_at (image_in (paired made (map (obj_at kept) os)))) l.atom
+    let one = ap (λ a. record { neg = l.neg; atom = a }) (moved_atom kept (number_at (image_in (pairs_of made os))) (number_at (image_in (pairs_of made (map (obj_at kept) os)))) l.atom
     (λ o i. number_goes kept t more os o first above z (all_in (is_in_scope (grown (scope_of t) t.made)) (objects_of_atom l.atom) o q.1 i))) in
-    ap (λ x. x ∷ map (renamed (image_in (paired made (map (obj_at kept) os)))) ls) one ∙ ap (λ xs. lit_among_kept kept (renamed (image_in (paired made os)) l) ∷ xs) (shown_move kept t more os ls first above z p.1)
+    ap (λ x. x ∷ map (with_images (image_in (pairs_of made (map (obj_at kept) os)))) ls) one ∙ ap (λ xs. lit_among_kept kept (with_images (image_in (pairs_of made os)) l) ∷ xs) (shown_move kept t more os ls first above z p.1)
 
 shown_over : (kept : List Obj) (t : StatementView) (more os : List Obj) (ls : List Lit) → kept ≡ declared_of t ++ more → AllKept kept os → sorts (next_objects (scope_of t) t.made) ≡ sorts os
-    → list_all (λ (l : Lit). is_well_formed l && all_in_scope (grown (scope_of t) t.made) l) ls ≡ true → OverLits kept (map (renamed (image_in (paired (next_objects (scope_of t) t.made) os))) ls)
+    → list_all (λ (l : Lit). is_well_formed l && all_in_scope (grown (scope_of t) t.made) l) ls ≡ true → OverLits kept (map (with_images (image_in (pairs_of (next_objects (scope_of t) t.made) os))) ls)
 shown_over kept t more os [] first k z h m i = absurd i
 shown_over kept t more os (l ∷ ls) first k z h m (inr i) =
     let p = and_parts (is_well_formed l && all_in_scope (grown (scope_of t) t.made) l) (list_all (λ (x : Lit). is_well_formed x && all_in_scope (grown (scope_of t) t.made) x) ls) h in
@@ -151,9 +151,9 @@ shown_over kept t more os (l ∷ ls) first k z h m (inl e) = subst (OverLit kept
         let p = and_parts (is_well_formed l && all_in_scope (grown (scope_of t) t.made) l) (list_all (λ (x : Lit). is_well_formed x && all_in_scope (grown (scope_of t) t.made) x) ls) h in
         (and_parts (is_well_formed l) (all_in_scope (grown (scope_of t) t.made) l) p.0).1
 
-    one : OverLit kept (renamed (image_in (paired made os)) l)
+    one : OverLit kept (with_images (image_in (pairs_of made os)) l)
     one x i =
-        let o = object_from (number_at (image_in (paired made os))) l.atom x i in
+        let o = object_from (number_at (image_in (pairs_of made os))) l.atom x i in
         elim (made_or_declared t os o.0 z (all_in (is_in_scope (grown (scope_of t) t.made)) (objects_of_atom l.atom) o.0 scoped o.1)) [
           | inl y ↦
               let sort = image_sort made os o.0 y.0 z y.1 in
@@ -201,8 +201,8 @@ qed_goes before kept s facts goal os certs v h now goal' r =
     let q = and_parts (certify_all s facts (goal_with goal os) certs) true p.1 in
     let scopes = both_in s os (looked.objects ++ []) (objects_in s (sorts goal.made) os p.0) (both_in s looked.objects [] (certs_scope s facts facts (goal_with goal os) certs q.0) (λ o i. absurd i)) in
     let c = covered kept s facts now goal goal' own r scopes in
-    let objects = (cover_left kept own.lits (needed os) (both looked no_wants) c).objects in
-    let own_certs = cover_left kept own.lits looked no_wants (cover_right kept own.lits (needed os) (both looked no_wants) c) in
+    let objects = (cover_left kept own.lits (wanted_objects os) (both looked no_wants) c).objects in
+    let own_certs = cover_left kept own.lits looked no_wants (cover_right kept own.lits (wanted_objects os) (both looked no_wants) c) in
     let g = goal_holds kept s os goal goal' r.goes p.0 objects in
     let done = certs_stay kept s facts now own.lits (goal_with goal os) certs v r.stays g.2 own_certs q.0 in
     and_from (is_certified before (as_step (Qed (map (obj_at kept) os) (map (cert_at kept) certs)) (scope_kept kept) now goal')) true

@@ -9,7 +9,7 @@ use Rattle.e_literal.specs.declared.literal.Lit.{Lit}
 use Rattle.e_literal.specs.Literal.{count_of}
 use Rattle.e_literal.specs.Scopes.{next_objects}
 use Rattle.e_literal.specs.Same.{same_lit}
-use Rattle.e_literal.specs.Facts.{has, joined, joined_all}
+use Rattle.e_literal.specs.Facts.{has, with_fact, with_facts}
 use Rattle.e_trim.specs.Looked.{Wants}
 use Rattle.e_trim.specs.Trimmed.{lit_among_kept, supplies, wants_outside}
 use Rattle.e_trim.proofs.renumbering.Members.{In, in_left, in_right, in_either, in_filter}
@@ -19,24 +19,24 @@ use Rattle.e_trim.proofs.renumbering.LitsAt.{OverLit, OverLits, same_at, same_tu
 
 -- ---- one literal joins
 
-pub in_joined : (facts : List Lit) (l m : Lit) → In m facts → In m (joined facts l)
-unfolding joined
+pub in_joined : (facts : List Lit) (l m : Lit) → In m facts → In m (with_fact facts l)
+unfolding with_fact
 in_joined facts l m i = by (has facts l)
   where
     by : (b : Bool) → In m (cond b facts (facts ++ l ∷ []))
     by true = i
     by false = in_left m facts (l ∷ []) i
 
-pub new_joined : (facts : List Lit) (l : Lit) → has facts l ≡ false → In l (joined facts l)
-unfolding joined
+pub new_joined : (facts : List Lit) (l : Lit) → has facts l ≡ false → In l (with_fact facts l)
+unfolding with_fact
 new_joined facts l h = by (has facts l) h
   where
     by : (b : Bool) → b ≡ false → In l (cond b facts (facts ++ l ∷ []))
     by true e = absurd (true≢false e)
     by false e = in_right l facts (l ∷ []) (inl refl)
 
-pub joined_either : (facts : List Lit) (l m : Lit) → In m (joined facts l) → In m facts ⊎ ((l ≡ m) × (has facts l ≡ false))
-unfolding joined
+pub joined_either : (facts : List Lit) (l m : Lit) → In m (with_fact facts l) → In m facts ⊎ ((l ≡ m) × (has facts l ≡ false))
+unfolding with_fact
 joined_either facts l m i = by (has facts l) refl i
   where
     last : In m (facts ++ l ∷ []) → has facts l ≡ false → In m facts ⊎ ((l ≡ m) × (has facts l ≡ false))
@@ -52,13 +52,13 @@ joined_either facts l m i = by (has facts l) refl i
     by true e h = inl h
     by false e h = last h e
 
-pub has_more : (facts : List Lit) (l m : Lit) → has facts m ≡ true → has (joined facts l) m ≡ true
-has_more facts l m h = let r = has_in facts m h in in_has (joined facts l) r.0 m (in_joined facts l r.0 r.1) r.2
+pub has_more : (facts : List Lit) (l m : Lit) → has facts m ≡ true → has (with_fact facts l) m ≡ true
+has_more facts l m h = let r = has_in facts m h in in_has (with_fact facts l) r.0 m (in_joined facts l r.0 r.1) r.2
 
-pub has_new : (facts : List Lit) (l : Lit) → has (joined facts l) l ≡ true
+pub has_new : (facts : List Lit) (l : Lit) → has (with_fact facts l) l ≡ true
 has_new facts l = elim (cases_Bool (has facts l)) [
   | inl e ↦ has_more facts l l e
-  | inr e ↦ in_has_own (joined facts l) l (new_joined facts l e)
+  | inr e ↦ in_has_own (with_fact facts l) l (new_joined facts l e)
 ]
 
 -- ---- what stays
@@ -89,40 +89,40 @@ pub fewer : (kept : List Obj) (facts now looked less : List Lit) → Within less
 fewer kept facts now looked less w st = record { there = λ m i h. st.there m i (w m h); only = st.only }
 
 -- a step is kept
-pub joins : (kept : List Obj) (facts now looked : List Lit) (l : Lit) → OverLit kept l → Stays kept facts now looked → Stays kept (joined facts l) (joined now (lit_among_kept kept l)) looked
+pub joins : (kept : List Obj) (facts now looked : List Lit) (l : Lit) → OverLit kept l → Stays kept facts now looked → Stays kept (with_fact facts l) (with_fact now (lit_among_kept kept l)) looked
 joins kept facts now looked l o st = record { there = there'; only = only' }
   where
     new : has facts l ≡ false → has now (lit_among_kept kept l) ≡ false
     new e = false_from_ne_true (has now (lit_among_kept kept l)) (λ t. true≢false (sym (had_before kept facts now looked l st o t) ∙ e))
 
-    there' : (m : Lit) → In m (joined facts l) → has looked m ≡ true → In (lit_among_kept kept m) (joined now (lit_among_kept kept l)) × OverLit kept m
+    there' : (m : Lit) → In m (with_fact facts l) → has looked m ≡ true → In (lit_among_kept kept m) (with_fact now (lit_among_kept kept l)) × OverLit kept m
     there' m i h = elim (joined_either facts l m i) [
       | inl k ↦ let t = st.there m k h in (in_joined now (lit_among_kept kept l) (lit_among_kept kept m) t.0, t.1)
-      | inr k ↦ (subst (λ x. In (lit_among_kept kept x) (joined now (lit_among_kept kept l))) k.0 (new_joined now (lit_among_kept kept l) (new k.1)), subst (OverLit kept) k.0 o)
+      | inr k ↦ (subst (λ x. In (lit_among_kept kept x) (with_fact now (lit_among_kept kept l))) k.0 (new_joined now (lit_among_kept kept l) (new k.1)), subst (OverLit kept) k.0 o)
     ]
 
-    only' : (n : Lit) → In n (joined now (lit_among_kept kept l)) → (m : Lit) × (lit_among_kept kept m ≡ n) × (has (joined facts l) m ≡ true) × OverLit kept m
+    only' : (n : Lit) → In n (with_fact now (lit_among_kept kept l)) → (m : Lit) × (lit_among_kept kept m ≡ n) × (has (with_fact facts l) m ≡ true) × OverLit kept m
     only' n i = elim (joined_either now (lit_among_kept kept l) n i) [
       | inl k ↦ let t = st.only n k in (t.0, t.1, has_more facts l t.0 t.2, t.3)
       | inr k ↦ (l, k.0, has_new facts l, o)
     ]
 
-pub joins_all : (kept : List Obj) (facts now looked ls : List Lit) → OverLits kept ls → Stays kept facts now looked → Stays kept (joined_all facts ls) (joined_all now (map (lit_among_kept kept) ls)) looked
+pub joins_all : (kept : List Obj) (facts now looked ls : List Lit) → OverLits kept ls → Stays kept facts now looked → Stays kept (with_facts facts ls) (with_facts now (map (lit_among_kept kept) ls)) looked
 joins_all kept facts now looked [] o st = st
 joins_all kept facts now looked (l ∷ ls) o st =
-    joins_all kept (joined facts l) (joined now (lit_among_kept kept l)) looked ls (λ x i. o x (inr i)) (joins kept facts now looked l (o l (inl refl)) st)
+    joins_all kept (with_fact facts l) (with_fact now (lit_among_kept kept l)) looked ls (λ x i. o x (inr i)) (joins kept facts now looked l (o l (inl refl)) st)
 
 -- a literal of a dropped step joins
-pub dropped : (kept : List Obj) (facts now looked : List Lit) (l : Lit) → (has facts l ≡ false → has looked l ≡ false) → Stays kept facts now looked → Stays kept (joined facts l) now looked
+pub dropped : (kept : List Obj) (facts now looked : List Lit) (l : Lit) → (has facts l ≡ false → has looked l ≡ false) → Stays kept facts now looked → Stays kept (with_fact facts l) now looked
 dropped kept facts now looked l none st = record { there = there'; only = only' }
   where
-    there' : (m : Lit) → In m (joined facts l) → has looked m ≡ true → In (lit_among_kept kept m) now × OverLit kept m
+    there' : (m : Lit) → In m (with_fact facts l) → has looked m ≡ true → In (lit_among_kept kept m) now × OverLit kept m
     there' m i h = elim (joined_either facts l m i) [
       | inl k ↦ st.there m k h
       | inr k ↦ absurd (true≢false (sym h ∙ sym (ap (has looked) k.0) ∙ none k.1))
     ]
 
-    only' : (n : Lit) → In n now → (m : Lit) × (lit_among_kept kept m ≡ n) × (has (joined facts l) m ≡ true) × OverLit kept m
+    only' : (n : Lit) → In n now → (m : Lit) × (lit_among_kept kept m ≡ n) × (has (with_fact facts l) m ≡ true) × OverLit kept m
     only' n i = let t = st.only n i in (t.0, t.1, has_more facts l t.0 t.2, t.3)
 
 no_supply : (facts : List Lit) (w : Wants) (l : Lit) → supplies facts w l ≡ false → has facts l ≡ false → has w.lits l ≡ false
@@ -133,24 +133,24 @@ no_supply facts w l h e = by (has facts l) (has w.lits l) h e
     by false y k f = k
 
 -- the literals of a step that supplies none join
-pub dropped_all : (kept : List Obj) (facts now : List Lit) (w : Wants) (ls : List Lit) → list_any (supplies facts w) ls ≡ false → Stays kept facts now w.lits → Stays kept (joined_all facts ls) now w.lits
+pub dropped_all : (kept : List Obj) (facts now : List Lit) (w : Wants) (ls : List Lit) → list_any (supplies facts w) ls ≡ false → Stays kept facts now w.lits → Stays kept (with_facts facts ls) now w.lits
 dropped_all kept facts now w [] e st = st
 dropped_all kept facts now w (l ∷ ls) e st =
     let p = or_parts (supplies facts w l) (list_any (supplies facts w) ls) e in
-    dropped_all kept (joined facts l) now w ls (none_later facts w l ls p.1) (dropped kept facts now w.lits l (no_supply facts w l p.0) st)
+    dropped_all kept (with_fact facts l) now w ls (none_later facts w l ls p.1) (dropped kept facts now w.lits l (no_supply facts w l p.0) st)
   where
     and_no : (b : Bool) → (b && false) ≡ false
     and_no true = refl
     and_no false = refl
 
     -- what is a fact already supplies no more
-    less : (facts : List Lit) (w : Wants) (l m : Lit) → supplies facts w m ≡ false → supplies (joined facts l) w m ≡ false
+    less : (facts : List Lit) (w : Wants) (l m : Lit) → supplies facts w m ≡ false → supplies (with_fact facts l) w m ≡ false
     less facts w l m h = elim (cases_Bool (has facts m)) [
       | inl t ↦ ap (λ b. not b && has w.lits m) (has_more facts l m t)
-      | inr f ↦ let none = no_supply facts w m h f in ap (λ b. not (has (joined facts l) m) && b) none ∙ and_no (not (has (joined facts l) m))
+      | inr f ↦ let none = no_supply facts w m h f in ap (λ b. not (has (with_fact facts l) m) && b) none ∙ and_no (not (has (with_fact facts l) m))
     ]
 
-    none_later : (facts : List Lit) (w : Wants) (l : Lit) (ms : List Lit) → list_any (supplies facts w) ms ≡ false → list_any (supplies (joined facts l) w) ms ≡ false
+    none_later : (facts : List Lit) (w : Wants) (l : Lit) (ms : List Lit) → list_any (supplies facts w) ms ≡ false → list_any (supplies (with_fact facts l) w) ms ≡ false
     none_later facts w l [] h = refl
     none_later facts w l (m ∷ ms) h =
         let q = or_parts (supplies facts w m) (list_any (supplies facts w) ms) h in

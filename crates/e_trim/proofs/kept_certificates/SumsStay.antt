@@ -24,7 +24,7 @@ use Rattle.e_clause.specs.Versions.{is_name_of, is_sum_of, are_sums_of}
 use Rattle.e_clause.specs.System.{pos_row, top_row, right_row, least_row}
 use Rattle.e_clause.specs.Sum.{Place, is_step_term, fact_row, goal_row, says_differ, unless_not, row_named, weighed_rows, is_nonzero_bounded, is_limited_sum, refutes}
 use Rattle.e_clause.specs.MetricCertificate.{differing_of, differing, above_row, below_row, both_refute, sums_refute}
-use Rattle.e_trim.specs.Looked.{Wants, both, looked_up, first_that, parts_ends, of_term, of_row, of_sum, of_sums}
+use Rattle.e_trim.specs.Looked.{Wants, both, wanted_lits, first_that, parts_ends, of_term, of_row, of_sum, of_sums}
 use Rattle.e_trim.specs.Trimmed as trimmed
 use Rattle.e_trim.specs.Trimmed.{kept_before, lit_among_kept, sum_at, sums_at}
 use Rattle.e_trim.proofs.renumbering.Members.{in_left, in_right}
@@ -121,12 +121,12 @@ top_moves kept looked p now (Ang a b d) pl c x e =
     )
 top_moves kept looked p now t pl c x e = none_some x e
 
-pos_moves : (kept : List Obj) (looked : List Lit) (p now : Place) (t : Term) → Placed kept looked p now → Covered kept looked (both (looked_up (first_that (parts_ends t) p.facts)) (of_term p.facts p.wanted t))
+pos_moves : (kept : List Obj) (looked : List Lit) (p now : Place) (t : Term) → Placed kept looked p now → Covered kept looked (both (wanted_lits (first_that (parts_ends t) p.facts)) (of_term p.facts p.wanted t))
     → Moves kept (row_named p (Pos t)) (row_named now (Pos (term_at (kept_before kept Point) t)))
 pos_moves kept looked p now (Seg a b) pl c x e =
     let t = Seg a b in
-    let own = cover_right kept looked (looked_up (first_that (parts_ends t) p.facts)) (of_term p.facts p.wanted t) c in
-    let parted = cover_left kept looked (looked_up (first_that (parts_ends t) p.facts)) (of_term p.facts p.wanted t) c in
+    let own = cover_right kept looked (wanted_lits (first_that (parts_ends t) p.facts)) (of_term p.facts p.wanted t) c in
+    let parted = cover_left kept looked (wanted_lits (first_that (parts_ends t) p.facts)) (of_term p.facts p.wanted t) c in
     let s = if_some (is_step_term p t && are_apart p.facts a b) (Some (pos_row t)) x e in
     let q = and_parts (is_step_term p t) (are_apart p.facts a b) s.0 in
     let here = subst (λ w. stands now.facts w (term_at (kept_before kept Point) t) ≡ true) (sym pl.wanted) (term_stays kept p.facts now.facts looked p.wanted t pl.stays own q.0) in

@@ -18,8 +18,9 @@ use Rattle.e_literal.specs.Rename.{term_at, mono_at, atom_at}
 use Rattle.e_literal.specs.Same.{term_eq, same_lit}
 use Rattle.e_literal.specs.Facts.{has, are_apart, are_equal_points}
 use Rattle.e_literal.proofs.Terms.{term_eq_is, term_eq_same}
-use Rattle.e_clause.specs.Assignment.{terms_of_atom, terms_of_lits, terms_of_wanted, terms_of_step}
-use Rattle.e_trim.specs.Looked.{Wants, first_that, has_written, parts_ends, of_term}
+use Rattle.e_clause.specs.Assignment.{terms_of_atom, terms_of_lits, terms_of_wanted, terms_of_step, lit_has_term}
+use Rattle.e_clause.proofs.WrittenTerms.{in_lits}
+use Rattle.e_trim.specs.Looked.{Wants, first_that, parts_ends, of_term}
 use Rattle.e_trim.specs.Trimmed.{kept_before, lit_among_kept}
 use Rattle.e_trim.proofs.renumbering.Members.{In, any_in}
 use Rattle.e_trim.proofs.renumbering.LitsAt.{AllKept, OverLit, same_at, has_in, in_has}
@@ -68,12 +69,8 @@ any_at kept t (u ∷ ts) h = elim (or_cases (term_eq t u) (list_any (term_eq t) 
 ]
 
 -- a literal that has the term has it over the kept points
-pub written_at : (kept : List Obj) (t : Term) (l : Lit) → has_written t l ≡ true → has_written (at kept t) (lit_among_kept kept l) ≡ true
+pub written_at : (kept : List Obj) (t : Term) (l : Lit) → lit_has_term t l ≡ true → lit_has_term (at kept t) (lit_among_kept kept l) ≡ true
 written_at kept t l h = ap (list_any (term_eq (at kept t))) (terms_at kept l.atom) ∙ any_at kept t (terms_of_atom l.atom) h
-
-in_lits : (t : Term) (ls : List Lit) → list_any (term_eq t) (terms_of_lits ls) ≡ list_any (has_written t) ls
-in_lits t [] = refl
-in_lits t (l ∷ ls) = list_any-append (term_eq t) (terms_of_atom l.atom) (terms_of_lits ls) ∙ ap (λ b. list_any (term_eq t) (terms_of_atom l.atom) || b) (in_lits t ls)
 
 abbrev pub wanted_at : List Obj → Option Lit → Option Lit
 wanted_at kept wanted = option_map (lit_among_kept kept) wanted
@@ -108,10 +105,10 @@ term_stays kept facts now looked wanted t st c h = elim (or_cases (term_eq t Rig
 
     in_facts : list_any (term_eq t) (terms_of_wanted wanted) ≡ false → list_any (term_eq t) (terms_of_lits facts) ≡ true → list_any (term_eq (at kept t)) (terms_of_lits now) ≡ true
     in_facts none k =
-        let r = first_in (has_written t) facts (sym (in_lits t facts) ∙ k) in
-        let up = c.lits r.0 (looked_unless (list_any (term_eq t) (terms_of_wanted wanted)) (first_that (has_written t) facts) r.0 none r.3) in
+        let r = first_in (lit_has_term t) facts (sym (in_lits t facts) ∙ k) in
+        let up = c.lits r.0 (looked_unless (list_any (term_eq t) (terms_of_wanted wanted)) (first_that (lit_has_term t) facts) r.0 none r.3) in
         let n = st.there r.0 r.1 up in
-        in_lits (at kept t) now ∙ any_in (has_written (at kept t)) (lit_among_kept kept r.0) now n.0 (written_at kept t r.0 r.2)
+        in_lits (at kept t) now ∙ any_in (lit_has_term (at kept t)) (lit_among_kept kept r.0) now n.0 (written_at kept t r.0 r.2)
 
     in_either_list : (list_any (term_eq t) (terms_of_lits facts) || list_any (term_eq t) (terms_of_wanted wanted)) ≡ true
         → (list_any (term_eq (at kept t)) (terms_of_lits now) || list_any (term_eq (at kept t)) (terms_of_wanted (wanted_at kept wanted))) ≡ true

@@ -8,7 +8,7 @@ use Rattle.e_literal.specs.declared.object.Scope.{Scope}
 use Rattle.e_literal.specs.declared.object.Sort.{Sort}
 use Rattle.e_literal.specs.declared.literal.Lit.{Lit}
 use Rattle.e_literal.specs.Literal.{negation}
-use Rattle.e_literal.specs.Facts.{joined, joined_all}
+use Rattle.e_literal.specs.Facts.{with_fact, with_facts}
 use Rattle.e_literal.specs.Scopes.{grown, next_objects}
 use Rattle.e_literal.specs.Use.{StatementView, gives_of_use}
 use Rattle.e_literal.proofs.Booleans.{and_left, and_right}
@@ -32,7 +32,7 @@ use Rattle.e_deriv.proofs.Smallness.{few_of_small, few_objects}
 use Rattle.e_deriv.proofs.Scripts.{steps_script-append, step_script-Claim, step_script-Superposed}
 use Rattle.e_trim.specs.Trimmed.{makes_at, is_kept, wants, trimmed_from}
 use Rattle.e_trim.specs.inner.Flags.{flag, flags_of, step_flags}
-use Rattle.e_trim.specs.inner.StepState.{FewKept, passed}
+use Rattle.e_trim.specs.inner.StepState.{FewKept, state_after}
 use Rattle.e_trim.specs.inner.Building.{AreSmall, IsSmallStep, TakesFlag, IsBuilt, StepIsBuilt, CloseIsBuilt, BlockIsBuilt, kept_step}
 use Rattle.e_trim.specs.declared.step_state.StepState.{StepState}
 use Rattle.e_trim.proofs.walks.StepForms.{inner_test, all_parts, cases_parts, flags_step, trimmed_step}
@@ -74,11 +74,11 @@ none_taken pile left kept e under inner false h =
 -- the flags after a step and its own lie over the others
 over_step : (before : List StatementView) (step : Step) (rest : Script) (x : StepState) (goal : Goal) (pile under : List Bool) → pile ≡ under ++ flags_of before (step_script step rest) x.scope x.facts goal
     → pile
-    ≡ (under ++ flags_of before rest (passed before (step_script step rest) x).scope (passed before (step_script step rest) x).facts goal)
-    ++ flag (is_kept before (step_script step rest) x.scope x.facts (wants before rest (passed before (step_script step rest) x).scope (passed before (step_script step rest) x).facts goal))
+    ≡ (under ++ flags_of before rest (state_after before (step_script step rest) x).scope (state_after before (step_script step rest) x).facts goal)
+    ++ flag (is_kept before (step_script step rest) x.scope x.facts (wants before rest (state_after before (step_script step rest) x).scope (state_after before (step_script step rest) x).facts goal))
     (step_flags before (step_script step rest) x.scope x.facts)
 over_step before step rest x goal pile under e =
-    let after = passed before (step_script step rest) x in
+    let after = state_after before (step_script step rest) x in
     e ∙ ap (λ fs. under ++ fs) (flags_step before step rest x goal)
     ∙ sym (append_assoc under (flags_of before rest after.scope after.facts goal)
     (flag (is_kept before (step_script step rest) x.scope x.facts (wants before rest after.scope after.facts goal)) (step_flags before (step_script step rest) x.scope x.facts)))
@@ -93,7 +93,7 @@ pub built_dropped : (before : List StatementView) (kept : List Obj) (step : Step
 built_dropped before kept step rest s pile popped left flagged done now close takes off built facts goal under e =
     let x : StepState = record { scope = s; facts = facts } in
     let here = step_script step rest in
-    let after = passed before here x in
+    let after = state_after before here x in
     let own = is_kept before here s facts (wants before rest after.scope after.facts goal) in
     let fs = flags_of before rest after.scope after.facts goal in
     let t = takes (under ++ fs) (step_flags before here s facts) own (over_step before step rest x goal pile under e) in
@@ -111,7 +111,7 @@ pub built_kept : (before : List StatementView) (kept : List Obj) (step : Step) (
 built_kept before kept step rest s pile popped over left flagged done now new close takes on own_built built facts goal under e =
     let x : StepState = record { scope = s; facts = facts } in
     let here = step_script step rest in
-    let after = passed before here x in
+    let after = state_after before here x in
     let own = is_kept before here s facts (wants before rest after.scope after.facts goal) in
     let fs = flags_of before rest after.scope after.facts goal in
     let more = trimmed_from before (kept ++ next_objects s (makes_at before here)) rest after.scope after.facts goal in
@@ -138,7 +138,7 @@ built_block before kept d s pile left block built = built
 pub small_rest : (before : List StatementView) (step : Step) (rest : Script) (s : Scope) → AreSmall before (step_script step rest) s → AreSmall before rest (wide before step rest s)
 small_rest before step rest s r =
     let x : StepState = record { scope = s; facts = r.facts } in
-    record { facts = (passed before (step_script step rest) x).facts; goal = r.goal; small = (all_parts (λ y. is_small y.scope) before step rest x r.goal r.small).2 }
+    record { facts = (state_after before (step_script step rest) x).facts; goal = r.goal; small = (all_parts (λ y. is_small y.scope) before step rest x r.goal r.small).2 }
 
 pub small_here : (before : List StatementView) (step : Step) (rest : Script) (s : Scope) → AreSmall before (step_script step rest) s → is_small s ≡ true
 small_here before step rest s r =
@@ -161,7 +161,7 @@ small_superposed before superposition names shown certs inner s r =
     let step = SuperposedBlock superposition names shown certs inner in
     let e = step_script-Superposed superposition names shown certs inner r.rest in
     record {
-      facts = joined_all r.small.facts (superposing.gives_of_superposition superposition s);
+      facts = with_facts r.small.facts (superposing.gives_of_superposition superposition s);
       goal = goal_of shown;
       small = subst (λ d. inner_test (λ y. is_small y.scope) before d s r.small.facts ≡ true) e (all_parts (λ y. is_small y.scope) before step r.rest x r.small.goal r.small.small).1;
     }
@@ -170,7 +170,7 @@ pub small_cases : (before : List StatementView) (lit : Lit) (first second : Box 
     → (is_small s ≡ true) × AreSmall before (script_of first.value) s × AreSmall before (script_of second.value) s
 small_cases before lit first second s r =
     let p = cases_parts (λ y. is_small y.scope) before lit first second s r.facts r.goal r.small in
-    (p.0, record { facts = joined r.facts lit; goal = r.goal; small = p.1 }, record { facts = joined r.facts (negation lit); goal = r.goal; small = p.2 })
+    (p.0, record { facts = with_fact r.facts lit; goal = r.goal; small = p.1 }, record { facts = with_fact r.facts (negation lit); goal = r.goal; small = p.2 })
 
 pub small_step : (before : List StatementView) (step : Step) (s : Scope) → IsSmallStep before step s → is_small s ≡ true
 small_step before step s r = small_here before step r.rest s r.small
@@ -178,20 +178,20 @@ small_step before step s r = small_here before step r.rest s r.small
 -- before any script
 first_small : (d : Script) (s : Scope) (before : List StatementView) (facts : List Lit) (goal : Goal) → list_all (λ (y : PlacedStep). is_small y.scope) (placed_steps before d d s facts goal) ≡ true → is_small s ≡ true
 unfolding placed_steps
-first_small (Cite x rest) s before facts goal h = (and_parts (is_small s) (list_all (λ (y : PlacedStep). is_small y.scope) (placed_steps before rest rest s (joined facts x.lit) goal)) h).0
-first_small (Hence lit cert rest) s before facts goal h = (and_parts (is_small s) (list_all (λ (y : PlacedStep). is_small y.scope) (placed_steps before rest rest s (joined facts lit) goal)) h).0
-first_small (Make construction names certs rest) s before facts goal h = (and_parts (is_small s) (list_all (λ (y : PlacedStep). is_small y.scope) (placed_steps before rest rest (grown s (sorts_made construction)) (joined_all facts (gives_of_construction construction s)) goal)) h).0
+first_small (Cite x rest) s before facts goal h = (and_parts (is_small s) (list_all (λ (y : PlacedStep). is_small y.scope) (placed_steps before rest rest s (with_fact facts x.lit) goal)) h).0
+first_small (Hence lit cert rest) s before facts goal h = (and_parts (is_small s) (list_all (λ (y : PlacedStep). is_small y.scope) (placed_steps before rest rest s (with_fact facts lit) goal)) h).0
+first_small (Make construction names certs rest) s before facts goal h = (and_parts (is_small s) (list_all (λ (y : PlacedStep). is_small y.scope) (placed_steps before rest rest (grown s (sorts_made construction)) (with_facts facts (gives_of_construction construction s)) goal)) h).0
 first_small (Apply theorem args names certs rest) s before facts goal h =
-    (and_parts (is_small s) (list_all (λ (y : PlacedStep). is_small y.scope) (placed_steps before rest rest (grown s (theorem_at before theorem).made) (joined_all facts (gives_of_use (theorem_at before theorem) (args_of (Apply theorem args names certs rest)) s)) goal)) h).0
+    (and_parts (is_small s) (list_all (λ (y : PlacedStep). is_small y.scope) (placed_steps before rest rest (grown s (theorem_at before theorem).made) (with_facts facts (gives_of_use (theorem_at before theorem) (args_of (Apply theorem args names certs rest)) s)) goal)) h).0
 first_small (Claim shown inner rest) s before facts goal h =
-    (and_parts (is_small s) (list_all (λ (y : PlacedStep). is_small y.scope) (placed_steps before inner inner s facts (goal_of shown) ++ placed_steps before rest rest s (joined_all facts shown) goal)) h).0
+    (and_parts (is_small s) (list_all (λ (y : PlacedStep). is_small y.scope) (placed_steps before inner inner s facts (goal_of shown) ++ placed_steps before rest rest s (with_facts facts shown) goal)) h).0
 first_small (Superposed superposition names shown certs inner rest) s before facts goal h =
     (and_parts (is_small s)
-    (list_all (λ (y : PlacedStep). is_small y.scope) (placed_steps before inner inner (grown s superposing.sorts_copied) (joined_all facts (superposing.gives_of_superposition superposition s)) (goal_of shown) ++ placed_steps before rest rest s (joined_all facts shown) goal)) h).0
+    (list_all (λ (y : PlacedStep). is_small y.scope) (placed_steps before inner inner (grown s superposing.sorts_copied) (with_facts facts (superposing.gives_of_superposition superposition s)) (goal_of shown) ++ placed_steps before rest rest s (with_facts facts shown) goal)) h).0
 first_small (Qed objects certs) s before facts goal h = (and_parts (is_small s) true h).0
 first_small (Contradiction against) s before facts goal h = (and_parts (is_small s) true h).0
 first_small (Cases lit first second) s before facts goal h =
-    (and_parts (is_small s) (list_all (λ (y : PlacedStep). is_small y.scope) (placed_steps before first first s (joined facts lit) goal ++ placed_steps before second second s (joined facts (negation lit)) goal)) h).0
+    (and_parts (is_small s) (list_all (λ (y : PlacedStep). is_small y.scope) (placed_steps before first first s (with_fact facts lit) goal ++ placed_steps before second second s (with_fact facts (negation lit)) goal)) h).0
 
 pub small_first : (before : List StatementView) (d : Script) (s : Scope) → AreSmall before d s → is_small s ≡ true
 small_first before d s r = first_small d s before r.facts r.goal r.small

@@ -7,7 +7,7 @@ use Rattle.e_literal.specs.declared.object.Scope.{Scope}
 use Rattle.e_literal.specs.declared.object.Sort.{Sort}
 use Rattle.e_literal.specs.declared.literal.Lit.{Lit}
 use Rattle.e_literal.specs.Literal.{negation}
-use Rattle.e_literal.specs.Facts.{joined, joined_all}
+use Rattle.e_literal.specs.Facts.{with_fact, with_facts}
 use Rattle.e_literal.specs.Scopes.{grown, next_objects}
 use Rattle.e_literal.specs.Use.{StatementView}
 use Rattle.e_construct.specs.declared.construction.Construction.{Construction}
@@ -80,7 +80,7 @@ superposed_done : (before : List StatementView) (kept wide : List Obj) (superpos
     → (rest more : Script) (facts : List Lit) (under : List Bool) → pile ≡ under ++ step_flags before (Superposed superposition names shown certs (script_of inner.value) rest) s facts
     → (Superposed now same new cs (script_of block) more ≡ kept_step before kept (Superposed superposition names shown certs (script_of inner.value) rest) s facts more) × (left ≡ under)
 superposed_done before kept wide superposition now names same shown new certs cs inner block s pile left w f n e g built rest more facts under h =
-    let opened = joined_all facts (superposing.gives_of_superposition superposition s) in
+    let opened = with_facts facts (superposing.gives_of_superposition superposition s) in
     let r = built opened (goal_of shown) under h in (
       ap (λ x. Superposed x same new cs (script_of block) more) f
           ∙ ap (λ x. Superposed (superpose_at kept superposition) x new cs (script_of block) more) n
@@ -122,11 +122,11 @@ cases_done : (before : List StatementView) (kept : List Obj) (lit new : Lit) (fi
     → (Cases new (script_of one) (script_of other) ≡ trimmed_from before kept (Cases lit (script_of first.value) (script_of second.value)) s facts goal) × (left ≡ under)
 unfolding flags_of trimmed_from
 cases_done before kept lit new first second one other s pile over left e built built_other facts goal under h =
-    let lower = flags_of before (script_of second.value) s (joined facts (negation lit)) goal in
-    let a = built (joined facts lit) goal (under ++ lower) (h ∙ sym (append_assoc under lower (flags_of before (script_of first.value) s (joined facts lit) goal))) in
-    let b = built_other (joined facts (negation lit)) goal under a.1 in (
+    let lower = flags_of before (script_of second.value) s (with_fact facts (negation lit)) goal in
+    let a = built (with_fact facts lit) goal (under ++ lower) (h ∙ sym (append_assoc under lower (flags_of before (script_of first.value) s (with_fact facts lit) goal))) in
+    let b = built_other (with_fact facts (negation lit)) goal under a.1 in (
       ap (λ x. Cases x (script_of one) (script_of other)) e ∙ ap (λ x. Cases (lit_among_kept kept lit) x (script_of other)) a.0
-          ∙ ap (λ x. Cases (lit_among_kept kept lit) (trimmed_from before kept (script_of first.value) s (joined facts lit) goal) x) b.0,
+          ∙ ap (λ x. Cases (lit_among_kept kept lit) (trimmed_from before kept (script_of first.value) s (with_fact facts lit) goal) x) b.0,
       b.1,
     )
 

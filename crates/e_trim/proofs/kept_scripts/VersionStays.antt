@@ -7,7 +7,7 @@ use Rattle.e_literal.specs.declared.object.Obj.{Obj}
 use Rattle.e_literal.specs.declared.object.Scope.{Scope}
 use Rattle.e_literal.specs.declared.literal.Lit.{Lit}
 use Rattle.e_literal.specs.Literal.{negation}
-use Rattle.e_literal.specs.Facts.{joined, joined_all}
+use Rattle.e_literal.specs.Facts.{with_fact, with_facts}
 use Rattle.e_literal.specs.Scopes.{grown, next_objects}
 use Rattle.e_literal.specs.Use.{StatementView, scope_of}
 use Rattle.e_literal.proofs.WithImages.{renamed_well_formed}
@@ -87,14 +87,14 @@ module _ (v : Version) (kept : List Obj) where
 pub version_left : (v : Version) (before : List StatementView) (d : Script) (kept : List Obj) (s : Scope) (facts : List Lit) (goal : Goal) → has_certs_of v d ≡ true → has_certs_of v (trimmed_from before kept d s facts goal) ≡ true
 unfolding trimmed_from has_certs_of
 version_left v before (Cite by rest) kept s facts goal h =
-    let r = version_left v before rest kept s (joined facts by.lit) goal h in
-    either (has_certs_of v) (is_kept before (Cite by rest) s facts (wants before rest s (joined facts by.lit) goal)) _ _ r r
+    let r = version_left v before rest kept s (with_fact facts by.lit) goal h in
+    either (has_certs_of v) (is_kept before (Cite by rest) s facts (wants before rest s (with_fact facts by.lit) goal)) _ _ r r
 version_left v before (Hence lit cert rest) kept s facts goal h =
     let p = and_parts (option_map_or (is_cert_of v) cert true) (has_certs_of v rest) h in
-    let r = version_left v before rest kept s (joined facts lit) goal p.1 in
-    either (has_certs_of v) (is_kept before (Hence lit cert rest) s facts (wants before rest s (joined facts lit) goal)) _ _ (and_from _ _ (any_cert_stays v kept cert ∙ p.0) r) r
+    let r = version_left v before rest kept s (with_fact facts lit) goal p.1 in
+    either (has_certs_of v) (is_kept before (Hence lit cert rest) s facts (wants before rest s (with_fact facts lit) goal)) _ _ (and_from _ _ (any_cert_stays v kept cert ∙ p.0) r) r
 version_left v before (Make construction names certs rest) kept s facts goal h =
-    let after = joined_all facts (gives_of_construction construction s) in
+    let after = with_facts facts (gives_of_construction construction s) in
     let p = and_parts (list_all (is_cert_of v) certs) (has_certs_of v rest) h in
     either (has_certs_of v) (is_kept before (Make construction names certs rest) s facts (wants before rest (grown s (sorts_made construction)) after goal)) _ _
     (and_from _ _ (certs_stay v kept certs ∙ p.0) (version_left v before rest (kept ++ next_objects s (sorts_made construction)) (grown s (sorts_made construction)) after goal p.1))
@@ -102,27 +102,27 @@ version_left v before (Make construction names certs rest) kept s facts goal h =
 version_left v before (Apply theorem args names certs rest) kept s facts goal h =
     let here = Apply theorem args names certs rest in
     let new = (theorem_at before theorem).made in
-    let after = joined_all facts (joins_at before here s) in
+    let after = with_facts facts (joins_at before here s) in
     let p = and_parts (list_all (is_cert_of v) certs) (has_certs_of v rest) h in
     either (has_certs_of v) (is_kept before here s facts (wants before rest (grown s new) after goal)) _ _
     (and_from _ _ (certs_stay v kept certs ∙ p.0) (version_left v before rest (kept ++ next_objects s new) (grown s new) after goal p.1))
     (version_left v before rest kept (grown s new) after goal p.1)
 version_left v before (Claim shown inner rest) kept s facts goal h =
     let q = and_parts (has_certs_of v inner) (has_certs_of v rest) h in
-    let r = version_left v before rest kept s (joined_all facts shown) goal q.1 in
-    either (has_certs_of v) (is_kept before (Claim shown inner rest) s facts (wants before rest s (joined_all facts shown) goal)) _ _ (and_from _ _ (version_left v before inner kept s facts (goal_of shown) q.0) r) r
+    let r = version_left v before rest kept s (with_facts facts shown) goal q.1 in
+    either (has_certs_of v) (is_kept before (Claim shown inner rest) s facts (wants before rest s (with_facts facts shown) goal)) _ _ (and_from _ _ (version_left v before inner kept s facts (goal_of shown) q.0) r) r
 version_left v before (Superposed superposition names shown certs inner rest) kept s facts goal h =
     let p = and_parts (list_all (is_cert_of v) certs) (has_certs_of v inner && has_certs_of v rest) h in
     let q = and_parts (has_certs_of v inner) (has_certs_of v rest) p.1 in
-    let r = version_left v before rest kept s (joined_all facts shown) goal q.1 in
-    let kind = joined_all facts (superposing.gives_of_superposition superposition s) in
-    either (has_certs_of v) (is_kept before (Superposed superposition names shown certs inner rest) s facts (wants before rest s (joined_all facts shown) goal)) _ _
+    let r = version_left v before rest kept s (with_facts facts shown) goal q.1 in
+    let kind = with_facts facts (superposing.gives_of_superposition superposition s) in
+    either (has_certs_of v) (is_kept before (Superposed superposition names shown certs inner rest) s facts (wants before rest s (with_facts facts shown) goal)) _ _
     (and_from _ _ (certs_stay v kept certs ∙ p.0) (and_from _ _ (version_left v before inner (kept ++ next_objects s superposing.sorts_copied) (grown s superposing.sorts_copied) kind (goal_of shown) q.0) r)) r
 version_left v before (Qed objects certs) kept s facts goal h = certs_stay v kept certs ∙ h
 version_left v before (Contradiction against) kept s facts goal h = against_stays v kept against ∙ h
 version_left v before (Cases lit first second) kept s facts goal h =
     let q = and_parts (has_certs_of v first) (has_certs_of v second) h in
-    and_from _ _ (version_left v before first kept s (joined facts lit) goal q.0) (version_left v before second kept s (joined facts (negation lit)) goal q.1)
+    and_from _ _ (version_left v before first kept s (with_fact facts lit) goal q.0) (version_left v before second kept s (with_fact facts (negation lit)) goal q.1)
 
 pub trimmed_keeps_version : TrimmedKeepsVersion
 trimmed_keeps_version v before t d h = version_left v before d (declared_of t) (scope_of t) (facts_of_statement t) (goal_of_statement t) h

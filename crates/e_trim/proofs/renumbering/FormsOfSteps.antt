@@ -19,7 +19,7 @@ use Rattle.e_literal.specs.declared.literal.Atom.TheVariants as atoms
 use Rattle.e_literal.specs.declared.literal.Lit.{Lit}
 use Rattle.e_literal.specs.Literal.{obj, count_of, is_in_scope, objects_of_atom, all_in_scope}
 use Rattle.e_literal.specs.Scopes.{same_sort, nothing, with_one, grown, next_objects, are_of_sorts}
-use Rattle.e_literal.specs.Rename.{renamed, term_at, mono_at, atom_at, number_at, same_obj, image_in, paired, has_images}
+use Rattle.e_literal.specs.Rename.{with_images, term_at, mono_at, atom_at, number_at, same_obj, image_in, pairs_of, has_images}
 use Rattle.e_literal.specs.Use.{StatementView, scope_of, image_in_use, are_arguments}
 use Rattle.e_literal.proofs.Sorts.{same_sort_is, same_obj_is}
 use Rattle.e_construct.specs.declared.construction.Construction.{Construction}
@@ -27,7 +27,7 @@ use Rattle.e_construct.specs.declared.construction.Shape.{Shape}
 use Rattle.e_construct.specs.declared.construction.Shape.TheVariants.{Free, OnLine, Within, Beyond, SideOf, Opposite, OnCircle, Inside, Outside, LineThrough, CircleAt, MeetLines, MeetOne, MeetBoth, MeetWithin, MeetBeyond, CirclesOne, CirclesBoth, CirclesSide, CirclesOpposite}
 use Rattle.e_construct.specs.declared.superpose.Superpose.{Superpose}
 use Rattle.e_construct.specs.Shapes.{ShapeRow, Avoids, NoObject, AnyObject, AnyApartFrom, shape_row}
-use Rattle.e_construct.specs.Construct.{row_of_construction, sorts_of, unequal, argument, of_sort, needs_of_avoided, sorts_made, avoiding, made_by_row, gives_of_avoided, gives_of_construction, needs_of_construction, fits_construction, avoids_well}
+use Rattle.e_construct.specs.Construct.{row_of_construction, sorts_of, inequality, argument, of_sort, needs_of_avoided, sorts_made, avoidance, made_by_row, gives_of_avoided, gives_of_construction, needs_of_construction, fits_construction, avoids_well}
 use Rattle.e_construct.specs.Superposing as superposing
 use Rattle.e_literal.proofs.GrownScopes.{sorts_next, counts_nothing}
 use Rattle.e_theorem.proofs.Imaging.{counted_here, counted_other, this_one, sources, targets, imaged, sorts_agree, same_images}
@@ -72,30 +72,30 @@ is_var vars o = list_any (λ v. same_obj v o) vars
 abbrev pub speaks_of : List Obj → Lit → Bool
 speaks_of vars l = list_all (is_var vars) (objects_of_atom l.atom)
 
-pub var_image : (vars args : List Obj) (o : Obj) → sorts vars ≡ sorts args → is_var vars o ≡ true → is_some (image_in (paired vars args) o) ≡ true
+pub var_image : (vars args : List Obj) (o : Obj) → sorts vars ≡ sorts args → is_var vars o ≡ true → is_some (image_in (pairs_of vars args) o) ≡ true
 var_image [] args o s h = absurd (true≢false (sym h))
 var_image (v ∷ vars) [] o s h = absurd cc
 var_image (v ∷ vars) (a ∷ args) o s h = by (same_obj v o) (var_image vars args o (tail_sorts v a (sorts vars) (sorts args) s)) h
   where
-    by : (b : Bool) → (is_var vars o ≡ true → is_some (image_in (paired vars args) o) ≡ true) → (b || is_var vars o) ≡ true → is_some (cond b (Some a) (image_in (paired vars args) o)) ≡ true
+    by : (b : Bool) → (is_var vars o ≡ true → is_some (image_in (pairs_of vars args) o) ≡ true) → (b || is_var vars o) ≡ true → is_some (cond b (Some a) (image_in (pairs_of vars args) o)) ≡ true
     by true more k = refl
     by false more k = more k
 
-vars_images : (vars args os : List Obj) → sorts vars ≡ sorts args → list_all (is_var vars) os ≡ true → list_all (λ (o : Obj). is_some (image_in (paired vars args) o)) os ≡ true
+vars_images : (vars args os : List Obj) → sorts vars ≡ sorts args → list_all (is_var vars) os ≡ true → list_all (λ (o : Obj). is_some (image_in (pairs_of vars args) o)) os ≡ true
 vars_images vars args [] s h = refl
 vars_images vars args (o ∷ os) s h =
     let p = and_parts (is_var vars o) (list_all (is_var vars) os) h in
-    and_from (is_some (image_in (paired vars args) o)) (list_all (λ (x : Obj). is_some (image_in (paired vars args) x)) os) (var_image vars args o s p.0) (vars_images vars args os s p.1)
+    and_from (is_some (image_in (pairs_of vars args) o)) (list_all (λ (x : Obj). is_some (image_in (pairs_of vars args) x)) os) (var_image vars args o s p.0) (vars_images vars args os s p.1)
 
-lits_images : (vars args : List Obj) (ls : List Lit) → sorts vars ≡ sorts args → list_all (speaks_of vars) ls ≡ true → list_all (has_images (image_in (paired vars args))) ls ≡ true
+lits_images : (vars args : List Obj) (ls : List Lit) → sorts vars ≡ sorts args → list_all (speaks_of vars) ls ≡ true → list_all (has_images (image_in (pairs_of vars args))) ls ≡ true
 lits_images vars args [] s h = refl
 lits_images vars args (l ∷ ls) s h =
     let p = and_parts (speaks_of vars l) (list_all (speaks_of vars) ls) h in
-    and_from (has_images (image_in (paired vars args)) l) (list_all (has_images (image_in (paired vars args))) ls) (vars_images vars args (objects_of_atom l.atom) s p.0) (lits_images vars args ls s p.1)
+    and_from (has_images (image_in (pairs_of vars args)) l) (list_all (has_images (image_in (pairs_of vars args))) ls) (vars_images vars args (objects_of_atom l.atom) s p.0) (lits_images vars args ls s p.1)
 
 -- literals that speak of variables, at arguments over the kept objects
 pub at_vars : (kept vars args : List Obj) (ls : List Lit) → sorts vars ≡ sorts args → list_all (speaks_of vars) ls ≡ true
-    → map (renamed (image_in (paired vars (map (obj_at kept) args)))) ls ≡ map (lit_among_kept kept) (map (renamed (image_in (paired vars args))) ls)
+    → map (with_images (image_in (pairs_of vars (map (obj_at kept) args)))) ls ≡ map (lit_among_kept kept) (map (with_images (image_in (pairs_of vars args))) ls)
 at_vars kept vars args ls s h = all_through kept vars args ls s (lits_images vars args ls s h)
 
 -- ---- the twenty constructions
@@ -168,35 +168,35 @@ are_of_sort s (o ∷ os) y i = by (same_sort s o.sort) refl (are_of_sort s os y)
     by true e more (inr j) = more j
     by false e more j = more j
 
-unequal_at : (kept : List Obj) (x y : Obj) → x.sort ≡ y.sort → unequal (obj_at kept x) (obj_at kept y) ≡ lit_among_kept kept (unequal x y)
-unequal_at kept x y e = ap (λ s. unequal (obj_at kept x) (obj s (kept_before kept s y.num))) (sym e) ∙ by x.sort x.num y.num
+unequal_at : (kept : List Obj) (x y : Obj) → x.sort ≡ y.sort → inequality (obj_at kept x) (obj_at kept y) ≡ lit_among_kept kept (inequality x y)
+unequal_at kept x y e = ap (λ s. inequality (obj_at kept x) (obj s (kept_before kept s y.num))) (sym e) ∙ by x.sort x.num y.num
   where
-    by : (s : Sort) (m n : ℕ) → unequal (obj s (kept_before kept s m)) (obj s (kept_before kept s n)) ≡ lit_among_kept kept (unequal (obj s m) (obj s n))
+    by : (s : Sort) (m n : ℕ) → inequality (obj s (kept_before kept s m)) (obj s (kept_before kept s n)) ≡ lit_among_kept kept (inequality (obj s m) (obj s n))
     by Point m n = refl
     by Line m n = refl
     by Circle m n = refl
 
-unequals_at : (kept : List Obj) (x : Obj) (os : List Obj) → ((y : Obj) → In y os → x.sort ≡ y.sort) → map (unequal (obj_at kept x)) (map (obj_at kept) os) ≡ map (lit_among_kept kept) (map (unequal x) os)
+unequals_at : (kept : List Obj) (x : Obj) (os : List Obj) → ((y : Obj) → In y os → x.sort ≡ y.sort) → map (inequality (obj_at kept x)) (map (obj_at kept) os) ≡ map (lit_among_kept kept) (map (inequality x) os)
 unequals_at kept x [] h = refl
-unequals_at kept x (o ∷ os) h = ap (λ l. l ∷ map (unequal (obj_at kept x)) (map (obj_at kept) os)) (unequal_at kept x o (h o (inl refl))) ∙ ap (λ ls. lit_among_kept kept (unequal x o) ∷ ls) (unequals_at kept x os (λ y i. h y (inr i)))
+unequals_at kept x (o ∷ os) h = ap (λ l. l ∷ map (inequality (obj_at kept x)) (map (obj_at kept) os)) (unequal_at kept x o (h o (inl refl))) ∙ ap (λ ls. lit_among_kept kept (inequality x o) ∷ ls) (unequals_at kept x os (λ y i. h y (inr i)))
 
-avoiding_at : (kept : List Obj) (p y : Obj) → p.sort ≡ Point → avoiding (obj_at kept p) (obj_at kept y) ≡ lit_among_kept kept (avoiding p y)
-avoiding_at kept p y e = ap (λ s. avoiding (obj s (kept_before kept s p.num)) (obj_at kept y)) e ∙ by y.sort p.num y.num
+avoiding_at : (kept : List Obj) (p y : Obj) → p.sort ≡ Point → avoidance (obj_at kept p) (obj_at kept y) ≡ lit_among_kept kept (avoidance p y)
+avoiding_at kept p y e = ap (λ s. avoidance (obj s (kept_before kept s p.num)) (obj_at kept y)) e ∙ by y.sort p.num y.num
   where
-    by : (s : Sort) (m n : ℕ) → avoiding (obj Point (kept_before kept Point m)) (obj s (kept_before kept s n)) ≡ lit_among_kept kept (avoiding (obj Point m) (obj s n))
+    by : (s : Sort) (m n : ℕ) → avoidance (obj Point (kept_before kept Point m)) (obj s (kept_before kept s n)) ≡ lit_among_kept kept (avoidance (obj Point m) (obj s n))
     by Point m n = refl
     by Line m n = refl
     by Circle m n = refl
 
-avoidings_at : (kept : List Obj) (p : Obj) (os : List Obj) → p.sort ≡ Point → map (avoiding (obj_at kept p)) (map (obj_at kept) os) ≡ map (lit_among_kept kept) (map (avoiding p) os)
+avoidings_at : (kept : List Obj) (p : Obj) (os : List Obj) → p.sort ≡ Point → map (avoidance (obj_at kept p)) (map (obj_at kept) os) ≡ map (lit_among_kept kept) (map (avoidance p) os)
 avoidings_at kept p [] e = refl
-avoidings_at kept p (o ∷ os) e = ap (λ l. l ∷ map (avoiding (obj_at kept p)) (map (obj_at kept) os)) (avoiding_at kept p o e) ∙ ap (λ ls. lit_among_kept kept (avoiding p o) ∷ ls) (avoidings_at kept p os e)
+avoidings_at kept p (o ∷ os) e = ap (λ l. l ∷ map (avoidance (obj_at kept p)) (map (obj_at kept) os)) (avoiding_at kept p o e) ∙ ap (λ ls. lit_among_kept kept (avoidance p o) ∷ ls) (avoidings_at kept p os e)
 
 -- the argument for a variable has its sort, and is the argument over the kept objects
 argument_at : (kept : List Obj) (r : ShapeRow) (args : List Obj) (o : Obj) → sorts r.args ≡ sorts args → is_var r.args o ≡ true
     → (argument r (map (obj_at kept) args) o ≡ obj_at kept (argument r args o)) × ((argument r args o).sort ≡ o.sort)
 argument_at kept r args o s h =
-    let i = there (image_in (paired r.args args) o) (var_image r.args args o s h) in
+    let i = there (image_in (pairs_of r.args args) o) (var_image r.args args o s h) in
     let is = ap (λ x. unwrap_or x o) i.1 in (
       ap (λ x. unwrap_or x o) (image_at kept r.args args o ∙ ap (option_map (obj_at kept)) i.1) ∙ ap (obj_at kept) (sym is),
       ap (λ (x : Obj). x.sort) is ∙ image_sort r.args args o i.0 s i.1,
@@ -212,8 +212,8 @@ apart_at kept r NoObject args os s h = refl
 apart_at kept r AnyObject args os s h = refl
 apart_at kept r (AnyApartFrom o) args os s h =
     let q = argument_at kept r args o s (and_parts (begins_with_point r.made) (is_var r.args o) h).1 in
-    ap (λ x. map (unequal x) (of_sort o.sort (map (obj_at kept) os))) q.0
-    ∙ ap (map (unequal (obj_at kept (argument r args o)))) (sort_stays kept o.sort os)
+    ap (λ x. map (inequality x) (of_sort o.sort (map (obj_at kept) os))) q.0
+    ∙ ap (map (inequality (obj_at kept (argument r args o)))) (sort_stays kept o.sort os)
     ∙ unequals_at kept (argument r args o) (of_sort o.sort os) (λ y i. q.1 ∙ are_of_sort o.sort os y i)
 
 -- what it needs, over the kept objects
@@ -225,8 +225,8 @@ needs_at kept s construction h =
     let q = and_parts (list_all (speaks_of r.args) r.needs) (list_all (speaks_of (r.args ++ r.made)) r.gives && avoids_closed r r.avoids) (closed construction.shape) in
     let w = and_parts (list_all (speaks_of (r.args ++ r.made)) r.gives) (avoids_closed r r.avoids) q.1 in
     ap (λ ls. ls ++ needs_of_avoided r.avoids (argument r (map (obj_at kept) construction.args)) (map (obj_at kept) construction.avoid)) (at_vars kept r.args construction.args r.needs z q.0)
-    ∙ ap (λ ls. map (lit_among_kept kept) (map (renamed (image_in (paired r.args construction.args))) r.needs) ++ ls) (apart_at kept r r.avoids construction.args construction.avoid z w.1)
-    ∙ sym (map-append (lit_among_kept kept) (map (renamed (image_in (paired r.args construction.args))) r.needs) (needs_of_avoided r.avoids (argument r construction.args) construction.avoid))
+    ∙ ap (λ ls. map (lit_among_kept kept) (map (with_images (image_in (pairs_of r.args construction.args))) r.needs) ++ ls) (apart_at kept r r.avoids construction.args construction.avoid z w.1)
+    ∙ sym (map-append (lit_among_kept kept) (map (with_images (image_in (pairs_of r.args construction.args))) r.needs) (needs_of_avoided r.avoids (argument r construction.args) construction.avoid))
 
 -- old objects keep their numbers
 pub object_stays : (kept : List Obj) (s : Scope) (made : List Sort) (o : Obj) → Bound s kept → In o kept → obj_at (kept ++ next_objects s made) o ≡ obj_at kept o
@@ -248,7 +248,7 @@ sorts_stay kept [] = refl
 sorts_stay kept (o ∷ os) = ap (λ xs. o.sort ∷ xs) (sorts_stay kept os)
 
 -- pairs of lists that are put together
-pairs_both : (xs ys : List Obj) (as' bs : List Obj) → sorts xs ≡ sorts as' → paired (xs ++ ys) (as' ++ bs) ≡ paired xs as' ++ paired ys bs
+pairs_both : (xs ys : List Obj) (as' bs : List Obj) → sorts xs ≡ sorts as' → pairs_of (xs ++ ys) (as' ++ bs) ≡ pairs_of xs as' ++ pairs_of ys bs
 pairs_both [] ys [] bs s = refl
 pairs_both [] ys (a ∷ as') bs s = absurd cc
 pairs_both (x ∷ xs) ys [] bs s = absurd cc
@@ -256,8 +256,8 @@ pairs_both (x ∷ xs) ys (a ∷ as') bs s = ap (λ ps. record { source = x; targ
 
 -- literals that speak of arguments and of new objects, over more kept objects
 pub at_new_vars : (kept : List Obj) (s : Scope) (vars new args : List Obj) (ls : List Lit) → Bound s kept → AllKept kept args → sorts vars ≡ sorts args → list_all (speaks_of (vars ++ new)) ls ≡ true
-    → map (renamed (image_in (paired vars (map (obj_at kept) args) ++ paired new (next_objects (scope_kept kept) (sorts new))))) ls
-    ≡ map (lit_among_kept (kept ++ next_objects s (sorts new))) (map (renamed (image_in (paired vars args ++ paired new (next_objects s (sorts new))))) ls)
+    → map (with_images (image_in (pairs_of vars (map (obj_at kept) args) ++ pairs_of new (next_objects (scope_kept kept) (sorts new))))) ls
+    ≡ map (lit_among_kept (kept ++ next_objects s (sorts new))) (map (with_images (image_in (pairs_of vars args ++ pairs_of new (next_objects s (sorts new))))) ls)
 at_new_vars kept s vars new args ls b k z h =
     let next = next_objects s (sorts new) in
     let more = kept ++ next in
@@ -266,9 +266,9 @@ at_new_vars kept s vars new args ls b k z h =
     let same_sorts : sorts (vars ++ new) ≡ sorts (args ++ next)
     = map-append (λ (o : Obj). o.sort) vars new ∙ ap (λ xs. xs ++ sorts new) z ∙ ap (λ xs. sorts args ++ xs) (sym (sorts_next s (sorts new))) ∙ sym (map-append (λ (o : Obj). o.sort) args next) in
     let kept_sorts : sorts vars ≡ sorts (map (obj_at kept) args) = z ∙ sorts_stay kept args in
-    ap (λ ps. map (renamed (image_in ps)) ls) (sym (pairs_both vars new (map (obj_at kept) args) (next_objects (scope_kept kept) (sorts new)) kept_sorts) ∙ ap (paired (vars ++ new)) (sym moved))
+    ap (λ ps. map (with_images (image_in ps)) ls) (sym (pairs_both vars new (map (obj_at kept) args) (next_objects (scope_kept kept) (sorts new)) kept_sorts) ∙ ap (pairs_of (vars ++ new)) (sym moved))
     ∙ at_vars more (vars ++ new) (args ++ next) ls same_sorts h
-    ∙ ap (λ ps. map (lit_among_kept more) (map (renamed (image_in ps)) ls)) (pairs_both vars new args next z)
+    ∙ ap (λ ps. map (lit_among_kept more) (map (with_images (image_in ps)) ls)) (pairs_both vars new args next z)
 
 kept_avoided : (kept : List Obj) (s : Scope) (new os : List Obj) → Bound s kept → AllKept kept os → begins_with_point new ≡ true
     → gives_of_avoided (next_objects (scope_kept kept) (sorts new)) (map (obj_at kept) os) ≡ map (lit_among_kept (kept ++ next_objects s (sorts new))) (gives_of_avoided (next_objects s (sorts new)) os)
@@ -278,8 +278,8 @@ kept_avoided kept s (p ∷ new) os b k h =
     let first = obj p.sort (count_of s p.sort) in
     let point : p.sort ≡ Point = same_sort_is p.sort Point h in
     let head : obj p.sort (count_of (scope_kept kept) p.sort) ≡ obj_at more first = sym (first_of (obj_at more first) (obj p.sort (count_of (scope_kept kept) p.sort)) _ _ (next_at kept s (sorts (p ∷ new)) b)) in
-    ap (λ x. map (avoiding x) (map (obj_at kept) os)) head
-    ∙ ap (map (avoiding (obj_at more first))) (sym (old_objects kept s (sorts (p ∷ new)) os b k))
+    ap (λ x. map (avoidance x) (map (obj_at kept) os)) head
+    ∙ ap (map (avoidance (obj_at more first))) (sym (old_objects kept s (sorts (p ∷ new)) os b k))
     ∙ avoidings_at more first os point
   where
     first_of : (x y : Obj) (xs ys : List Obj) → (x ∷ xs) ≡ (y ∷ ys) → x ≡ y
@@ -315,9 +315,9 @@ gives_at kept s construction b k h =
     let w = and_parts (list_all (speaks_of (r.args ++ r.made)) r.gives) (avoids_closed r r.avoids) q.1 in
     let own = at_new_vars kept s r.args r.made construction.args r.gives b (λ o i. k o (in_left o construction.args construction.avoid i)) z w.0 in
     ap (λ ls. ls ++ gives_of_avoided (next_objects (scope_kept kept) (sorts r.made)) (map (obj_at kept) construction.avoid)) own
-    ∙ ap (λ ls. map (lit_among_kept more) (map (renamed (image_in (paired r.args construction.args ++ paired r.made (made_by_row r s)))) r.gives) ++ ls)
+    ∙ ap (λ ls. map (lit_among_kept more) (map (with_images (image_in (pairs_of r.args construction.args ++ pairs_of r.made (made_by_row r s)))) r.gives) ++ ls)
     (avoided_at kept s r r.avoids construction.avoid b (λ o i. k o (in_right o construction.args construction.avoid i)) w.1 p.1)
-    ∙ sym (map-append (lit_among_kept more) (map (renamed (image_in (paired r.args construction.args ++ paired r.made (made_by_row r s)))) r.gives) (gives_of_avoided (made_by_row r s) construction.avoid))
+    ∙ sym (map-append (lit_among_kept more) (map (with_images (image_in (pairs_of r.args construction.args ++ pairs_of r.made (made_by_row r s)))) r.gives) (gives_of_avoided (made_by_row r s) construction.avoid))
 
 -- ---- superposition
 
@@ -342,20 +342,20 @@ superposition_fits kept s x h k =
 
 pub superposition_needs : (kept : List Obj) (s : Scope) (x : Superpose) → superposing.fits_superposition x s ≡ true → superposing.needs_of_superposition (superpose_at kept x) ≡ map (lit_among_kept kept) (superposing.needs_of_superposition x)
 superposition_needs kept s x h =
-    ap (λ os. map (renamed (image_in (paired superposing.superposed_args os))) superposing.superposed_needs) (superposed_objects kept x)
+    ap (λ os. map (with_images (image_in (pairs_of superposing.superposed_args os))) superposing.superposed_needs) (superposed_objects kept x)
     ∙ at_vars kept superposing.superposed_args (superposing.objects_of x) superposing.superposed_needs (sorts_are s (sorts_of superposing.superposed_args) (superposing.objects_of x) h) closed_needs
 
 pub superposition_gives : (kept : List Obj) (s : Scope) (x : Superpose) → Bound s kept → AllKept kept (superposing.objects_of x) → superposing.fits_superposition x s ≡ true
     → superposing.gives_of_superposition (superpose_at kept x) (scope_kept kept) ≡ map (lit_among_kept (kept ++ next_objects s superposing.sorts_copied)) (superposing.gives_of_superposition x s)
 superposition_gives kept s x b k h =
-    ap (λ os. map (renamed (image_in (paired superposing.superposed_args os ++ paired superposing.copies (next_objects (scope_kept kept) superposing.sorts_copied)))) superposing.superposed_gives) (superposed_objects kept x)
+    ap (λ os. map (with_images (image_in (pairs_of superposing.superposed_args os ++ pairs_of superposing.copies (next_objects (scope_kept kept) superposing.sorts_copied)))) superposing.superposed_gives) (superposed_objects kept x)
     ∙ at_new_vars kept s superposing.superposed_args superposing.copies (superposing.objects_of x) superposing.superposed_gives b k (sorts_are s (sorts_of superposing.superposed_args) (superposing.objects_of x) h) closed_gives
 
 -- ---- uses
 
 -- the images of a use are pairs
-pub use_pairs : (t : StatementView) (args : List Obj) (s : Scope) (ls : List Lit) → are_arguments t s args ≡ true → map (renamed (image_in_use t args s)) ls ≡ map (renamed (image_in (paired (sources t) (targets t args s)))) ls
-use_pairs t args s ls h = same_images (image_in_use t args s) (image_in (paired (sources t) (targets t args s))) ls (λ o. sym (imaged t args s o h))
+pub use_pairs : (t : StatementView) (args : List Obj) (s : Scope) (ls : List Lit) → are_arguments t s args ≡ true → map (with_images (image_in_use t args s)) ls ≡ map (with_images (image_in (pairs_of (sources t) (targets t args s)))) ls
+use_pairs t args s ls h = same_images (image_in_use t args s) (image_in (pairs_of (sources t) (targets t args s))) ls (λ o. sym (imaged t args s o h))
 
 pub map_targets : (kept : List Obj) (t : StatementView) (args : List Obj) (s : Scope) → Bound s kept → AllKept kept args
     → map (obj_at (kept ++ next_objects s t.made)) (targets t args s) ≡ targets t (map (obj_at kept) args) (scope_kept kept)
@@ -420,11 +420,11 @@ arguments_at kept t s args h k = of_sorts_at kept s t.declared args h k
 
 -- literals of a statement at a use, over the kept objects and the new ones
 pub use_at : (kept : List Obj) (t : StatementView) (s : Scope) (args : List Obj) (ls : List Lit) → Bound s kept → AllKept kept args → are_arguments t s args ≡ true → list_all (all_in_scope (grown (scope_of t) t.made)) ls ≡ true
-    → map (renamed (image_in_use t (map (obj_at kept) args) (scope_kept kept))) ls ≡ map (lit_among_kept (kept ++ next_objects s t.made)) (map (renamed (image_in_use t args s)) ls)
+    → map (with_images (image_in_use t (map (obj_at kept) args) (scope_kept kept))) ls ≡ map (lit_among_kept (kept ++ next_objects s t.made)) (map (with_images (image_in_use t args s)) ls)
 use_at kept t s args ls b k h spoken =
     let more = kept ++ next_objects s t.made in
     use_pairs t (map (obj_at kept) args) (scope_kept kept) ls (arguments_at kept t s args h k)
-    ∙ ap (λ os. map (renamed (image_in (paired (sources t) os))) ls) (sym (map_targets kept t args s b k))
+    ∙ ap (λ os. map (with_images (image_in (pairs_of (sources t) os))) ls) (sym (map_targets kept t args s b k))
     ∙ at_vars more (sources t) (targets t args s) ls (sorts_agree t args s h) (speak_all t ls spoken)
     ∙ ap (map (lit_among_kept more)) (sym (use_pairs t args s ls h))
 
@@ -446,17 +446,17 @@ unmoved_atom (atoms.MagEq x y) = ap (λ n. atoms.MagEq n (map (mono_at (number_a
 unmoved_atom (atoms.MagLt x y) = ap (λ n. atoms.MagLt n (map (mono_at (number_at (image_in []) Point)) y)) (unmoved_sum x) ∙ ap (atoms.MagLt x) (unmoved_sum y)
 unmoved_atom a = refl
 
-pub unmoved : (ls : List Lit) → map (renamed (image_in [])) ls ≡ ls
+pub unmoved : (ls : List Lit) → map (with_images (image_in [])) ls ≡ ls
 unmoved [] = refl
-unmoved (l ∷ ls) = ap (λ a. record { neg = l.neg; atom = a } ∷ map (renamed (image_in [])) ls) (unmoved_atom l.atom) ∙ ap (λ xs. l ∷ xs) (unmoved ls)
+unmoved (l ∷ ls) = ap (λ a. record { neg = l.neg; atom = a } ∷ map (with_images (image_in [])) ls) (unmoved_atom l.atom) ∙ ap (λ xs. l ∷ xs) (unmoved ls)
 
 -- the literals of a goal without made objects
-pub goal_plain : (kept : List Obj) (shown : List Lit) → map (renamed (image_in [])) (map (lit_among_kept kept) shown) ≡ map (lit_among_kept kept) (map (renamed (image_in [])) shown)
+pub goal_plain : (kept : List Obj) (shown : List Lit) → map (with_images (image_in [])) (map (lit_among_kept kept) shown) ≡ map (lit_among_kept kept) (map (with_images (image_in [])) shown)
 goal_plain kept shown = unmoved (map (lit_among_kept kept) shown) ∙ ap (map (lit_among_kept kept)) (sym (unmoved shown))
 
 -- ---- what literals at images speak of
 
-pub image_member : (vars args : List Obj) (o x : Obj) → image_in (paired vars args) o ≡ Some x → In x args
+pub image_member : (vars args : List Obj) (o x : Obj) → image_in (pairs_of vars args) o ≡ Some x → In x args
 image_member [] args o x e = absurd cc
 image_member (v ∷ vars) [] o x e = absurd cc
 image_member (v ∷ vars) (a ∷ args) o x e = by (same_obj v o) (image_member vars args o x) e
@@ -464,12 +464,12 @@ image_member (v ∷ vars) (a ∷ args) o x e = by (same_obj v o) (image_member v
     some_is : (y z : Obj) → Some y ≡ Some z → y ≡ z
     some_is y z k = cc
 
-    by : (b : Bool) → (image_in (paired vars args) o ≡ Some x → In x args) → cond b (Some a) (image_in (paired vars args) o) ≡ Some x → In x (a ∷ args)
+    by : (b : Bool) → (image_in (pairs_of vars args) o ≡ Some x → In x args) → cond b (Some a) (image_in (pairs_of vars args) o) ≡ Some x → In x (a ∷ args)
     by true more k = inl (some_is a x k)
     by false more k = inr (more k)
 
 -- a literal that speaks of variables is, at arguments that are kept, over the kept objects
-pub vars_over : (kept vars args : List Obj) (ls : List Lit) → sorts vars ≡ sorts args → list_all (speaks_of vars) ls ≡ true → AllKept kept args → OverLits kept (map (renamed (image_in (paired vars args))) ls)
+pub vars_over : (kept vars args : List Obj) (ls : List Lit) → sorts vars ≡ sorts args → list_all (speaks_of vars) ls ≡ true → AllKept kept args → OverLits kept (map (with_images (image_in (pairs_of vars args))) ls)
 vars_over kept vars args [] z h k m i = absurd i
 vars_over kept vars args (l ∷ ls) z h k m (inr i) = vars_over kept vars args ls z (and_parts (speaks_of vars l) (list_all (speaks_of vars) ls) h).1 k m i
 vars_over kept vars args (l ∷ ls) z h k m (inl e) = subst (OverLit kept) e one
@@ -481,10 +481,10 @@ vars_over kept vars args (l ∷ ls) z h k m (inl e) = subst (OverLit kept) e one
     spoken : speaks_of vars l ≡ true
     spoken = (and_parts (speaks_of vars l) (list_all (speaks_of vars) ls) h).0
 
-    one : OverLit kept (renamed (image_in (paired vars args)) l)
+    one : OverLit kept (with_images (image_in (pairs_of vars args)) l)
     one x i =
-        let o = object_from (number_at (image_in (paired vars args))) l.atom x i in
-        let y = there (image_in (paired vars args) o.0) (var_image vars args o.0 z (all_in (is_var vars) (objects_of_atom l.atom) o.0 spoken o.1)) in
+        let o = object_from (number_at (image_in (pairs_of vars args))) l.atom x i in
+        let y = there (image_in (pairs_of vars args) o.0) (var_image vars args o.0 z (all_in (is_var vars) (objects_of_atom l.atom) o.0 spoken o.1)) in
         let sort = image_sort vars args o.0 y.0 z y.1 in
         let num = ap (λ w. option_map_or (λ (v : Obj). v.num) w o.0.num) y.1 in
         let is : y.0 ≡ x = ap (λ s. obj s y.0.num) sort ∙ ap (obj o.0.sort) (sym num) ∙ o.2 in
@@ -514,18 +514,18 @@ over_map kept f [] h l i = absurd i
 over_map kept f (o ∷ os) h l (inl e) = subst (OverLit kept) e (h o (inl refl))
 over_map kept f (o ∷ os) h l (inr i) = over_map kept f os (λ y j. h y (inr j)) l i
 
-unequal_over : (kept : List Obj) (x y : Obj) → In x kept → In y kept → x.sort ≡ y.sort → OverLit kept (unequal x y)
+unequal_over : (kept : List Obj) (x y : Obj) → In x kept → In y kept → x.sort ≡ y.sort → OverLit kept (inequality x y)
 unequal_over kept x y h k e = by x.sort x.num y.num h (subst (λ s. In (obj s y.num) kept) (sym e) k)
   where
-    by : (s : Sort) (m n : ℕ) → In (obj s m) kept → In (obj s n) kept → OverLit kept (unequal (obj s m) (obj s n))
+    by : (s : Sort) (m n : ℕ) → In (obj s m) kept → In (obj s n) kept → OverLit kept (inequality (obj s m) (obj s n))
     by Point m n h k o i = elim i [ inl f ↦ subst (λ z. In z kept) f h | inr j ↦ elim j [ inl f ↦ subst (λ z. In z kept) f k | inr f ↦ absurd f ] ]
     by Line m n h k o i = elim i [ inl f ↦ subst (λ z. In z kept) f h | inr j ↦ elim j [ inl f ↦ subst (λ z. In z kept) f k | inr f ↦ absurd f ] ]
     by Circle m n h k o i = elim i [ inl f ↦ subst (λ z. In z kept) f h | inr j ↦ elim j [ inl f ↦ subst (λ z. In z kept) f k | inr f ↦ absurd f ] ]
 
-avoiding_over : (kept : List Obj) (p y : Obj) → In p kept → In y kept → p.sort ≡ Point → OverLit kept (avoiding p y)
+avoiding_over : (kept : List Obj) (p y : Obj) → In p kept → In y kept → p.sort ≡ Point → OverLit kept (avoidance p y)
 avoiding_over kept p y h k e = by y.sort p.num y.num (subst (λ s. In (obj s p.num) kept) e h) k
   where
-    by : (s : Sort) (m n : ℕ) → In (obj Point m) kept → In (obj s n) kept → OverLit kept (avoiding (obj Point m) (obj s n))
+    by : (s : Sort) (m n : ℕ) → In (obj Point m) kept → In (obj s n) kept → OverLit kept (avoidance (obj Point m) (obj s n))
     by Point m n h k o i = elim i [ inl f ↦ subst (λ z. In z kept) f h | inr j ↦ elim j [ inl f ↦ subst (λ z. In z kept) f k | inr f ↦ absurd f ] ]
     by Line m n h k o i = elim i [ inl f ↦ subst (λ z. In z kept) f h | inr j ↦ elim j [ inl f ↦ subst (λ z. In z kept) f k | inr f ↦ absurd f ] ]
     by Circle m n h k o i = elim i [ inl f ↦ subst (λ z. In z kept) f h | inr j ↦ elim j [ inl f ↦ subst (λ z. In z kept) f k | inr f ↦ absurd f ] ]
@@ -540,9 +540,9 @@ in_sorted s (o ∷ os) y i = by (same_sort s o.sort) (in_sorted s os y) i
     by false more j = inr (more j)
 
 argument_in : (r : ShapeRow) (args : List Obj) (o : Obj) → sorts r.args ≡ sorts args → is_var r.args o ≡ true → In (argument r args o) args
-argument_in r args o s h = by (image_in (paired r.args args) o) refl (var_image r.args args o s h)
+argument_in r args o s h = by (image_in (pairs_of r.args args) o) refl (var_image r.args args o s h)
   where
-    by : (x : Option Obj) → image_in (paired r.args args) o ≡ x → is_some x ≡ true → In (unwrap_or x o) args
+    by : (x : Option Obj) → image_in (pairs_of r.args args) o ≡ x → is_some x ≡ true → In (unwrap_or x o) args
     by None e k = absurd (true≢false (sym k))
     by (Some y) e k = image_member r.args args o y e
 
@@ -552,7 +552,7 @@ apart_over kept r AnyObject args os z h k j = λ l i. absurd i
 apart_over kept r (AnyApartFrom o) args os z h k j =
     let v = (and_parts (begins_with_point r.made) (is_var r.args o) h).1 in
     let q = argument_at kept r args o z v in
-    over_map kept (unequal (argument r args o)) (of_sort o.sort os) (λ y i. unequal_over kept (argument r args o) y (k (argument r args o) (argument_in r args o z v)) (j y (in_sorted o.sort os y i)) (q.1 ∙ are_of_sort o.sort os y i))
+    over_map kept (inequality (argument r args o)) (of_sort o.sort os) (λ y i. unequal_over kept (argument r args o) y (k (argument r args o) (argument_in r args o z v)) (j y (in_sorted o.sort os y i)) (q.1 ∙ are_of_sort o.sort os y i))
 
 pub needs_over : (kept : List Obj) (s : Scope) (construction : Construction) → fits_construction construction s ≡ true → AllKept kept (construction.args ++ construction.avoid) → OverLits kept (needs_of_construction construction)
 needs_over kept s construction h k =
@@ -561,7 +561,7 @@ needs_over kept s construction h k =
     let z = sorts_are s (sorts_of r.args) construction.args p.0 in
     let q = and_parts (list_all (speaks_of r.args) r.needs) (list_all (speaks_of (r.args ++ r.made)) r.gives && avoids_closed r r.avoids) (closed construction.shape) in
     let w = and_parts (list_all (speaks_of (r.args ++ r.made)) r.gives) (avoids_closed r r.avoids) q.1 in
-    over_append kept (map (renamed (image_in (paired r.args construction.args))) r.needs) (needs_of_avoided r.avoids (argument r construction.args) construction.avoid)
+    over_append kept (map (with_images (image_in (pairs_of r.args construction.args))) r.needs) (needs_of_avoided r.avoids (argument r construction.args) construction.avoid)
     (vars_over kept r.args construction.args r.needs z q.0 (λ o i. k o (in_left o construction.args construction.avoid i)))
     (apart_over kept r r.avoids construction.args construction.avoid z w.1 (λ o i. k o (in_left o construction.args construction.avoid i)) (λ o i. k o (in_right o construction.args construction.avoid i)))
 
@@ -570,7 +570,7 @@ off_over kept s [] os k h = absurd (true≢false (sym h))
 off_over kept s (p ∷ new) os k h =
     let next = next_objects s (sorts (p ∷ new)) in
     let head = obj p.sort (count_of s p.sort) in
-    over_map (kept ++ next) (avoiding head) os (λ y i. avoiding_over (kept ++ next) head y (in_right head kept next (inl refl)) (in_left y kept next (k y i)) (same_sort_is p.sort Point h))
+    over_map (kept ++ next) (avoidance head) os (λ y i. avoiding_over (kept ++ next) head y (in_right head kept next (inl refl)) (in_left y kept next (k y i)) (same_sort_is p.sort Point h))
 
 avoided_over : (kept : List Obj) (s : Scope) (r : ShapeRow) (a : Avoids) (os : List Obj) → AllKept kept os → avoids_closed r a ≡ true → avoids_well s a os ≡ true → OverLits (kept ++ next_objects s (sorts r.made)) (gives_of_avoided (next_objects s (sorts r.made)) os)
 avoided_over kept s r NoObject os k h w =
@@ -582,14 +582,14 @@ avoided_over kept s r (AnyApartFrom o) os k h w = off_over kept s r.made os k (a
 
 -- literals of arguments and new objects are over the kept ones and the new ones
 pub new_vars_over : (kept : List Obj) (s : Scope) (vars new args : List Obj) (ls : List Lit) → AllKept kept args → sorts vars ≡ sorts args → list_all (speaks_of (vars ++ new)) ls ≡ true
-    → OverLits (kept ++ next_objects s (sorts new)) (map (renamed (image_in (paired vars args ++ paired new (next_objects s (sorts new))))) ls)
+    → OverLits (kept ++ next_objects s (sorts new)) (map (with_images (image_in (pairs_of vars args ++ pairs_of new (next_objects s (sorts new))))) ls)
 new_vars_over kept s vars new args ls k z h =
     let next = next_objects s (sorts new) in
     let same_sorts : sorts (vars ++ new) ≡ sorts (args ++ next)
     = map-append (λ (o : Obj). o.sort) vars new ∙ ap (λ xs. xs ++ sorts new) z ∙ ap (λ xs. sorts args ++ xs) (sym (sorts_next s (sorts new))) ∙ sym (map-append (λ (o : Obj). o.sort) args next) in
     let over : AllKept (kept ++ next) (args ++ next)
     = λ o i. elim (in_either o args next i) [ inl j ↦ in_left o kept next (k o j) | inr j ↦ in_right o kept next j ] in
-    subst (λ ps. OverLits (kept ++ next) (map (renamed (image_in ps)) ls)) (pairs_both vars new args next z) (vars_over (kept ++ next) (vars ++ new) (args ++ next) ls same_sorts h over)
+    subst (λ ps. OverLits (kept ++ next) (map (with_images (image_in ps)) ls)) (pairs_both vars new args next z) (vars_over (kept ++ next) (vars ++ new) (args ++ next) ls same_sorts h over)
 
 pub gives_over : (kept : List Obj) (s : Scope) (construction : Construction) → fits_construction construction s ≡ true → AllKept kept (construction.args ++ construction.avoid) → OverLits (kept ++ next_objects s (sorts_made construction)) (gives_of_construction construction s)
 gives_over kept s construction h k =
@@ -598,7 +598,7 @@ gives_over kept s construction h k =
     let z = sorts_are s (sorts_of r.args) construction.args p.0 in
     let q = and_parts (list_all (speaks_of r.args) r.needs) (list_all (speaks_of (r.args ++ r.made)) r.gives && avoids_closed r r.avoids) (closed construction.shape) in
     let w = and_parts (list_all (speaks_of (r.args ++ r.made)) r.gives) (avoids_closed r r.avoids) q.1 in
-    over_append (kept ++ next_objects s (sorts_made construction)) (map (renamed (image_in (paired r.args construction.args ++ paired r.made (made_by_row r s)))) r.gives) (gives_of_avoided (made_by_row r s) construction.avoid)
+    over_append (kept ++ next_objects s (sorts_made construction)) (map (with_images (image_in (pairs_of r.args construction.args ++ pairs_of r.made (made_by_row r s)))) r.gives) (gives_of_avoided (made_by_row r s) construction.avoid)
     (new_vars_over kept s r.args r.made construction.args r.gives (λ o i. k o (in_left o construction.args construction.avoid i)) z w.0)
     (avoided_over kept s r r.avoids construction.avoid (λ o i. k o (in_right o construction.args construction.avoid i)) w.1 p.1)
 

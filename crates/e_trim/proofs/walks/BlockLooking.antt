@@ -8,7 +8,7 @@ use Rattle.e_literal.specs.declared.object.Scope.{Scope}
 use Rattle.e_literal.specs.declared.object.Sort.{Sort}
 use Rattle.e_literal.specs.declared.literal.Lit.{Lit}
 use Rattle.e_literal.specs.Literal.{negation, all_in_scope}
-use Rattle.e_literal.specs.Facts.{joined, joined_all}
+use Rattle.e_literal.specs.Facts.{with_fact, with_facts}
 use Rattle.e_literal.specs.Scopes.{grown}
 use Rattle.e_literal.specs.Use.{StatementView}
 use Rattle.e_construct.specs.declared.construction.Construction.{Construction}
@@ -33,7 +33,7 @@ use Rattle.e_deriv.proofs.Scripts.{step_script-Claim, step_script-Superposed, cl
 use Rattle.e_trim.specs.Looked.{Wants, no_wants, both, of_step}
 use Rattle.e_trim.specs.Trimmed.{as_step, wants_outside, wants}
 use Rattle.e_trim.specs.inner.Flags.{flags_of, inside_of, step_flags}
-use Rattle.e_trim.specs.inner.StepState.{IsReady, CloseFits, StepWants, StepFlags, KeepsFacts, opened, checkpoint_of, restored}
+use Rattle.e_trim.specs.inner.StepState.{IsReady, CloseFits, StepWants, StepFlags, KeepsFacts, state_with, checkpoint_of, state_at}
 use Rattle.e_trim.specs.declared.step_state.StepState.{StepState}
 use Rattle.e_trim.specs.declared.step_state.Checkpoint.{Checkpoint}
 use Rattle.e_trim.proofs.walks.Both.{both-none, both-assoc}
@@ -42,28 +42,28 @@ use Rattle.e_trim.proofs.walks.StepForms.{keeps_on, keeps_enough, left_back}
 
 -- ---- into a block, and out of it
 
-pub opened_keeps : (sorts : List Sort) (lits : List Lit) (x after : StepState) → after ≡ opened sorts lits x → KeepsFacts x after
+pub opened_keeps : (sorts : List Sort) (lits : List Lit) (x after : StepState) → after ≡ state_with sorts lits x → KeepsFacts x after
 opened_keeps sorts lits x after e = subst (λ (y : StepState). KeepsFacts x y) (sym e) (stay_all x.facts lits)
 
-pub block_enough : (sorts : List Sort) (lits : List Lit) (x after last : StepState) (outer : Checkpoint) → after ≡ opened sorts lits x → KeepsFacts after last → outer ≡ checkpoint_of x → outer.facts ≤ length last.facts
+pub block_enough : (sorts : List Sort) (lits : List Lit) (x after last : StepState) (outer : Checkpoint) → after ≡ state_with sorts lits x → KeepsFacts after last → outer ≡ checkpoint_of x → outer.facts ≤ length last.facts
 block_enough sorts lits x after last outer e k o =
     let n = keeps_enough x last (keeps_on x after last (opened_keeps sorts lits x after e) k) in
     let m = ap (λ (y : Checkpoint). y.facts) o in
     omega (arith, n, m)
 
-pub block_back : (sorts : List Sort) (lits : List Lit) (x after last left : StepState) (outer : Checkpoint) → after ≡ opened sorts lits x → KeepsFacts after last → outer ≡ checkpoint_of x → left ≡ restored outer last → left ≡ x
-block_back sorts lits x after last left outer e k o f = f ∙ ap (λ y. restored y last) o ∙ left_back x last (keeps_on x after last (opened_keeps sorts lits x after e) k)
+pub block_back : (sorts : List Sort) (lits : List Lit) (x after last left : StepState) (outer : Checkpoint) → after ≡ state_with sorts lits x → KeepsFacts after last → outer ≡ checkpoint_of x → left ≡ state_at outer last → left ≡ x
+block_back sorts lits x after last left outer e k o f = f ∙ ap (λ y. state_at y last) o ∙ left_back x last (keeps_on x after last (opened_keeps sorts lits x after e) k)
 
-pub block_ready : (before : List StatementView) (d : Script) (goal : Goal) (sorts : List Sort) (lits : List Lit) (x after : StepState) → after ≡ opened sorts lits x → IsReady before d (grown x.scope sorts) (joined_all x.facts lits) goal → IsReady before d after.scope after.facts goal
+pub block_ready : (before : List StatementView) (d : Script) (goal : Goal) (sorts : List Sort) (lits : List Lit) (x after : StepState) → after ≡ state_with sorts lits x → IsReady before d (grown x.scope sorts) (with_facts x.facts lits) goal → IsReady before d after.scope after.facts goal
 block_ready before d goal sorts lits x after e r = subst (λ (y : StepState). IsReady before d y.scope y.facts goal) (sym e) r
 
-pub block_wants : (before : List StatementView) (d : Script) (goal : Goal) (sorts : List Sort) (lits : List Lit) (x after left : StepState) (w out : Wants) → after ≡ opened sorts lits x → left ≡ x → w ≡ wants before d after.scope after.facts goal
-    → out ≡ wants_outside left.scope left.facts w → out ≡ wants_outside x.scope x.facts (wants before d (grown x.scope sorts) (joined_all x.facts lits) goal)
+pub block_wants : (before : List StatementView) (d : Script) (goal : Goal) (sorts : List Sort) (lits : List Lit) (x after left : StepState) (w out : Wants) → after ≡ state_with sorts lits x → left ≡ x → w ≡ wants before d after.scope after.facts goal
+    → out ≡ wants_outside left.scope left.facts w → out ≡ wants_outside x.scope x.facts (wants before d (grown x.scope sorts) (with_facts x.facts lits) goal)
 block_wants before d goal sorts lits x after left w out e b f o =
     o ∙ ap (λ (y : StepState). wants_outside y.scope y.facts w) b ∙ ap (wants_outside x.scope x.facts) (f ∙ ap (λ (y : StepState). wants before d y.scope y.facts goal) e)
 
-pub block_flags : (before : List StatementView) (d : Script) (goal : Goal) (sorts : List Sort) (lits : List Lit) (x after : StepState) (old new : List Bool) → after ≡ opened sorts lits x → new ≡ old ++ flags_of before d after.scope after.facts goal
-    → new ≡ old ++ flags_of before d (grown x.scope sorts) (joined_all x.facts lits) goal
+pub block_flags : (before : List StatementView) (d : Script) (goal : Goal) (sorts : List Sort) (lits : List Lit) (x after : StepState) (old new : List Bool) → after ≡ state_with sorts lits x → new ≡ old ++ flags_of before d after.scope after.facts goal
+    → new ≡ old ++ flags_of before d (grown x.scope sorts) (with_facts x.facts lits) goal
 block_flags before d goal sorts lits x after old new e f = f ∙ ap (λ (y : StepState). old ++ flags_of before d y.scope y.facts goal) e
 
 -- ---- a step with no block inside
@@ -109,8 +109,8 @@ claim_inside before step shown inner x rest is =
     (ap (λ d. inside_of before d x.scope x.facts) e, ap (λ d. step_flags before d x.scope x.facts) e)
 
 pub superposed_inside : (before : List StatementView) (step : Step) (superposition : Superpose) (names : List (List ℕ)) (shown : List Lit) (certs : List Cert) (inner : Box Block Global) (x : StepState) (rest : Script) → step ≡ SuperposedBlock superposition names shown certs inner
-    → (inside_of before (step_script step rest) x.scope x.facts ≡ wants_outside x.scope x.facts (wants before (script_of inner.value) (grown x.scope superposing.sorts_copied) (joined_all x.facts (superposing.gives_of_superposition superposition x.scope)) (goal_of shown)))
-    × (step_flags before (step_script step rest) x.scope x.facts ≡ flags_of before (script_of inner.value) (grown x.scope superposing.sorts_copied) (joined_all x.facts (superposing.gives_of_superposition superposition x.scope)) (goal_of shown))
+    → (inside_of before (step_script step rest) x.scope x.facts ≡ wants_outside x.scope x.facts (wants before (script_of inner.value) (grown x.scope superposing.sorts_copied) (with_facts x.facts (superposing.gives_of_superposition superposition x.scope)) (goal_of shown)))
+    × (step_flags before (step_script step rest) x.scope x.facts ≡ flags_of before (script_of inner.value) (grown x.scope superposing.sorts_copied) (with_facts x.facts (superposing.gives_of_superposition superposition x.scope)) (goal_of shown))
 superposed_inside before step superposition names shown certs inner x rest is =
     let e = ap (λ s. step_script s rest) is ∙ step_script-Superposed superposition names shown certs inner rest in
     (ap (λ d. inside_of before d x.scope x.facts) e, ap (λ d. step_flags before d x.scope x.facts) e)
@@ -138,8 +138,8 @@ contradiction_wants before against s facts goal = (refl, refl)
 
 cases_forms : (before : List StatementView) (lit : Lit) (first second : Script) (s : Scope) (facts : List Lit) (goal : Goal)
     → (wants before (Cases lit first second) s facts goal
-    ≡ both (of_step before (as_step (Cases lit first second) s facts goal)) (both (wants_outside s facts (wants before second s (joined facts (negation lit)) goal)) (wants_outside s facts (wants before first s (joined facts lit) goal))))
-    × (flags_of before (Cases lit first second) s facts goal ≡ flags_of before second s (joined facts (negation lit)) goal ++ flags_of before first s (joined facts lit) goal)
+    ≡ both (of_step before (as_step (Cases lit first second) s facts goal)) (both (wants_outside s facts (wants before second s (with_fact facts (negation lit)) goal)) (wants_outside s facts (wants before first s (with_fact facts lit) goal))))
+    × (flags_of before (Cases lit first second) s facts goal ≡ flags_of before second s (with_fact facts (negation lit)) goal ++ flags_of before first s (with_fact facts lit) goal)
 unfolding wants flags_of
 cases_forms before lit first second s facts goal = (refl, refl)
 
@@ -164,7 +164,7 @@ close_flags before close s facts goal old n = sym (append-nil old) ∙ ap (λ xs
 
 pub cases_wanted : (before : List StatementView) (close : Close) (lit : Lit) (first second : Box Block Global) (s : Scope) (facts : List Lit) (goal : Goal) (old line other one w v : Wants) → close ≡ CasesBlock lit first second
     → line ≡ both old (of_step before (as_step (close_script close) s facts goal))
-    → other ≡ wants_outside s facts (wants before (script_of second.value) s (joined facts (negation lit)) goal) → one ≡ wants_outside s facts (wants before (script_of first.value) s (joined facts lit) goal) → v ≡ both line other → w ≡ both v one
+    → other ≡ wants_outside s facts (wants before (script_of second.value) s (with_fact facts (negation lit)) goal) → one ≡ wants_outside s facts (wants before (script_of first.value) s (with_fact facts lit) goal) → v ≡ both line other → w ≡ both v one
     → w ≡ both old (wants before (close_script close) s facts goal)
 cases_wanted before close lit first second s facts goal old line other one w v is l o p a b =
     let e = ap close_script is ∙ close_script-Cases lit first second in
@@ -172,17 +172,17 @@ cases_wanted before close lit first second s facts goal old line other one w v i
     let f = cases_forms before lit (script_of first.value) (script_of second.value) s facts goal in
     b ∙ ap (λ x. both x one) (a ∙ ap (λ x. both x other) l ∙ both-assoc old own other) ∙ both-assoc old (both own other) one
     ∙ ap (both old)
-    (both-assoc own other one ∙ ap (λ x. both own (both x one)) o ∙ ap (λ x. both own (both (wants_outside s facts (wants before (script_of second.value) s (joined facts (negation lit)) goal)) x)) p
-    ∙ ap (λ d. both (of_step before (as_step d s facts goal)) (both (wants_outside s facts (wants before (script_of second.value) s (joined facts (negation lit)) goal)) (wants_outside s facts (wants before (script_of first.value) s (joined facts lit) goal)))) e
+    (both-assoc own other one ∙ ap (λ x. both own (both x one)) o ∙ ap (λ x. both own (both (wants_outside s facts (wants before (script_of second.value) s (with_fact facts (negation lit)) goal)) x)) p
+    ∙ ap (λ d. both (of_step before (as_step d s facts goal)) (both (wants_outside s facts (wants before (script_of second.value) s (with_fact facts (negation lit)) goal)) (wants_outside s facts (wants before (script_of first.value) s (with_fact facts lit) goal)))) e
     ∙ sym (ap (λ d. wants before d s facts goal) e ∙ f.0))
 
 pub cases_flags : (before : List StatementView) (close : Close) (lit : Lit) (first second : Box Block Global) (s : Scope) (facts : List Lit) (goal : Goal) (old mid new : List Bool) → close ≡ CasesBlock lit first second
-    → mid ≡ old ++ flags_of before (script_of second.value) s (joined facts (negation lit)) goal → new ≡ mid ++ flags_of before (script_of first.value) s (joined facts lit) goal → new ≡ old ++ flags_of before (close_script close) s facts goal
+    → mid ≡ old ++ flags_of before (script_of second.value) s (with_fact facts (negation lit)) goal → new ≡ mid ++ flags_of before (script_of first.value) s (with_fact facts lit) goal → new ≡ old ++ flags_of before (close_script close) s facts goal
 cases_flags before close lit first second s facts goal old mid new is a b =
     let e = ap close_script is ∙ close_script-Cases lit first second in
     let f = cases_forms before lit (script_of first.value) (script_of second.value) s facts goal in
-    let lower = flags_of before (script_of second.value) s (joined facts (negation lit)) goal in
-    let upper = flags_of before (script_of first.value) s (joined facts lit) goal in
+    let lower = flags_of before (script_of second.value) s (with_fact facts (negation lit)) goal in
+    let upper = flags_of before (script_of first.value) s (with_fact facts lit) goal in
     b ∙ ap (λ xs. xs ++ upper) a ∙ append_assoc old lower upper ∙ ap (λ xs. old ++ xs) (sym (ap (λ d. flags_of before d s facts goal) e ∙ f.1))
 
 -- ---- the form of a close that is ready
@@ -193,7 +193,7 @@ close_fits before (QedClose objects certs) s facts goal r any = (and_parts (are_
 close_fits before (ContradictionClose against) s facts goal r any = refl
 close_fits before (CasesClose lit p0 n0 row0 close0 p1 n1 row1 close1) s facts goal r any =
     let whole = close_script (CasesClose lit p0 n0 row0 close0 p1 n1 row1 close1) in
-    (and_parts (all_in_scope s lit) (list_all (fits before) (placed_steps before (inner_of whole) (inner_of whole) s (joined facts lit) goal ++ placed_steps before (rest_of whole) (rest_of whole) s (joined facts (negation lit)) goal)) r.forms).0
+    (and_parts (all_in_scope s lit) (list_all (fits before) (placed_steps before (inner_of whole) (inner_of whole) s (with_fact facts lit) goal ++ placed_steps before (rest_of whole) (rest_of whole) s (with_fact facts (negation lit)) goal)) r.forms).0
 
 -- two more points have numbers of 16 bits
 pub two_more : (s : Scope) → is_small s ≡ true → s.points + 2 < 2 ^ 16

@@ -10,7 +10,7 @@ use Rattle.e_literal.specs.Literal.{negation}
 use Rattle.e_literal.specs.Facts.{others}
 use Rattle.e_clause.specs.declared.cert.Part.{Part}
 use Rattle.e_clause.specs.Instance.{Inst}
-use Rattle.e_trim.specs.Looked.{Wants, no_wants, both, needed, first_that, of_part, of_parts}
+use Rattle.e_trim.specs.Looked.{Wants, no_wants, both, wanted_objects, first_that, of_part, of_parts}
 use Rattle.e_trim.specs.inner.Wanted.{negations_of_others, of_negated}
 use Rattle.e_trim.proofs.walks.Both.{both-none, both-assoc}
 
@@ -62,17 +62,17 @@ pub ruleset transferring = (common_steps, both-none, both-assoc, transfer_parts)
 
 -- ---- lines
 
-pub need_two : (u : Wants) (xs ys : List Obj) → both (both u (needed xs)) (needed ys) ≡ both u (needed (xs ++ ys))
-need_two u xs ys = both-assoc u (needed xs) (needed ys)
+pub need_two : (u : Wants) (xs ys : List Obj) → both (both u (wanted_objects xs)) (wanted_objects ys) ≡ both u (wanted_objects (xs ++ ys))
+need_two u xs ys = both-assoc u (wanted_objects xs) (wanted_objects ys)
 
-pub line_needs : (u : Wants) (xs : List Obj) → both u (needed xs) ≡ both u (both (needed xs) (both no_wants no_wants))
-line_needs u xs = ap (both u) (sym (both-none (needed xs)))
+pub line_needs : (u : Wants) (xs : List Obj) → both u (wanted_objects xs) ≡ both u (both (wanted_objects xs) (both no_wants no_wants))
+line_needs u xs = ap (both u) (sym (both-none (wanted_objects xs)))
 
-pub line_certs : (u : Wants) (xs : List Obj) (w : Wants) → both (both u (needed xs)) w ≡ both u (both (needed xs) (both w no_wants))
-line_certs u xs w = both-assoc u (needed xs) w ∙ ap (λ v. both u (both (needed xs) v)) (sym (both-none w))
+pub line_certs : (u : Wants) (xs : List Obj) (w : Wants) → both (both u (wanted_objects xs)) w ≡ both u (both (wanted_objects xs) (both w no_wants))
+line_certs u xs w = both-assoc u (wanted_objects xs) w ∙ ap (λ v. both u (both (wanted_objects xs) v)) (sym (both-none w))
 
-pub line_cites : (u : Wants) (xs : List Obj) (w : Wants) → both (both u (needed xs)) w ≡ both u (both (needed xs) (both no_wants w))
-line_cites u xs w = both-assoc u (needed xs) w
+pub line_cites : (u : Wants) (xs : List Obj) (w : Wants) → both (both u (wanted_objects xs)) w ≡ both u (both (wanted_objects xs) (both no_wants w))
+line_cites u xs w = both-assoc u (wanted_objects xs) w
 
 -- with nothing inside of it
 pub line_alone : (u w : Wants) → both u w ≡ both u (both w no_wants)

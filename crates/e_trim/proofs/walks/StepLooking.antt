@@ -10,7 +10,7 @@ use Rattle.e_deriv.proofs.Keeping.{all_stay}
 use Rattle.e_trim.specs.Looked.{Wants, both, of_step}
 use Rattle.e_trim.specs.Trimmed.{is_kept, as_step, wants_with_step, wants}
 use Rattle.e_trim.specs.inner.Flags.{flag, flags_of, inside_of, step_flags}
-use Rattle.e_trim.specs.inner.StepState.{IsReady, IsReadyToTrim, StepFits, StepAdds, FlagsAdded, StepWants, StepFlags, KeepsFacts, passed, checkpoint_of, restored}
+use Rattle.e_trim.specs.inner.StepState.{IsReady, IsReadyToTrim, StepFits, StepAdds, FlagsAdded, StepWants, StepFlags, KeepsFacts, state_after, checkpoint_of, state_at}
 use Rattle.e_trim.specs.declared.step_state.StepState.{StepState}
 use Rattle.e_trim.specs.declared.step_state.Checkpoint.{Checkpoint}
 use Rattle.e_trim.proofs.walks.StepForms.{ready_rest, ready_fits, ready_small, wants_step, flags_step, passed_keeps, keeps_on, keeps_enough, left_back}
@@ -24,7 +24,7 @@ pub record Looking (before : List StatementView) (steps : List Step) (head : Ste
 
 -- after the first step
 abbrev pub IsPast : List StatementView → Step → StepState → StepState → Type 0
-IsPast before head x after = (rest : Script) → after ≡ passed before (step_script head rest) x
+IsPast before head x after = (rest : Script) → after ≡ state_after before (step_script head rest) x
 
 at_first : (before : List StatementView) (steps : List Step) (head : Step) (x : StepState) (goal : Goal) (close : Script) → Looking before steps head x goal close → IsReady before (step_script head (steps_script (later_steps steps) close)) x.scope x.facts goal
 at_first before steps head x goal close l = subst (λ d. IsReady before d x.scope x.facts goal) (whole_is steps head close l.some l.first) l.ready
@@ -56,8 +56,8 @@ look_enough before head x after last outer e k o =
     let m = ap (λ (y : Checkpoint). y.facts) o in
     omega (arith, n, m)
 
-pub look_back_is : (before : List StatementView) (head : Step) (x after last left : StepState) (outer : Checkpoint) → IsPast before head x after → KeepsFacts after last → outer ≡ checkpoint_of x → left ≡ restored outer last → left ≡ x
-look_back_is before head x after last left outer e k o f = f ∙ ap (λ y. restored y last) o ∙ left_back x last (keeps_on x after last (past_keeps before head x after e) k)
+pub look_back_is : (before : List StatementView) (head : Step) (x after last left : StepState) (outer : Checkpoint) → IsPast before head x after → KeepsFacts after last → outer ≡ checkpoint_of x → left ≡ state_at outer last → left ≡ x
+look_back_is before head x after last left outer e k o f = f ∙ ap (λ y. state_at y last) o ∙ left_back x last (keeps_on x after last (past_keeps before head x after e) k)
 
 pub still_keeps : (x left : StepState) → left ≡ x → KeepsFacts x left
 still_keeps x left e = subst (λ (y : StepState). KeepsFacts x y) (sym e) (all_stay x.facts)
@@ -107,7 +107,7 @@ pub flags_whole : (before : List StatementView) (steps : List Step) (head : Step
 flags_whole before steps head x after left goal close w under over now l e b f g h =
     let rest = steps_script (later_steps steps) close in
     let here = step_script head rest in
-    let past = passed before here x in
+    let past = state_after before here x in
     let own = f ∙ ap (λ (y : StepState). wants before rest y.scope y.facts goal) (e rest) in
     let lower = flags_of before rest past.scope past.facts goal in
     let more = flag (is_kept before here x.scope x.facts (wants before rest past.scope past.facts goal)) (step_flags before here x.scope x.facts) in

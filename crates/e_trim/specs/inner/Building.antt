@@ -5,7 +5,7 @@ use Rattle.std.specs.List.{list_all}
 use Rattle.e_literal.specs.declared.object.Obj.{Obj}
 use Rattle.e_literal.specs.declared.object.Scope.{Scope}
 use Rattle.e_literal.specs.declared.literal.Lit.{Lit}
-use Rattle.e_literal.specs.Facts.{joined_all}
+use Rattle.e_literal.specs.Facts.{with_facts}
 use Rattle.e_literal.specs.Scopes.{grown, next_objects}
 use Rattle.e_literal.specs.Use.{StatementView}
 use Rattle.e_construct.specs.Superposing as superposing
@@ -49,7 +49,7 @@ kept_step before kept (Superposed superposition names shown certs inner rest) s 
     (map (cert_at kept) certs)
     (trimmed_from before (kept ++ next_objects s superposing.sorts_copied) inner
     (grown s superposing.sorts_copied)
-    (joined_all facts (superposing.gives_of_superposition superposition s)) (goal_of shown))
+    (with_facts facts (superposing.gives_of_superposition superposition s)) (goal_of shown))
     more
 kept_step before kept close s facts more = more
 

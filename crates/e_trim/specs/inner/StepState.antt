@@ -5,7 +5,7 @@ use Rattle.e_literal.specs.declared.object.Obj.{Obj}
 use Rattle.e_literal.specs.declared.object.Scope.{Scope}
 use Rattle.e_literal.specs.declared.object.Sort.{Sort}
 use Rattle.e_literal.specs.declared.literal.Lit.{Lit}
-use Rattle.e_literal.specs.Facts.{joined_all}
+use Rattle.e_literal.specs.Facts.{with_facts}
 use Rattle.e_literal.specs.Scopes.{grown}
 use Rattle.e_literal.specs.Use.{StatementView, scope_of, are_arguments}
 use Rattle.e_deriv.specs.Goal.{Goal, facts_of_statement}
@@ -30,12 +30,12 @@ abbrev pub checkpoint_of : StepState → Checkpoint
 checkpoint_of x = record { scope = x.scope; facts = length x.facts }
 
 -- where a block was entered
-abbrev pub restored : Checkpoint → StepState → StepState
-restored outer x = record { scope = outer.scope; facts = take outer.facts x.facts }
+abbrev pub state_at : Checkpoint → StepState → StepState
+state_at outer x = record { scope = outer.scope; facts = take outer.facts x.facts }
 
 -- with objects of these sorts in scope, and these literals for facts
-abbrev pub opened : List Sort → List Lit → StepState → StepState
-opened sorts lits x = record { scope = grown x.scope sorts; facts = joined_all x.facts lits }
+abbrev pub state_with : List Sort → List Lit → StepState → StepState
+state_with sorts lits x = record { scope = grown x.scope sorts; facts = with_facts x.facts lits }
 
 -- each step fits, and at most 1,000 objects of each sort are in scope before it
 pub record IsReady (before : List StatementView) (d : Script) (s : Scope) (facts : List Lit)
@@ -44,8 +44,8 @@ pub record IsReady (before : List StatementView) (d : Script) (s : Scope) (facts
   pub scopes : IsTrue (list_all (λ x. is_small x.scope) (placed_steps before d d s facts goal))
 
 -- after a step
-abbrev pub passed : List StatementView → Script → StepState → StepState
-passed before here x = opened (makes_at before here) (joins_at before here x.scope) x
+abbrev pub state_after : List StatementView → Script → StepState → StepState
+state_after before here x = state_with (makes_at before here) (joins_at before here x.scope) x
 
 -- with something after it and some goal the step fits
 pub record StepFits (before : List StatementView) (step : Step) (s : Scope) : Type 0 where

@@ -6,7 +6,7 @@ use Rattle.e_literal.specs.declared.object.Obj.{Obj}
 use Rattle.e_literal.specs.declared.object.Scope.{Scope}
 use Rattle.e_literal.specs.declared.literal.Lit.{Lit}
 use Rattle.e_literal.specs.Literal.{negation, is_in_scope, all_in_scope}
-use Rattle.e_literal.specs.Facts.{has, has_all, others, joined}
+use Rattle.e_literal.specs.Facts.{has, has_all, others, with_fact}
 use Rattle.e_literal.specs.Use.{StatementView}
 use Rattle.e_literal.specs.WellFormed.{is_well_formed}
 use Rattle.e_clause.specs.declared.cert.By.{By}
@@ -84,17 +84,17 @@ cited_is s facts by lits needs kind args lit inst one is =
     let d = diagram_rule by.rule (rule_of_instance by.rule by.args lits inst) kind in
     ap (has_all facts) is ∙ rw (d, args, lit, inst, one) refl
 
-pub checked_cite : (before : List StatementView) (by : By) (x after : StepState) (b : Bool) → is_well_formed by.lit ≡ true → b ≡ (is_citation x.scope by && is_cited x.facts by) → after ≡ state_with_facts (joined x.facts by.lit) x → IsChecked before (Cite by) x after b
+pub checked_cite : (before : List StatementView) (by : By) (x after : StepState) (b : Bool) → is_well_formed by.lit ≡ true → b ≡ (is_citation x.scope by && is_cited x.facts by) → after ≡ state_with_facts (with_fact x.facts by.lit) x → IsChecked before (Cite by) x after b
 checked_cite before by x after b f t e =
-    checked before (Cite by) x (state_with_facts (joined x.facts by.lit) x) after b (λ rest goal. t) (cite_lines before by x) (stay_joined x.facts by.lit) (λ g. joined_formed x.facts by.lit g f) e
+    checked before (Cite by) x (state_with_facts (with_fact x.facts by.lit) x) after b (λ rest goal. t) (cite_lines before by x) (stay_joined x.facts by.lit) (λ g. joined_formed x.facts by.lit g f) e
 
 -- ---- a hence
 
 pub checked_hence : (before : List StatementView) (lit : Lit) (given : Option Cert) (cert : Cert) (x after : StepState) → is_well_formed lit ≡ true → given ≡ Some cert → all_in_scope x.scope lit ≡ true → certifies x.scope x.facts lit cert ≡ true
-    → after ≡ state_with_facts (joined x.facts lit) x → IsChecked before (Hence lit given) x after true
+    → after ≡ state_with_facts (with_fact x.facts lit) x → IsChecked before (Hence lit given) x after true
 checked_hence before lit given cert x after f is h k e =
     subst (λ o. IsChecked before (Hence lit o) x after true) (sym is)
-    (checked before (Hence lit (Some cert)) x (state_with_facts (joined x.facts lit) x) after true (λ rest goal. rw (h, k) refl) (hence_lines before lit (Some cert) x) (stay_joined x.facts lit) (λ g. joined_formed x.facts lit g f) e)
+    (checked before (Hence lit (Some cert)) x (state_with_facts (with_fact x.facts lit) x) after true (λ rest goal. rw (h, k) refl) (hence_lines before lit (Some cert) x) (stay_joined x.facts lit) (λ g. joined_formed x.facts lit g f) e)
 
 -- ---- a construction
 

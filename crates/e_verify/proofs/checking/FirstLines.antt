@@ -3,7 +3,7 @@ use Rattle.std.proofs.Common.{◌≡◌, ℕ, List, [], ◌∷◌, ◌++◌, ref
 use Rattle.e_literal.specs.declared.object.Obj.{Obj}
 use Rattle.e_literal.specs.declared.literal.Lit.{Lit}
 use Rattle.e_literal.specs.Literal.{negation}
-use Rattle.e_literal.specs.Facts.{joined, joined_all}
+use Rattle.e_literal.specs.Facts.{with_fact, with_facts}
 use Rattle.e_literal.specs.Scopes.{grown}
 use Rattle.e_literal.specs.Use.{StatementView, gives_of_use}
 use Rattle.e_clause.specs.declared.cert.Against.{Against}
@@ -23,12 +23,12 @@ use Rattle.e_verify.specs.Checking.{step_in_state, steps_in_state, IsChecked, Ke
 use Rattle.e_verify.proofs.checking.FormedFacts.{all_formed}
 
 pub cite_lines : (before : List StatementView) (by : By) (x : StepState) (rest : Script) (goal : Goal)
-    → steps_in_state before (Cite by rest) x goal ≡ step_in_state (Cite by rest) x goal ∷ steps_in_state before rest (state_with_facts (joined x.facts by.lit) x) goal
+    → steps_in_state before (Cite by rest) x goal ≡ step_in_state (Cite by rest) x goal ∷ steps_in_state before rest (state_with_facts (with_fact x.facts by.lit) x) goal
 unfolding placed_steps
 cite_lines before by x rest goal = refl
 
 pub hence_lines : (before : List StatementView) (lit : Lit) (cert : Option Cert) (x : StepState) (rest : Script) (goal : Goal)
-    → steps_in_state before (Hence lit cert rest) x goal ≡ step_in_state (Hence lit cert rest) x goal ∷ steps_in_state before rest (state_with_facts (joined x.facts lit) x) goal
+    → steps_in_state before (Hence lit cert rest) x goal ≡ step_in_state (Hence lit cert rest) x goal ∷ steps_in_state before rest (state_with_facts (with_fact x.facts lit) x) goal
 unfolding placed_steps
 hence_lines before lit cert x rest goal = refl
 
@@ -40,7 +40,7 @@ make_lines before construction names certs x rest goal = refl
 
 -- after an application
 abbrev pub after_apply : StatementView → List Obj → StepState → StepState
-after_apply t args x = record { scope = grown x.scope t.made; facts = joined_all x.facts (gives_of_use t args x.scope) }
+after_apply t args x = record { scope = grown x.scope t.made; facts = with_facts x.facts (gives_of_use t args x.scope) }
 
 pub apply_lines : (before : List StatementView) (theorem : ℕ) (args : List (Option Obj)) (names : List (List ℕ)) (certs : List Cert) (x : StepState) (rest : Script) (goal : Goal)
     → steps_in_state before (Apply theorem args names certs rest) x goal ≡ step_in_state (Apply theorem args names certs rest) x goal ∷ steps_in_state before rest (after_apply (theorem_at before theorem) (written args) x) goal
@@ -49,13 +49,13 @@ apply_lines before theorem args names certs x rest goal = refl
 
 pub claim_lines : (before : List StatementView) (shown : List Lit) (inner : Script) (x : StepState) (rest : Script) (goal : Goal)
     → steps_in_state before (Claim shown inner rest) x goal
-    ≡ step_in_state (Claim shown inner rest) x goal ∷ (steps_in_state before inner x (goal_of shown) ++ steps_in_state before rest (state_with_facts (joined_all x.facts shown) x) goal)
+    ≡ step_in_state (Claim shown inner rest) x goal ∷ (steps_in_state before inner x (goal_of shown) ++ steps_in_state before rest (state_with_facts (with_facts x.facts shown) x) goal)
 unfolding placed_steps
 claim_lines before shown inner x rest goal = refl
 
 pub superposed_lines : (before : List StatementView) (superposition : Superpose) (names : List (List ℕ)) (shown : List Lit) (certs : List Cert) (inner : Script) (x : StepState) (rest : Script) (goal : Goal)
     → steps_in_state before (Superposed superposition names shown certs inner rest) x goal
-    ≡ step_in_state (Superposed superposition names shown certs inner rest) x goal ∷ (steps_in_state before inner (state_after_superposed superposition x) (goal_of shown) ++ steps_in_state before rest (state_with_facts (joined_all x.facts shown) x) goal)
+    ≡ step_in_state (Superposed superposition names shown certs inner rest) x goal ∷ (steps_in_state before inner (state_after_superposed superposition x) (goal_of shown) ++ steps_in_state before rest (state_with_facts (with_facts x.facts shown) x) goal)
 unfolding placed_steps
 superposed_lines before superposition names shown certs inner x rest goal = refl
 
@@ -69,7 +69,7 @@ contradiction_lines before against x goal = refl
 
 pub cases_lines : (before : List StatementView) (lit : Lit) (first second : Script) (x : StepState) (goal : Goal)
     → steps_in_state before (Cases lit first second) x goal
-    ≡ step_in_state (Cases lit first second) x goal ∷ (steps_in_state before first (state_with_facts (joined x.facts lit) x) goal ++ steps_in_state before second (state_with_facts (joined x.facts (negation lit)) x) goal)
+    ≡ step_in_state (Cases lit first second) x goal ∷ (steps_in_state before first (state_with_facts (with_fact x.facts lit) x) goal ++ steps_in_state before second (state_with_facts (with_fact x.facts (negation lit)) x) goal)
 unfolding placed_steps
 cases_lines before lit first second x goal = refl
 

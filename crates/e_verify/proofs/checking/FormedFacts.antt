@@ -7,7 +7,7 @@ use Rattle.e_literal.specs.declared.object.Obj.{Obj}
 use Rattle.e_literal.specs.declared.object.Scope.{Scope}
 use Rattle.e_literal.specs.declared.literal.Lit.{Lit}
 use Rattle.e_literal.specs.Literal.{all_in_scope}
-use Rattle.e_literal.specs.Facts.{has, joined, joined_all}
+use Rattle.e_literal.specs.Facts.{has, with_fact, with_facts}
 use Rattle.e_literal.specs.Scopes.{grown}
 use Rattle.e_literal.specs.Use.{StatementView, is_statement, are_arguments, gives_of_use}
 use Rattle.e_literal.specs.WellFormed.{is_well_formed}
@@ -23,18 +23,18 @@ use Rattle.e_deriv.specs.Fitting.{is_small, is_small_statement, all_objects}
 abbrev pub all_formed : List Lit → Bool
 all_formed ls = list_all is_well_formed ls
 
-pub joined_formed : (facts : List Lit) (l : Lit) → all_formed facts ≡ true → is_well_formed l ≡ true → all_formed (joined facts l) ≡ true
-unfolding joined
+pub joined_formed : (facts : List Lit) (l : Lit) → all_formed facts ≡ true → is_well_formed l ≡ true → all_formed (with_fact facts l) ≡ true
+unfolding with_fact
 joined_formed facts l h k = by (has facts l)
   where
     by : (b : Bool) → all_formed (if b then facts else facts ++ l ∷ []) ≡ true
     by true = h
     by false = all_both is_well_formed facts (l ∷ []) h (ap (λ b. b && true) k)
 
-pub all_joined_formed : (facts ls : List Lit) → all_formed facts ≡ true → all_formed ls ≡ true → all_formed (joined_all facts ls) ≡ true
+pub all_joined_formed : (facts ls : List Lit) → all_formed facts ≡ true → all_formed ls ≡ true → all_formed (with_facts facts ls) ≡ true
 all_joined_formed facts [] h k = h
 all_joined_formed facts (l ∷ ls) h k =
-    all_joined_formed (joined facts l) ls (joined_formed facts l h (and_left (is_well_formed l) (all_formed ls) k)) (and_right (is_well_formed l) (all_formed ls) k)
+    all_joined_formed (with_fact facts l) ls (joined_formed facts l h (and_left (is_well_formed l) (all_formed ls) k)) (and_right (is_well_formed l) (all_formed ls) k)
 
 -- the fact at a place is one of them
 pub formed_at : (facts : List Lit) (k : ℕ) (l : Lit) → all_formed facts ≡ true → slice_get facts k ≡ Some l → is_well_formed l ≡ true

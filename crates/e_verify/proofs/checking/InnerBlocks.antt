@@ -6,7 +6,7 @@ use Rattle.std.specs.Option.{option_map_or}
 use Rattle.e_literal.specs.declared.object.Obj.{Obj}
 use Rattle.e_literal.specs.declared.literal.Lit.{Lit}
 use Rattle.e_literal.specs.Literal.{negation, all_in_scope}
-use Rattle.e_literal.specs.Facts.{joined, joined_all}
+use Rattle.e_literal.specs.Facts.{with_fact, with_facts}
 use Rattle.e_literal.specs.Use.{StatementView}
 use Rattle.e_literal.specs.WellFormed.{is_well_formed}
 use Rattle.e_clause.specs.declared.cert.Against.{Against}
@@ -188,10 +188,10 @@ pub claim_stops : (before : List StatementView) (shown : List Lit) (inner : Scri
 claim_stops before shown inner x n e h k rest goal = claim_rejected before shown inner rest x goal n e h k
 
 pub claim_done : (before : List StatementView) (shown : List Lit) (inner : Script) (x z y after : StepState) (o : Checkpoint) (n m : ℕ) → are_over x.scope shown ≡ true → verdict_at before inner x (goal_of shown) (n + 1) ≡ Ok m
-    → o ≡ checkpoint_of_state x → KeepsFirstFacts x z → y ≡ state_restored o z → after ≡ state_with_facts (joined_all y.facts shown) y → AreVerified before (Claim shown inner) x n after m
+    → o ≡ checkpoint_of_state x → KeepsFirstFacts x z → y ≡ state_restored o z → after ≡ state_with_facts (with_facts y.facts shown) y → AreVerified before (Claim shown inner) x n after m
 claim_done before shown inner x z y after o n m h v e k left end =
     let p = passed_claim before shown inner x n m h v in
-    let back = end ∙ ap (λ w. state_with_facts (joined_all w.facts shown) w) (restored_is o x z y e k left) in
+    let back = end ∙ ap (λ w. state_with_facts (with_facts w.facts shown) w) (restored_is o x z y e k left) in
     subst (λ w. AreVerified before (Claim shown inner) x n w m) (sym back) p
 
 -- ---- a superposition
@@ -235,13 +235,13 @@ superposed_stops before superposition shown certs inner x z n b e begun t h k na
     (subst (λ w. RejectIs (verdict_at before inner w (goal_of shown) (n + 1)) e) begun k)
 
 pub superposed_done : (before : List StatementView) (superposition : Superpose) (shown : List Lit) (certs : List Cert) (inner : Script) (x z w y after : StepState) (o : Checkpoint) (n m : ℕ) (b : Bool) → z ≡ state_after_superposed superposition x → b ≡ true
-    → IsTested before superposition shown certs x b → verdict_at before inner z (goal_of shown) (n + 1) ≡ Ok m → o ≡ checkpoint_of_state x → KeepsFirstFacts z w → y ≡ state_restored o w → after ≡ state_with_facts (joined_all y.facts shown) y
+    → IsTested before superposition shown certs x b → verdict_at before inner z (goal_of shown) (n + 1) ≡ Ok m → o ≡ checkpoint_of_state x → KeepsFirstFacts z w → y ≡ state_restored o w → after ≡ state_with_facts (with_facts y.facts shown) y
     → (names : List (List ℕ)) → AreVerified before (Superposed superposition names shown certs inner) x n after m
 superposed_done before superposition shown certs inner x z w y after o n m b begun t h v e k left end names =
     let v' = ap (λ q. verdict_at before inner q (goal_of shown) (n + 1)) (sym begun) ∙ v in
     let p = passed_superposed before superposition names shown certs inner x n m (head_as before superposition names shown certs x b true t h) v' in
     let kept = kept_on x z w (subst (KeepsFirstFacts x) (sym begun) (stay_all x.facts (superposing.gives_of_superposition superposition x.scope))) k in
-    let back = end ∙ ap (λ q. state_with_facts (joined_all q.facts shown) q) (restored_is o x w y e kept left) in
+    let back = end ∙ ap (λ q. state_with_facts (with_facts q.facts shown) q) (restored_is o x w y e kept left) in
     subst (λ q. AreVerified before (Superposed superposition names shown certs inner) x n q m) (sym back) p
 
 -- ---- closes that are one line, as the code has them
@@ -297,13 +297,13 @@ split_fails before c lit first second x goal n is h =
     ap (λ d. verdict_at before d x goal n) (cases_is c lit first second is) ∙ cases_bad before lit (script_of first.value) (script_of second.value) x goal n h
 
 pub first_ready : (before : List StatementView) (c : Close) (lit : Lit) (first second : Box Block Global) (block : Block) (x z : StepState) (goal : Goal) (n : ℕ) → c ≡ CasesClose lit first second → block ≡ first.value
-    → z ≡ state_with_facts (joined x.facts lit) x → IsCheckable before (close_script c) x goal n → IsCheckable before (script_of block) z goal (n + 1)
+    → z ≡ state_with_facts (with_fact x.facts lit) x → IsCheckable before (close_script c) x goal n → IsCheckable before (script_of block) z goal (n + 1)
 first_ready before c lit first second block x z goal n is at begun r =
     let q = cases_first before lit (script_of first.value) (script_of second.value) x goal n (subst (λ d. IsCheckable before d x goal n) (cases_is c lit first second is) r) in
     subst (λ b. IsCheckable before (script_of b) z goal (n + 1)) (sym at) (subst (λ w. IsCheckable before (script_of first.value) w goal (n + 1)) (sym begun) q)
 
 pub first_stops : (before : List StatementView) (c : Close) (lit : Lit) (first second : Box Block Global) (block : Block) (x z : StepState) (goal : Goal) (n : ℕ) (e : Reject) → c ≡ CasesClose lit first second → block ≡ first.value
-    → z ≡ state_with_facts (joined x.facts lit) x → all_in_scope x.scope lit ≡ true → RejectIs (verdict_at before (script_of block) z goal (n + 1)) e → RejectIs (verdict_at before (close_script c) x goal n) e
+    → z ≡ state_with_facts (with_fact x.facts lit) x → all_in_scope x.scope lit ≡ true → RejectIs (verdict_at before (script_of block) z goal (n + 1)) e → RejectIs (verdict_at before (close_script c) x goal n) e
 first_stops before c lit first second block x z goal n e is at begun h k =
     reject_as (verdict_at before (close_script c) x goal n) (verdict_at before (Cases lit (script_of first.value) (script_of second.value)) x goal n) e (ap (λ d. verdict_at before d x goal n) (cases_is c lit first second is))
     (cases_rejected before lit (script_of first.value) (script_of second.value) x goal n e h
@@ -311,16 +311,16 @@ first_stops before c lit first second block x z goal n e is at begun h k =
 
 -- what holds after the first block
 pub record IsAfterFirst (before : List StatementView) (lit : Lit) (first : Script) (x : StepState) (goal : Goal) (n m : ℕ) (after : StepState) : Type 0 where
-  pub passed : verdict_at before first (state_with_facts (joined x.facts lit) x) goal (n + 1) ≡ Ok m
-  pub begun : after ≡ state_with_facts (joined x.facts (negation lit)) x
+  pub passed : verdict_at before first (state_with_facts (with_fact x.facts lit) x) goal (n + 1) ≡ Ok m
+  pub begun : after ≡ state_with_facts (with_fact x.facts (negation lit)) x
 
-pub after_first : (before : List StatementView) (lit : Lit) (first : Box Block Global) (block : Block) (x z w y after : StepState) (o : Checkpoint) (goal : Goal) (n m : ℕ) → block ≡ first.value → z ≡ state_with_facts (joined x.facts lit) x
-    → verdict_at before (script_of block) z goal (n + 1) ≡ Ok m → o ≡ checkpoint_of_state x → KeepsFirstFacts z w → y ≡ state_restored o w → after ≡ state_with_facts (joined y.facts (negation lit)) y → IsAfterFirst before lit (script_of first.value) x goal n m after
+pub after_first : (before : List StatementView) (lit : Lit) (first : Box Block Global) (block : Block) (x z w y after : StepState) (o : Checkpoint) (goal : Goal) (n m : ℕ) → block ≡ first.value → z ≡ state_with_facts (with_fact x.facts lit) x
+    → verdict_at before (script_of block) z goal (n + 1) ≡ Ok m → o ≡ checkpoint_of_state x → KeepsFirstFacts z w → y ≡ state_restored o w → after ≡ state_with_facts (with_fact y.facts (negation lit)) y → IsAfterFirst before lit (script_of first.value) x goal n m after
 after_first before lit first block x z w y after o goal n m at begun v e k left end =
     let kept = kept_on x z w (subst (KeepsFirstFacts x) (sym begun) (stay_joined x.facts lit)) k in
     record {
       passed = ap (λ q. verdict_at before (script_of first.value) q goal (n + 1)) (sym begun) ∙ ap (λ b. verdict_at before (script_of b) z goal (n + 1)) (sym at) ∙ v;
-      begun = end ∙ ap (λ q. state_with_facts (joined q.facts (negation lit)) q) (restored_is o x w y e kept left);
+      begun = end ∙ ap (λ q. state_with_facts (with_fact q.facts (negation lit)) q) (restored_is o x w y e kept left);
     }
 
 pub second_ready : (before : List StatementView) (c : Close) (lit : Lit) (first second : Box Block Global) (block : Block) (x after : StepState) (goal : Goal) (n m : ℕ) → c ≡ CasesClose lit first second → block ≡ second.value

@@ -7,7 +7,7 @@ use Rattle.std.specs.Option.{option_map_or}
 use Rattle.e_literal.specs.declared.object.Obj.{Obj}
 use Rattle.e_literal.specs.declared.literal.Lit.{Lit}
 use Rattle.e_literal.specs.Literal.{negation, all_in_scope}
-use Rattle.e_literal.specs.Facts.{joined, joined_all}
+use Rattle.e_literal.specs.Facts.{with_fact, with_facts}
 use Rattle.e_literal.specs.Use.{StatementView}
 use Rattle.e_literal.specs.WellFormed.{is_well_formed}
 use Rattle.e_literal.proofs.Booleans.{and_left, and_right}
@@ -254,16 +254,16 @@ claim_inner before shown inner rest x goal n r =
     let s = rest_small (step_in_state (Claim shown inner rest) x goal) _ (steps_in_state before (Claim shown inner rest) x goal) (claim_lines before shown inner x rest goal) r.scopes in
     record {
       written = w.1;
-      scopes = left_small (steps_in_state before inner x (goal_of shown)) (steps_in_state before rest (state_with_facts (joined_all x.facts shown) x) goal) s;
+      scopes = left_small (steps_in_state before inner x (goal_of shown)) (steps_in_state before rest (state_with_facts (with_facts x.facts shown) x) goal) s;
       facts = r.facts;
       shown = w.0;
       few = omega (arith, r.few, size-Claim shown inner rest);
     }
 
 pub passed_claim : (before : List StatementView) (shown : List Lit) (inner : Script) (x : StepState) (n m : ℕ) → are_over x.scope shown ≡ true → verdict_at before inner x (goal_of shown) (n + 1) ≡ Ok m
-    → AreVerified before (Claim shown inner) x n (state_with_facts (joined_all x.facts shown) x) m
+    → AreVerified before (Claim shown inner) x n (state_with_facts (with_facts x.facts shown) x) m
 passed_claim before shown inner x n m h e =
-    let after = state_with_facts (joined_all x.facts shown) x in
+    let after = state_with_facts (with_facts x.facts shown) x in
     let p = is_certified before in
     let A = steps_in_state before inner x (goal_of shown) in
     record {
@@ -289,7 +289,7 @@ pub claim_rejected : (before : List StatementView) (shown : List Lit) (inner res
 claim_rejected before shown inner rest x goal n e h k =
     let p = is_certified before in
     let A = steps_in_state before inner x (goal_of shown) in
-    let B = steps_in_state before rest (state_with_facts (joined_all x.facts shown) x) goal in
+    let B = steps_in_state before rest (state_with_facts (with_facts x.facts shown) x) goal in
     reject_as (verdict_at before (Claim shown inner rest) x goal n) (first_failure p (A ++ B) (n + 1)) e
     (ap (λ xs. first_failure p xs n) (claim_lines before shown inner x rest goal) ∙ pass_one p (step_in_state (Claim shown inner rest) x goal) (A ++ B) n (rw h refl))
     (reject_all p A B (n + 1) e k)
@@ -307,7 +307,7 @@ superposed_inner before superposition names shown certs inner rest x goal n fit 
     let s = rest_small (step_in_state d x goal) _ (steps_in_state before d x goal) (superposed_lines before superposition names shown certs inner x rest goal) r.scopes in
     record {
       written = w.2;
-      scopes = left_small (steps_in_state before inner (state_after_superposed superposition x) (goal_of shown)) (steps_in_state before rest (state_with_facts (joined_all x.facts shown) x) goal) s;
+      scopes = left_small (steps_in_state before inner (state_after_superposed superposition x) (goal_of shown)) (steps_in_state before rest (state_with_facts (with_facts x.facts shown) x) goal) s;
       facts = all_joined_formed x.facts (superposing.gives_of_superposition superposition x.scope) r.facts (superposed_gives_formed superposition x.scope fit);
       shown = w.0;
       few = omega (arith, r.few, size-Superposed superposition names shown certs inner rest);
@@ -318,9 +318,9 @@ abbrev pub IsHead : List StatementView → Superpose → List (List ℕ) → Lis
 IsHead before superposition names shown certs x b = (inner rest : Script) (goal : Goal) → b ≡ is_certified before (step_in_state (Superposed superposition names shown certs inner rest) x goal)
 
 pub passed_superposed : (before : List StatementView) (superposition : Superpose) (names : List (List ℕ)) (shown : List Lit) (certs : List Cert) (inner : Script) (x : StepState) (n m : ℕ) → IsHead before superposition names shown certs x true
-    → verdict_at before inner (state_after_superposed superposition x) (goal_of shown) (n + 1) ≡ Ok m → AreVerified before (Superposed superposition names shown certs inner) x n (state_with_facts (joined_all x.facts shown) x) m
+    → verdict_at before inner (state_after_superposed superposition x) (goal_of shown) (n + 1) ≡ Ok m → AreVerified before (Superposed superposition names shown certs inner) x n (state_with_facts (with_facts x.facts shown) x) m
 passed_superposed before superposition names shown certs inner x n m h e =
-    let after = state_with_facts (joined_all x.facts shown) x in
+    let after = state_with_facts (with_facts x.facts shown) x in
     let p = is_certified before in
     let A = steps_in_state before inner (state_after_superposed superposition x) (goal_of shown) in
     record {
@@ -347,7 +347,7 @@ pub superposed_rejected : (before : List StatementView) (superposition : Superpo
 superposed_rejected before superposition names shown certs inner rest x goal n e h k =
     let p = is_certified before in
     let A = steps_in_state before inner (state_after_superposed superposition x) (goal_of shown) in
-    let B = steps_in_state before rest (state_with_facts (joined_all x.facts shown) x) goal in
+    let B = steps_in_state before rest (state_with_facts (with_facts x.facts shown) x) goal in
     reject_as (verdict_at before (Superposed superposition names shown certs inner rest) x goal n) (first_failure p (A ++ B) (n + 1)) e
     (ap (λ xs. first_failure p xs n) (superposed_lines before superposition names shown certs inner x rest goal) ∙ pass_one p (step_in_state (Superposed superposition names shown certs inner rest) x goal) (A ++ B) n (sym (h inner rest goal)))
     (reject_all p A B (n + 1) e k)
@@ -355,46 +355,46 @@ superposed_rejected before superposition names shown certs inner rest x goal n e
 -- ---- a split
 
 pub cases_first : (before : List StatementView) (lit : Lit) (first second : Script) (x : StepState) (goal : Goal) (n : ℕ) → IsCheckable before (Cases lit first second) x goal n
-    → IsCheckable before first (state_with_facts (joined x.facts lit) x) goal (n + 1)
+    → IsCheckable before first (state_with_facts (with_fact x.facts lit) x) goal (n + 1)
 cases_first before lit first second x goal n r =
     let w = cases_written lit first second r.written in
     let s = rest_small (step_in_state (Cases lit first second) x goal) _ (steps_in_state before (Cases lit first second) x goal) (cases_lines before lit first second x goal) r.scopes in
     record {
       written = w.1;
-      scopes = left_small (steps_in_state before first (state_with_facts (joined x.facts lit) x) goal) (steps_in_state before second (state_with_facts (joined x.facts (negation lit)) x) goal) s;
+      scopes = left_small (steps_in_state before first (state_with_facts (with_fact x.facts lit) x) goal) (steps_in_state before second (state_with_facts (with_fact x.facts (negation lit)) x) goal) s;
       facts = joined_formed x.facts lit r.facts w.0;
       shown = r.shown;
       few = omega (arith, r.few, size-Cases lit first second);
     }
 
 pub cases_second : (before : List StatementView) (lit : Lit) (first second : Script) (x : StepState) (goal : Goal) (n m : ℕ) → IsCheckable before (Cases lit first second) x goal n
-    → verdict_at before first (state_with_facts (joined x.facts lit) x) goal (n + 1) ≡ Ok m → IsCheckable before second (state_with_facts (joined x.facts (negation lit)) x) goal m
+    → verdict_at before first (state_with_facts (with_fact x.facts lit) x) goal (n + 1) ≡ Ok m → IsCheckable before second (state_with_facts (with_fact x.facts (negation lit)) x) goal m
 cases_second before lit first second x goal n m r e =
     let w = cases_written lit first second r.written in
     let s = rest_small (step_in_state (Cases lit first second) x goal) _ (steps_in_state before (Cases lit first second) x goal) (cases_lines before lit first second x goal) r.scopes in
     record {
       written = w.2;
-      scopes = right_small (steps_in_state before first (state_with_facts (joined x.facts lit) x) goal) (steps_in_state before second (state_with_facts (joined x.facts (negation lit)) x) goal) s;
+      scopes = right_small (steps_in_state before first (state_with_facts (with_fact x.facts lit) x) goal) (steps_in_state before second (state_with_facts (with_fact x.facts (negation lit)) x) goal) s;
       facts = joined_formed x.facts (negation lit) r.facts w.0;
       shown = r.shown;
-      few = omega (arith, r.few, size-Cases lit first second, size_of before first (state_with_facts (joined x.facts lit) x) goal (n + 1) m e);
+      few = omega (arith, r.few, size-Cases lit first second, size_of before first (state_with_facts (with_fact x.facts lit) x) goal (n + 1) m e);
     }
 
 pub cases_same : (before : List StatementView) (lit : Lit) (first second : Script) (x : StepState) (goal : Goal) (n m : ℕ) → all_in_scope x.scope lit ≡ true
-    → verdict_at before first (state_with_facts (joined x.facts lit) x) goal (n + 1) ≡ Ok m
-    → verdict_at before (Cases lit first second) x goal n ≡ verdict_at before second (state_with_facts (joined x.facts (negation lit)) x) goal m
+    → verdict_at before first (state_with_facts (with_fact x.facts lit) x) goal (n + 1) ≡ Ok m
+    → verdict_at before (Cases lit first second) x goal n ≡ verdict_at before second (state_with_facts (with_fact x.facts (negation lit)) x) goal m
 cases_same before lit first second x goal n m h e =
     let p = is_certified before in
-    let A = steps_in_state before first (state_with_facts (joined x.facts lit) x) goal in
-    let B = steps_in_state before second (state_with_facts (joined x.facts (negation lit)) x) goal in
+    let A = steps_in_state before first (state_with_facts (with_fact x.facts lit) x) goal in
+    let B = steps_in_state before second (state_with_facts (with_fact x.facts (negation lit)) x) goal in
     ap (λ xs. first_failure p xs n) (cases_lines before lit first second x goal) ∙ pass_one p (step_in_state (Cases lit first second) x goal) (A ++ B) n (rw h refl) ∙ pass_all p A B (n + 1) m e
 
 pub cases_rejected : (before : List StatementView) (lit : Lit) (first second : Script) (x : StepState) (goal : Goal) (n : ℕ) (e : Reject) → all_in_scope x.scope lit ≡ true
-    → RejectIs (verdict_at before first (state_with_facts (joined x.facts lit) x) goal (n + 1)) e → RejectIs (verdict_at before (Cases lit first second) x goal n) e
+    → RejectIs (verdict_at before first (state_with_facts (with_fact x.facts lit) x) goal (n + 1)) e → RejectIs (verdict_at before (Cases lit first second) x goal n) e
 cases_rejected before lit first second x goal n e h k =
     let p = is_certified before in
-    let A = steps_in_state before first (state_with_facts (joined x.facts lit) x) goal in
-    let B = steps_in_state before second (state_with_facts (joined x.facts (negation lit)) x) goal in
+    let A = steps_in_state before first (state_with_facts (with_fact x.facts lit) x) goal in
+    let B = steps_in_state before second (state_with_facts (with_fact x.facts (negation lit)) x) goal in
     reject_as (verdict_at before (Cases lit first second) x goal n) (first_failure p (A ++ B) (n + 1)) e
     (ap (λ xs. first_failure p xs n) (cases_lines before lit first second x goal) ∙ pass_one p (step_in_state (Cases lit first second) x goal) (A ++ B) n (rw h refl))
     (reject_all p A B (n + 1) e k)

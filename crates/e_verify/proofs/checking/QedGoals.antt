@@ -4,7 +4,7 @@ use Rattle.std.specs.List.{list_all}
 use mathlib.Core.Bool.{and-true}
 use Rattle.e_literal.specs.declared.object.Obj.{Obj}
 use Rattle.e_literal.specs.declared.literal.Lit.{Lit}
-use Rattle.e_literal.specs.Rename.{renamed, image_in, paired}
+use Rattle.e_literal.specs.Rename.{with_images, image_in, pairs_of}
 use Rattle.e_literal.specs.Use.{StatementView}
 use Rattle.e_literal.specs.WellFormed.{is_well_formed}
 use Rattle.e_literal.proofs.WithImages.{renamed_well_formed}
@@ -23,7 +23,7 @@ each_formed f e (l ∷ ls) h =
     ap (λ b. b && list_all is_well_formed (map f ls)) (e l ∙ and_left (is_well_formed l) (list_all is_well_formed ls) h) ∙ each_formed f e ls (and_right (is_well_formed l) (list_all is_well_formed ls) h)
 
 pub goal_formed : (goal : Goal) (objects : List Obj) → list_all is_well_formed goal.shown ≡ true → list_all is_well_formed (goal_with goal objects) ≡ true
-goal_formed goal objects h = each_formed (renamed (image_in (paired goal.made objects))) (renamed_well_formed (image_in (paired goal.made objects))) goal.shown h
+goal_formed goal objects h = each_formed (with_images (image_in (pairs_of goal.made objects))) (renamed_well_formed (image_in (pairs_of goal.made objects))) goal.shown h
 
 pub qed_certified : (objects : List Obj) (certs : List Cert) (goal : Goal) (x : StepState) → are_for goal x.scope objects ≡ true → (before : List StatementView)
     → certify_all x.scope x.facts (goal_with goal objects) certs ≡ is_certified before (step_in_state (Qed objects certs) x goal)

@@ -1,7 +1,7 @@
 use Rattle.std.proofs.Common.{rules, ◌≡◌, true, sym, ap, ◌∙◌, subst, arith}
 use Rattle.std.specs.Prelude.{IfOk}
 use Rattle.e_literal.specs.Literal.{negation}
-use Rattle.e_literal.specs.Facts.{joined}
+use Rattle.e_literal.specs.Facts.{with_fact}
 use Rattle.e_construct.specs.Construct.{needs_of_construction}
 use Rattle.e_theorem.specs.Statements.{all_stated}
 use Rattle.e_deriv.specs.declared.block.Close.TheViews.{the_lemmas}
@@ -230,7 +230,7 @@ number_close-number_block-requires t c =
     let before = all_stated c.args.before.now in (
       search (rules, the_lemmas),
       (
-        block_ready before c.deref.result.now y.first (state_with_facts (joined x.facts y.lit) x) c.assume.new.self g c.deref.ensures c.in_ok-assume-in-Cases.ensures (cases_ready before c.args.close.now y.lit y.first y.second x g y.is c.requires.ready).0,
+        block_ready before c.deref.result.now y.first (state_with_facts (with_fact x.facts y.lit) x) c.assume.new.self g c.deref.ensures c.in_ok-assume-in-Cases.ensures (cases_ready before c.args.close.now y.lit y.first y.second x g y.is c.requires.ready).0,
         c.requires.statements,
       ),
     )
@@ -247,7 +247,7 @@ number_close-number_block-requires-in-Cases t c =
     in (
       search (rules, the_lemmas),
       (
-        block_ready before c.deref-in-Cases.result.now y.second (state_with_facts (joined x.facts (negation y.lit)) x) c.assume_not.new.self g c.deref-in-Cases.ensures back (cases_ready before c.args.close.now y.lit y.first y.second x g y.is c.requires.ready).1,
+        block_ready before c.deref-in-Cases.result.now y.second (state_with_facts (with_fact x.facts (negation y.lit)) x) c.assume_not.new.self g c.deref-in-Cases.ensures back (cases_ready before c.args.close.now y.lit y.first y.second x g y.is c.requires.ready).1,
         c.requires.statements,
       ),
     )
@@ -284,7 +284,7 @@ number_close-returns-in-Ok-number_block-clause-same t c =
     after_cases x c.assume.new.self c.number_block.new.state c.restore.new.self c.assume_not.new.self y.lit c.checkpoint-outer.result c.in_ok-assume-in-Cases.ensures c.checkpoint-outer.ensures c.in-Ok.ensures.kept c.restore.ensures
     c.in-Ok-assume_not.ensures
     in
-    if_ok c.split.result c.split.ensures
+    if_ok c.cases.result c.cases.ensures
     (λ k e. e
     ∙ cases_numbered before c.args.close.now y.lit y.first y.second c.deref.result.now c.deref-in-Cases.result.now c.in-Ok.one c.in-Ok-number_block.other x c.assume.new.self c.assume_not.new.self (goal_view c.args.goal.now) y.is c.deref.ensures
     c.deref-in-Cases.ensures c.in_ok-assume-in-Cases.ensures c.in-Ok.ensures.same back c.in-Ok-number_block.ensures.same)
@@ -297,7 +297,7 @@ number_close-returns-in-Ok-number_block-clause-few t c =
     after_cases x c.assume.new.self c.number_block.new.state c.restore.new.self c.assume_not.new.self y.lit c.checkpoint-outer.result c.in_ok-assume-in-Cases.ensures c.checkpoint-outer.ensures c.in-Ok.ensures.kept c.restore.ensures
     c.in-Ok-assume_not.ensures
     in
-    where_ok c.split.result
+    where_ok c.cases.result
     (cases_few (all_stated c.args.before.now) c.args.close.now y.lit y.first y.second c.deref.result.now c.deref-in-Cases.result.now x c.assume.new.self c.assume_not.new.self (goal_view c.args.goal.now) (omega (arith, c.len.ensures, c.if-len-ge-PLACES.false))
     y.is c.deref.ensures c.deref-in-Cases.ensures c.in_ok-assume-in-Cases.ensures c.in-Ok.ensures.few back c.in-Ok-number_block.ensures.few)
 
@@ -309,5 +309,5 @@ number_close-returns-in-Ok-number_block-clause-kept t c =
     after_cases x c.assume.new.self c.number_block.new.state c.restore.new.self c.assume_not.new.self y.lit c.checkpoint-outer.result c.in_ok-assume-in-Cases.ensures c.checkpoint-outer.ensures c.in-Ok.ensures.kept c.restore.ensures
     c.in-Ok-assume_not.ensures
     in
-    where_ok c.split.result
+    where_ok c.cases.result
     (kept_on x c.assume_not.new.self c.number_block-in-Cases.new.state (subst (KeepsFirstFacts x) (sym back) (stay_joined x.facts (negation y.lit))) c.in-Ok-number_block.ensures.kept)

@@ -1,6 +1,6 @@
 use Rattle.std.proofs.Common.{◌≡◌, ◌+◌, ◌<◌, ◌++◌, ◌∷◌, [], length, rules, arith, refl, sym, ap, List, ◌∙◌, subst, true, IfOk}
 use Rattle.e_literal.specs.Literal.{negation}
-use Rattle.e_literal.specs.Facts.{joined}
+use Rattle.e_literal.specs.Facts.{with_fact}
 use Rattle.e_clause.specs.declared.cert.Cert.{Cert}
 use Rattle.e_clause.specs.Certify.{certify_all}
 use Rattle.e_clause.specs.LimitedFacts.{are_well_formed_in, are_limited_facts}
@@ -130,7 +130,7 @@ prove_close-assume-requires t c =
     let goal = goal_view c.args.goal.now in
     let parts = split_parts (all_stated c.args.before.now) c.args.close.now c.in-Cases.lit c.in-Cases.first c.in-Cases.second x goal c.in-Cases.is c.requires.ready in
     let good = block_facts (all_stated c.args.before.now) (script_of c.in-Cases.first.value) (after_literal c.in-Cases.lit x) goal parts.one in
-    subst (λ y. are_limited_facts y.context.scope (joined y.context.facts c.in-Cases.lit) ≡ true) (sym c.in_ok-outer-in-Cases.ensures.held) good
+    subst (λ y. are_limited_facts y.context.scope (with_fact y.context.facts c.in-Cases.lit) ≡ true) (sym c.in_ok-outer-in-Cases.ensures.held) good
 
 pub prove_close-overflow_add-number : goal.prove_close-overflow_add-number
 prove_close-overflow_add-number t c = let one = at_least (close_script c.args.close.now) in omega (arith, one, c.requires.few)
@@ -189,7 +189,7 @@ prove_close-assume_not-requires t c =
     left_is c.in_ok-outer-in-Cases.outer x c.prove_block.new.state c.release.new.self c.in_ok-outer-in-Cases.ensures.names
     (c.in-Ok.ensures.kept ∙ ap (λ w. w.context.held) entered) c.release.ensures
     in
-    subst (λ y. are_limited_facts y.context.scope (joined y.context.facts (negation lit)) ≡ true) (sym back) (block_facts (all_stated c.args.before.now) (script_of c.in-Cases.second.value) (after_literal (negation lit) x) goal other)
+    subst (λ y. are_limited_facts y.context.scope (with_fact y.context.facts (negation lit)) ≡ true) (sym back) (block_facts (all_stated c.args.before.now) (script_of c.in-Cases.second.value) (after_literal (negation lit) x) goal other)
 
 pub prove_close-prove_block-requires-in-Cases : goal.prove_close-prove_block-requires-in-Cases
 prove_close-prove_block-requires-in-Cases t c =

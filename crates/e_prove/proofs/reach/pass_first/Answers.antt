@@ -1,6 +1,6 @@
 use Rattle.std.proofs.Common.{◌≡◌, ◌++◌, ◌∷◌, [], rules, ap, sym, ◌∙◌, subst, true}
 use Rattle.e_literal.specs.Literal.{negation}
-use Rattle.e_literal.specs.Facts.{joined}
+use Rattle.e_literal.specs.Facts.{with_fact}
 use Rattle.e_clause.specs.LimitedFacts.{are_limited_facts}
 use Rattle.e_licence.specs.Contexts.{state_of}
 use Rattle.e_theorem.specs.Statements.{all_stated}
@@ -15,7 +15,7 @@ use Rattle.e_prove.proofs.reach.pass_first.Goals as goal
 pub assume-requires : goal.assume-requires
 assume-requires c =
     let x = c.args.state.now in
-    subst (λ y. are_limited_facts y.context.scope (joined y.context.facts c.args.lit.now) ≡ true) (sym c.in_ok-outer.ensures.held)
+    subst (λ y. are_limited_facts y.context.scope (with_fact y.context.facts c.args.lit.now) ≡ true) (sym c.in_ok-outer.ensures.held)
     (block_facts (all_stated c.args.before.now) (script_of c.args.block.now) (after_literal c.args.lit.now x) (goal_view c.args.goal.now) c.requires.ready)
 
 pub prove_block-requires-clause-ready : goal.prove_block-requires-clause-ready
@@ -37,7 +37,7 @@ assume_not-requires c =
     let hs = x.context.held ++ state_of x.context ∷ [] in
     let entered = c.in-Ok.ensures ∙ ap (after_literal c.args.lit.now) c.in_ok-outer.ensures.held in
     let back = left_is c.in_ok-outer.outer x c.prove_block.new.state c.release.new.self c.in_ok-outer.ensures.names (c.in-Ok-prove_block.ensures.kept ∙ ap (λ w. w.context.held) entered) c.release.ensures in
-    subst (λ y. are_limited_facts y.context.scope (joined y.context.facts (negation c.args.lit.now)) ≡ true) (sym back)
+    subst (λ y. are_limited_facts y.context.scope (with_fact y.context.facts (negation c.args.lit.now)) ≡ true) (sym back)
     (c.requires.second (script_of c.in-Ok-prove_block.proved)
     (derived_outside (all_stated c.args.before.now) (script_of c.args.block.now) (after_literal c.args.lit.now x) c.assume.new.self (goal_view c.args.goal.now) (script_of c.in-Ok-prove_block.proved) hs entered c.in-Ok-prove_block.ensures.derived))
 

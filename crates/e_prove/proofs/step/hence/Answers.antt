@@ -1,5 +1,5 @@
 use Rattle.std.proofs.Common.{◌≡◌, sym, ap, ◌∙◌, subst, true}
-use Rattle.e_literal.specs.Facts.{joined}
+use Rattle.e_literal.specs.Facts.{with_fact}
 use Rattle.e_clause.specs.LimitedFacts.{are_limited_facts}
 use Rattle.e_licence.specs.Contexts.{Basis}
 use Rattle.e_prove.specs.inner.StepStates.{after_literal}
@@ -12,7 +12,7 @@ pub returns-in_err-cert-clause-kept : goal.returns-in_err-cert-clause-kept
 returns-in_err-cert-clause-kept c = unless _ c.from_residual.result (ap (λ (b : Basis). record c.args.state.now { context = b }) c.in_err-cert.ensures.kept)
 
 pub assume_copy-requires : goal.assume_copy-requires
-assume_copy-requires c = subst (λ (b : Basis). are_limited_facts b.scope (joined b.facts c.args.lit.now) ≡ true) (sym c.in_ok-cert.ensures.kept) c.requires.after
+assume_copy-requires c = subst (λ (b : Basis). are_limited_facts b.scope (with_fact b.facts c.args.lit.now) ≡ true) (sym c.in_ok-cert.ensures.kept) c.requires.after
 
 pub returns-in-Ok-clause-ok : goal.returns-in-Ok-clause-ok
 returns-in-Ok-clause-ok c before written =

@@ -1,5 +1,5 @@
 use Rattle.std.proofs.Common.{sym, ap, ◌∙◌}
-use Rattle.e_literal.specs.Facts.{joined_all}
+use Rattle.e_literal.specs.Facts.{with_facts}
 use Rattle.e_prove.proofs.StepStates.{good_left}
 use Rattle.e_prove.proofs.step_state.join_all.Goals as goal
 
@@ -14,6 +14,6 @@ loop-lit-preserved c =
       scope = ap (λ x. x.scope) c.in_ok-add.ensures.joined ∙ c.loop-lit.invariant.scope;
       held = ap (λ x. x.held) c.in_ok-add.ensures.joined ∙ c.loop-lit.invariant.held;
       whole =
-          ap (λ x. joined_all x.facts c.next.new.self.rest.items) c.in_ok-add.ensures.joined
-          ∙ ap (joined_all c.loop-lit.context.facts) (sym c.in-Some.ensures.steps.0) ∙ c.loop-lit.invariant.whole;
+          ap (λ x. with_facts x.facts c.next.new.self.rest.items) c.in_ok-add.ensures.joined
+          ∙ ap (with_facts c.loop-lit.context.facts) (sym c.in-Some.ensures.steps.0) ∙ c.loop-lit.invariant.whole;
     }

@@ -1,5 +1,5 @@
 use Rattle.std.proofs.Common.{◌≡◌}
-use Rattle.e_literal.specs.Facts.{joined_all}
+use Rattle.e_literal.specs.Facts.{with_facts}
 use Rattle.e_prove.proofs.step_state.join_all.Given as goal
 
 abbrev pub invariant-loop-lit : goal.invariant-loop-lit
@@ -7,5 +7,5 @@ invariant-loop-lit l =
     record {
       scope : l.context.scope ≡ l.initial.context.scope;
       held : l.context.held ≡ l.initial.context.held;
-      whole : joined_all l.context.facts l.lit-iterator.rest.items ≡ joined_all l.initial.context.facts l.fn.lits.items;
+      whole : with_facts l.context.facts l.lit-iterator.rest.items ≡ with_facts l.initial.context.facts l.fn.lits.items;
     }

@@ -1,4 +1,4 @@
-use Rattle.e_literal.specs.Facts.{joined_all}
+use Rattle.e_literal.specs.Facts.{with_facts}
 use Rattle.e_prove.proofs.StepStates.{good_copy, basis_as, joined_end}
 use Rattle.e_prove.proofs.step_state.join_copies.Goals as goal
 
@@ -10,5 +10,5 @@ pub returns : goal.returns
 returns c =
     let x = c.args.context.now in
     let y = c.loop-lit.context in
-    let all = joined_all x.facts c.args.lits.now in
+    let all = with_facts x.facts c.args.lits.now in
     basis_as x y all c.loop-lit.invariant.scope c.loop-lit.invariant.held (joined_end y.facts c.args.lits.now all c.loop-lit.lit-index c.loop-lit-test.false c.loop-lit.invariant.whole)

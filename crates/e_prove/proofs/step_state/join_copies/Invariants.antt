@@ -1,5 +1,5 @@
 use Rattle.std.proofs.Common.{◌≡◌, drop}
-use Rattle.e_literal.specs.Facts.{joined_all}
+use Rattle.e_literal.specs.Facts.{with_facts}
 use Rattle.e_prove.proofs.step_state.join_copies.Given as goal
 
 abbrev pub invariant-loop-lit : goal.invariant-loop-lit
@@ -7,5 +7,5 @@ invariant-loop-lit l =
     record {
       scope : l.context.scope ≡ l.initial.context.scope;
       held : l.context.held ≡ l.initial.context.held;
-      whole : joined_all l.context.facts (drop l.lit-index l.lits) ≡ joined_all l.initial.context.facts l.lits;
+      whole : with_facts l.context.facts (drop l.lit-index l.lits) ≡ with_facts l.initial.context.facts l.lits;
     }

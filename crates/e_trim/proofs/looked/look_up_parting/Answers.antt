@@ -1,6 +1,6 @@
 use Rattle.std.proofs.Common.{◌≡◌, OnOk, [], ◌∷◌, sym, ◌∙◌, subst}
 use Rattle.e_facts.proofs.Items.{fact_at}
-use Rattle.e_trim.specs.Looked.{both, looked_up, parts_ends}
+use Rattle.e_trim.specs.Looked.{both, wanted_lits, parts_ends}
 use Rattle.e_trim.proofs.walks.LookedUp.{first_yes, first_no}
 use Rattle.e_trim.proofs.looked.look_up_parting.Goals as goal
 
@@ -11,8 +11,8 @@ returns-then-parts_ends c =
     let fact = c.fact-item.result in
     let here = fact_at c.items-fact-items.result.now facts i fact c.items-fact-items.ensures c.loop-fact-test.true c.fact-item.is in
     let first = sym (first_yes (parts_ends c.args.term) facts i fact here (sym c.parts_ends.ensures ∙ c.if-parts_ends.true)) ∙ c.loop-fact.invariant.first in
-    subst (λ ls. OnOk c.look_up.result (c.look_up.new.self ≡ both c.args.out.now (looked_up ls))) first
-    (subst (λ w. OnOk c.look_up.result (c.look_up.new.self ≡ both w (looked_up (fact ∷ [])))) c.loop-fact.invariant.same c.look_up.ensures)
+    subst (λ ls. OnOk c.look_up.result (c.look_up.new.self ≡ both c.args.out.now (wanted_lits ls))) first
+    (subst (λ w. OnOk c.look_up.result (c.look_up.new.self ≡ both w (wanted_lits (fact ∷ [])))) c.loop-fact.invariant.same c.look_up.ensures)
 
 pub loop-fact-preserved : goal.loop-fact-preserved
 loop-fact-preserved c =

@@ -2,7 +2,7 @@ use Rattle.std.proofs.Common.{arith, ◌≡◌, ◌<◌, ◌^◌, ◌++◌, [], 
 use Rattle.std.specs.List.{list_all}
 use Rattle.e_literal.specs.declared.object.Sort.{Sort}
 use Rattle.e_literal.specs.Literal.{negation}
-use Rattle.e_literal.specs.Facts.{joined, joined_all}
+use Rattle.e_literal.specs.Facts.{with_fact, with_facts}
 use Rattle.e_construct.specs.Superposing as superposing
 use Rattle.e_deriv.specs.Goal.{goal_of, goal_view}
 use Rattle.e_deriv.specs.Fitting.{is_small, is_small_statement}
@@ -70,7 +70,7 @@ look_inside-restore-requires t c = block_enough c.args.sorts.now c.args.lits.now
 
 pub look_inside-returns-clause-wanted : goal.look_inside-returns-clause-wanted
 look_inside-returns-clause-wanted t c =
-    ok_map (λ (w : Wants). w ≡ wants_outside c.restore.new.self.scope c.restore.new.self.facts c.in_ok-inside.inside) (λ (w : Wants). w ≡ wants_outside c.args.state.now.scope c.args.state.now.facts (wants (all_stated c.args.before.now) (script_of c.args.block.now) (grown c.args.state.now.scope c.args.sorts.now) (joined_all c.args.state.now.facts c.args.lits.now) (goal_view c.args.goal.now))) c.outside.result
+    ok_map (λ (w : Wants). w ≡ wants_outside c.restore.new.self.scope c.restore.new.self.facts c.in_ok-inside.inside) (λ (w : Wants). w ≡ wants_outside c.args.state.now.scope c.args.state.now.facts (wants (all_stated c.args.before.now) (script_of c.args.block.now) (grown c.args.state.now.scope c.args.sorts.now) (with_facts c.args.state.now.facts c.args.lits.now) (goal_view c.args.goal.now))) c.outside.result
     (λ w h. block_wants (all_stated c.args.before.now) (script_of c.args.block.now) (goal_view c.args.goal.now) c.args.sorts.now c.args.lits.now c.args.state.now c.extend.new.self c.restore.new.self c.in_ok-inside.inside w c.in_ok-extend.ensures (block_back c.args.sorts.now c.args.lits.now c.args.state.now c.extend.new.self c.look.new.state c.restore.new.self c.checkpoint-outer.result c.in_ok-extend.ensures c.in_ok-inside.ensures.kept c.checkpoint-outer.ensures c.restore.ensures) (c.in_ok-inside.ensures.wanted ∙ ap (λ d. wants (all_stated c.args.before.now) d c.extend.new.self.scope c.extend.new.self.facts (goal_view c.args.goal.now)) (ap (λ xs. steps_script xs (close_script c.args.block.now.close)) c.deref.ensures.value)) h) c.outside.ensures
 
 pub look_inside-returns-clause-same : goal.look_inside-returns-clause-same
@@ -133,10 +133,10 @@ look_at_step-look_inside-inside-requires t c = (
     (
       few_copies c.made-made.result.now c.made-made.ensures,
       (
-        subst (λ xs. IsReady (all_stated c.args.before.now) (script_of c.deref-in-Superposed.result.now) (grown c.args.state.now.scope xs) (joined_all c.args.state.now.facts c.deref-in-Superposed-2.result.now) (goal_of c.items-in-Superposed.result.now)) (sym c.made-made.ensures)
-            (subst (λ fs. IsReady (all_stated c.args.before.now) (script_of c.deref-in-Superposed.result.now) (grown c.args.state.now.scope superposing.sorts_copied) (joined_all c.args.state.now.facts fs) (goal_of c.items-in-Superposed.result.now)) (sym (c.deref-in-Superposed-2.ensures.value ∙ c.in_ok-given-in-Superposed.ensures))
-            (subst (λ ls. IsReady (all_stated c.args.before.now) (script_of c.deref-in-Superposed.result.now) (grown c.args.state.now.scope superposing.sorts_copied) (joined_all c.args.state.now.facts (superposing.gives_of_superposition c.in-Superposed.superposition c.args.state.now.scope)) (goal_of ls)) (sym c.items-in-Superposed.ensures)
-            (subst (λ b. IsReady (all_stated c.args.before.now) (script_of b) (grown c.args.state.now.scope superposing.sorts_copied) (joined_all c.args.state.now.facts (superposing.gives_of_superposition c.in-Superposed.superposition c.args.state.now.scope)) (goal_of c.in-Superposed.shown)) (sym c.deref-in-Superposed.ensures)
+        subst (λ xs. IsReady (all_stated c.args.before.now) (script_of c.deref-in-Superposed.result.now) (grown c.args.state.now.scope xs) (with_facts c.args.state.now.facts c.deref-in-Superposed-2.result.now) (goal_of c.items-in-Superposed.result.now)) (sym c.made-made.ensures)
+            (subst (λ fs. IsReady (all_stated c.args.before.now) (script_of c.deref-in-Superposed.result.now) (grown c.args.state.now.scope superposing.sorts_copied) (with_facts c.args.state.now.facts fs) (goal_of c.items-in-Superposed.result.now)) (sym (c.deref-in-Superposed-2.ensures.value ∙ c.in_ok-given-in-Superposed.ensures))
+            (subst (λ ls. IsReady (all_stated c.args.before.now) (script_of c.deref-in-Superposed.result.now) (grown c.args.state.now.scope superposing.sorts_copied) (with_facts c.args.state.now.facts (superposing.gives_of_superposition c.in-Superposed.superposition c.args.state.now.scope)) (goal_of ls)) (sym c.items-in-Superposed.ensures)
+            (subst (λ b. IsReady (all_stated c.args.before.now) (script_of b) (grown c.args.state.now.scope superposing.sorts_copied) (with_facts c.args.state.now.facts (superposing.gives_of_superposition c.in-Superposed.superposition c.args.state.now.scope)) (goal_of c.in-Superposed.shown)) (sym c.deref-in-Superposed.ensures)
             (superposed_ready (all_stated c.args.before.now) c.in-Superposed.superposition c.in-Superposed.names c.in-Superposed.shown c.in-Superposed.certs c.in-Superposed.inner c.args.state.now (subst (λ st. IsReadyToTrim (all_stated c.args.before.now) st c.args.state.now) c.in-Superposed.is c.requires.ready))))),
         c.requires.statements,
       ),
@@ -146,22 +146,22 @@ look_at_step-look_inside-inside-requires t c = (
 
 pub look_at_step-returns-in_ok-inside-in-Superposed-clause-wanted : goal.look_at_step-returns-in_ok-inside-in-Superposed-clause-wanted
 look_at_step-returns-in_ok-inside-in-Superposed-clause-wanted t c =
-    let inside = c.in_ok-inside-in-Superposed.ensures.wanted ∙ ap (λ b. wants_outside c.args.state.now.scope c.args.state.now.facts (wants (all_stated c.args.before.now) (script_of b) (grown c.args.state.now.scope c.made-made.result.now) (joined_all c.args.state.now.facts c.deref-in-Superposed-2.result.now) (goal_of c.items-in-Superposed.result.now))) c.deref-in-Superposed.ensures
-    ∙ ap (λ xs. wants_outside c.args.state.now.scope c.args.state.now.facts (wants (all_stated c.args.before.now) (script_of c.in-Superposed.inner.value) (grown c.args.state.now.scope xs) (joined_all c.args.state.now.facts c.deref-in-Superposed-2.result.now) (goal_of c.items-in-Superposed.result.now))) c.made-made.ensures
-    ∙ ap (λ fs. wants_outside c.args.state.now.scope c.args.state.now.facts (wants (all_stated c.args.before.now) (script_of c.in-Superposed.inner.value) (grown c.args.state.now.scope superposing.sorts_copied) (joined_all c.args.state.now.facts fs) (goal_of c.items-in-Superposed.result.now))) (c.deref-in-Superposed-2.ensures.value ∙ c.in_ok-given-in-Superposed.ensures)
-    ∙ ap (λ ls. wants_outside c.args.state.now.scope c.args.state.now.facts (wants (all_stated c.args.before.now) (script_of c.in-Superposed.inner.value) (grown c.args.state.now.scope superposing.sorts_copied) (joined_all c.args.state.now.facts (superposing.gives_of_superposition c.in-Superposed.superposition c.args.state.now.scope)) (goal_of ls))) c.items-in-Superposed.ensures in
+    let inside = c.in_ok-inside-in-Superposed.ensures.wanted ∙ ap (λ b. wants_outside c.args.state.now.scope c.args.state.now.facts (wants (all_stated c.args.before.now) (script_of b) (grown c.args.state.now.scope c.made-made.result.now) (with_facts c.args.state.now.facts c.deref-in-Superposed-2.result.now) (goal_of c.items-in-Superposed.result.now))) c.deref-in-Superposed.ensures
+    ∙ ap (λ xs. wants_outside c.args.state.now.scope c.args.state.now.facts (wants (all_stated c.args.before.now) (script_of c.in-Superposed.inner.value) (grown c.args.state.now.scope xs) (with_facts c.args.state.now.facts c.deref-in-Superposed-2.result.now) (goal_of c.items-in-Superposed.result.now))) c.made-made.ensures
+    ∙ ap (λ fs. wants_outside c.args.state.now.scope c.args.state.now.facts (wants (all_stated c.args.before.now) (script_of c.in-Superposed.inner.value) (grown c.args.state.now.scope superposing.sorts_copied) (with_facts c.args.state.now.facts fs) (goal_of c.items-in-Superposed.result.now))) (c.deref-in-Superposed-2.ensures.value ∙ c.in_ok-given-in-Superposed.ensures)
+    ∙ ap (λ ls. wants_outside c.args.state.now.scope c.args.state.now.facts (wants (all_stated c.args.before.now) (script_of c.in-Superposed.inner.value) (grown c.args.state.now.scope superposing.sorts_copied) (with_facts c.args.state.now.facts (superposing.gives_of_superposition c.in-Superposed.superposition c.args.state.now.scope)) (goal_of ls))) c.items-in-Superposed.ensures in
     and_so c.append-in-Superposed.result
     (λ h. inside_wants (all_stated c.args.before.now) c.args.step.now c.args.state.now c.args.out.now c.look_step.new.out c.in_ok-inside-in-Superposed.field-0 c.append-in-Superposed.new.self c.in_ok-look_step.ensures
     (λ rest. (superposed_inside (all_stated c.args.before.now) c.args.step.now c.in-Superposed.superposition c.in-Superposed.names c.in-Superposed.shown c.in-Superposed.certs c.in-Superposed.inner c.args.state.now rest c.in-Superposed.is).0 ∙ sym inside) h) c.append-in-Superposed.ensures
 
 pub look_at_step-returns-in_ok-inside-in-Superposed-clause-flags : goal.look_at_step-returns-in_ok-inside-in-Superposed-clause-flags
 look_at_step-returns-in_ok-inside-in-Superposed-clause-flags t c =
-    let inside = c.in_ok-inside-in-Superposed.ensures.flags ∙ ap (λ b. c.args.flags.now.items ++ flags_of (all_stated c.args.before.now) (script_of b) (grown c.args.state.now.scope c.made-made.result.now) (joined_all c.args.state.now.facts c.deref-in-Superposed-2.result.now) (goal_of c.items-in-Superposed.result.now)) c.deref-in-Superposed.ensures
-    ∙ ap (λ xs. c.args.flags.now.items ++ flags_of (all_stated c.args.before.now) (script_of c.in-Superposed.inner.value) (grown c.args.state.now.scope xs) (joined_all c.args.state.now.facts c.deref-in-Superposed-2.result.now) (goal_of c.items-in-Superposed.result.now)) c.made-made.ensures
-    ∙ ap (λ fs. c.args.flags.now.items ++ flags_of (all_stated c.args.before.now) (script_of c.in-Superposed.inner.value) (grown c.args.state.now.scope superposing.sorts_copied) (joined_all c.args.state.now.facts fs) (goal_of c.items-in-Superposed.result.now)) (c.deref-in-Superposed-2.ensures.value ∙ c.in_ok-given-in-Superposed.ensures)
-    ∙ ap (λ ls. c.args.flags.now.items ++ flags_of (all_stated c.args.before.now) (script_of c.in-Superposed.inner.value) (grown c.args.state.now.scope superposing.sorts_copied) (joined_all c.args.state.now.facts (superposing.gives_of_superposition c.in-Superposed.superposition c.args.state.now.scope)) (goal_of ls)) c.items-in-Superposed.ensures in
+    let inside = c.in_ok-inside-in-Superposed.ensures.flags ∙ ap (λ b. c.args.flags.now.items ++ flags_of (all_stated c.args.before.now) (script_of b) (grown c.args.state.now.scope c.made-made.result.now) (with_facts c.args.state.now.facts c.deref-in-Superposed-2.result.now) (goal_of c.items-in-Superposed.result.now)) c.deref-in-Superposed.ensures
+    ∙ ap (λ xs. c.args.flags.now.items ++ flags_of (all_stated c.args.before.now) (script_of c.in-Superposed.inner.value) (grown c.args.state.now.scope xs) (with_facts c.args.state.now.facts c.deref-in-Superposed-2.result.now) (goal_of c.items-in-Superposed.result.now)) c.made-made.ensures
+    ∙ ap (λ fs. c.args.flags.now.items ++ flags_of (all_stated c.args.before.now) (script_of c.in-Superposed.inner.value) (grown c.args.state.now.scope superposing.sorts_copied) (with_facts c.args.state.now.facts fs) (goal_of c.items-in-Superposed.result.now)) (c.deref-in-Superposed-2.ensures.value ∙ c.in_ok-given-in-Superposed.ensures)
+    ∙ ap (λ ls. c.args.flags.now.items ++ flags_of (all_stated c.args.before.now) (script_of c.in-Superposed.inner.value) (grown c.args.state.now.scope superposing.sorts_copied) (with_facts c.args.state.now.facts (superposing.gives_of_superposition c.in-Superposed.superposition c.args.state.now.scope)) (goal_of ls)) c.items-in-Superposed.ensures in
     on_ok c.append-in-Superposed.result
-    (inside_flags (all_stated c.args.before.now) c.args.step.now c.args.state.now c.args.flags.now.items (flags_of (all_stated c.args.before.now) (script_of c.in-Superposed.inner.value) (grown c.args.state.now.scope superposing.sorts_copied) (joined_all c.args.state.now.facts (superposing.gives_of_superposition c.in-Superposed.superposition c.args.state.now.scope)) (goal_of c.in-Superposed.shown)) c.look_inside-inside.new.flags.items
+    (inside_flags (all_stated c.args.before.now) c.args.step.now c.args.state.now c.args.flags.now.items (flags_of (all_stated c.args.before.now) (script_of c.in-Superposed.inner.value) (grown c.args.state.now.scope superposing.sorts_copied) (with_facts c.args.state.now.facts (superposing.gives_of_superposition c.in-Superposed.superposition c.args.state.now.scope)) (goal_of c.in-Superposed.shown)) c.look_inside-inside.new.flags.items
     (λ rest. (superposed_inside (all_stated c.args.before.now) c.args.step.now c.in-Superposed.superposition c.in-Superposed.names c.in-Superposed.shown c.in-Superposed.certs c.in-Superposed.inner c.args.state.now rest c.in-Superposed.is).1) inside)
 
 pub look_at_step-returns-in-Cite-clause-wanted : goal.look_at_step-returns-in-Cite-clause-wanted
@@ -205,7 +205,7 @@ look_at_close-look_inside-other-requires t c = (
     (
       omega arith,
       (
-        subst (λ ls. IsReady (all_stated c.args.before.now) (script_of c.deref.result.now) c.args.state.now.scope (joined_all c.args.state.now.facts ls) (goal_view c.args.goal.now)) (sym (c.deref-in-Cases.ensures.value ∙ c.in_ok-fails-in-Cases.ensures.items ∙ ap (λ l. l ∷ []) (c.negate.ensures ∙ ap negation c.in_ok-copy-in-Cases.ensures))) (subst (λ b. IsReady (all_stated c.args.before.now) (script_of b) c.args.state.now.scope (joined c.args.state.now.facts (negation c.in-Cases.lit)) (goal_view c.args.goal.now)) (sym c.deref.ensures) (cases_ready (all_stated c.args.before.now) c.in-Cases.lit c.in-Cases.first c.in-Cases.second c.args.state.now.scope c.args.state.now.facts (goal_view c.args.goal.now) (subst (λ cl. IsReady (all_stated c.args.before.now) (close_script cl) c.args.state.now.scope c.args.state.now.facts (goal_view c.args.goal.now)) c.in-Cases.is c.requires.ready)).2),
+        subst (λ ls. IsReady (all_stated c.args.before.now) (script_of c.deref.result.now) c.args.state.now.scope (with_facts c.args.state.now.facts ls) (goal_view c.args.goal.now)) (sym (c.deref-in-Cases.ensures.value ∙ c.in_ok-fails-in-Cases.ensures.items ∙ ap (λ l. l ∷ []) (c.negate.ensures ∙ ap negation c.in_ok-copy-in-Cases.ensures))) (subst (λ b. IsReady (all_stated c.args.before.now) (script_of b) c.args.state.now.scope (with_fact c.args.state.now.facts (negation c.in-Cases.lit)) (goal_view c.args.goal.now)) (sym c.deref.ensures) (cases_ready (all_stated c.args.before.now) c.in-Cases.lit c.in-Cases.first c.in-Cases.second c.args.state.now.scope c.args.state.now.facts (goal_view c.args.goal.now) (subst (λ cl. IsReady (all_stated c.args.before.now) (close_script cl) c.args.state.now.scope c.args.state.now.facts (goal_view c.args.goal.now)) c.in-Cases.is c.requires.ready)).2),
         c.requires.statements,
       ),
     ),
@@ -215,12 +215,12 @@ look_at_close-look_inside-other-requires t c = (
 pub look_at_close-look_inside-one-requires : goal.look_at_close-look_inside-one-requires
 look_at_close-look_inside-one-requires t c = (
   (let n = first_falls c.args.close.now c.in-Cases.lit c.in-Cases.first c.in-Cases.second c.deref-in-Cases-2.result.now c.in-Cases.is c.deref-in-Cases-2.ensures in omega (arith, c.decreases, n)),
-  subst (λ (y : StepState). (is_small y.scope ≡ true) × ((length {A = Sort} [] < 2 ^ 15) × (IsReady (all_stated c.args.before.now) (script_of c.deref-in-Cases-2.result.now) y.scope (joined_all y.facts c.deref-in-Cases-3.result.now) (goal_view c.args.goal.now) × (list_all is_small_statement (all_stated c.args.before.now) ≡ true)))) (sym c.in_ok-other-in-Cases.ensures.same) (
+  subst (λ (y : StepState). (is_small y.scope ≡ true) × ((length {A = Sort} [] < 2 ^ 15) × (IsReady (all_stated c.args.before.now) (script_of c.deref-in-Cases-2.result.now) y.scope (with_facts y.facts c.deref-in-Cases-3.result.now) (goal_view c.args.goal.now) × (list_all is_small_statement (all_stated c.args.before.now) ≡ true)))) (sym c.in_ok-other-in-Cases.ensures.same) (
     (cases_ready (all_stated c.args.before.now) c.in-Cases.lit c.in-Cases.first c.in-Cases.second c.args.state.now.scope c.args.state.now.facts (goal_view c.args.goal.now) (subst (λ cl. IsReady (all_stated c.args.before.now) (close_script cl) c.args.state.now.scope c.args.state.now.facts (goal_view c.args.goal.now)) c.in-Cases.is c.requires.ready)).0,
     (
       omega arith,
       (
-        subst (λ ls. IsReady (all_stated c.args.before.now) (script_of c.deref-in-Cases-2.result.now) c.args.state.now.scope (joined_all c.args.state.now.facts ls) (goal_view c.args.goal.now)) (sym (c.deref-in-Cases-3.ensures.value ∙ c.in_ok-holds-in-Cases.ensures.items ∙ ap (λ l. l ∷ []) c.in_ok-copy-in-Cases-2.ensures)) (subst (λ b. IsReady (all_stated c.args.before.now) (script_of b) c.args.state.now.scope (joined c.args.state.now.facts c.in-Cases.lit) (goal_view c.args.goal.now)) (sym c.deref-in-Cases-2.ensures) (cases_ready (all_stated c.args.before.now) c.in-Cases.lit c.in-Cases.first c.in-Cases.second c.args.state.now.scope c.args.state.now.facts (goal_view c.args.goal.now) (subst (λ cl. IsReady (all_stated c.args.before.now) (close_script cl) c.args.state.now.scope c.args.state.now.facts (goal_view c.args.goal.now)) c.in-Cases.is c.requires.ready)).1),
+        subst (λ ls. IsReady (all_stated c.args.before.now) (script_of c.deref-in-Cases-2.result.now) c.args.state.now.scope (with_facts c.args.state.now.facts ls) (goal_view c.args.goal.now)) (sym (c.deref-in-Cases-3.ensures.value ∙ c.in_ok-holds-in-Cases.ensures.items ∙ ap (λ l. l ∷ []) c.in_ok-copy-in-Cases-2.ensures)) (subst (λ b. IsReady (all_stated c.args.before.now) (script_of b) c.args.state.now.scope (with_fact c.args.state.now.facts c.in-Cases.lit) (goal_view c.args.goal.now)) (sym c.deref-in-Cases-2.ensures) (cases_ready (all_stated c.args.before.now) c.in-Cases.lit c.in-Cases.first c.in-Cases.second c.args.state.now.scope c.args.state.now.facts (goal_view c.args.goal.now) (subst (λ cl. IsReady (all_stated c.args.before.now) (close_script cl) c.args.state.now.scope c.args.state.now.facts (goal_view c.args.goal.now)) c.in-Cases.is c.requires.ready)).1),
         c.requires.statements,
       ),
     ),
@@ -231,21 +231,21 @@ pub look_at_close-returns-in_ok-one-in-Cases-clause-wanted : goal.look_at_close-
 look_at_close-returns-in_ok-one-in-Cases-clause-wanted t c =
     and_so c.append-in-Cases.result
     (λ h. cases_wanted (all_stated c.args.before.now) c.args.close.now c.in-Cases.lit c.in-Cases.first c.in-Cases.second c.args.state.now.scope c.args.state.now.facts (goal_view c.args.goal.now) c.args.out.now c.look_close.new.out c.in_ok-other-in-Cases.field-0 c.in_ok-one-in-Cases.field-0 c.append-in-Cases.new.self c.append.new.self c.in-Cases.is (c.in_ok-look_close.ensures (all_stated c.args.before.now))
-    (c.in_ok-other-in-Cases.ensures.wanted ∙ ap (λ b. wants_outside c.args.state.now.scope c.args.state.now.facts (wants (all_stated c.args.before.now) (script_of b) c.args.state.now.scope (joined_all c.args.state.now.facts c.deref-in-Cases.result.now) (goal_view c.args.goal.now))) c.deref.ensures
-    ∙ ap (λ ls. wants_outside c.args.state.now.scope c.args.state.now.facts (wants (all_stated c.args.before.now) (script_of c.in-Cases.second.value) c.args.state.now.scope (joined_all c.args.state.now.facts ls) (goal_view c.args.goal.now))) (c.deref-in-Cases.ensures.value ∙ c.in_ok-fails-in-Cases.ensures.items ∙ ap (λ l. l ∷ []) (c.negate.ensures ∙ ap negation c.in_ok-copy-in-Cases.ensures)))
-    (c.in_ok-one-in-Cases.ensures.wanted ∙ ap (λ (y : StepState). wants_outside y.scope y.facts (wants (all_stated c.args.before.now) (script_of c.deref-in-Cases-2.result.now) y.scope (joined_all y.facts c.deref-in-Cases-3.result.now) (goal_view c.args.goal.now))) c.in_ok-other-in-Cases.ensures.same
-    ∙ ap (λ b. wants_outside c.args.state.now.scope c.args.state.now.facts (wants (all_stated c.args.before.now) (script_of b) c.args.state.now.scope (joined_all c.args.state.now.facts c.deref-in-Cases-3.result.now) (goal_view c.args.goal.now))) c.deref-in-Cases-2.ensures
-    ∙ ap (λ ls. wants_outside c.args.state.now.scope c.args.state.now.facts (wants (all_stated c.args.before.now) (script_of c.in-Cases.first.value) c.args.state.now.scope (joined_all c.args.state.now.facts ls) (goal_view c.args.goal.now))) (c.deref-in-Cases-3.ensures.value ∙ c.in_ok-holds-in-Cases.ensures.items ∙ ap (λ l. l ∷ []) c.in_ok-copy-in-Cases-2.ensures)) c.in_ok-append-in-Cases.ensures h) c.append-in-Cases.ensures
+    (c.in_ok-other-in-Cases.ensures.wanted ∙ ap (λ b. wants_outside c.args.state.now.scope c.args.state.now.facts (wants (all_stated c.args.before.now) (script_of b) c.args.state.now.scope (with_facts c.args.state.now.facts c.deref-in-Cases.result.now) (goal_view c.args.goal.now))) c.deref.ensures
+    ∙ ap (λ ls. wants_outside c.args.state.now.scope c.args.state.now.facts (wants (all_stated c.args.before.now) (script_of c.in-Cases.second.value) c.args.state.now.scope (with_facts c.args.state.now.facts ls) (goal_view c.args.goal.now))) (c.deref-in-Cases.ensures.value ∙ c.in_ok-fails-in-Cases.ensures.items ∙ ap (λ l. l ∷ []) (c.negate.ensures ∙ ap negation c.in_ok-copy-in-Cases.ensures)))
+    (c.in_ok-one-in-Cases.ensures.wanted ∙ ap (λ (y : StepState). wants_outside y.scope y.facts (wants (all_stated c.args.before.now) (script_of c.deref-in-Cases-2.result.now) y.scope (with_facts y.facts c.deref-in-Cases-3.result.now) (goal_view c.args.goal.now))) c.in_ok-other-in-Cases.ensures.same
+    ∙ ap (λ b. wants_outside c.args.state.now.scope c.args.state.now.facts (wants (all_stated c.args.before.now) (script_of b) c.args.state.now.scope (with_facts c.args.state.now.facts c.deref-in-Cases-3.result.now) (goal_view c.args.goal.now))) c.deref-in-Cases-2.ensures
+    ∙ ap (λ ls. wants_outside c.args.state.now.scope c.args.state.now.facts (wants (all_stated c.args.before.now) (script_of c.in-Cases.first.value) c.args.state.now.scope (with_facts c.args.state.now.facts ls) (goal_view c.args.goal.now))) (c.deref-in-Cases-3.ensures.value ∙ c.in_ok-holds-in-Cases.ensures.items ∙ ap (λ l. l ∷ []) c.in_ok-copy-in-Cases-2.ensures)) c.in_ok-append-in-Cases.ensures h) c.append-in-Cases.ensures
 
 pub look_at_close-returns-in_ok-one-in-Cases-clause-flags : goal.look_at_close-returns-in_ok-one-in-Cases-clause-flags
 look_at_close-returns-in_ok-one-in-Cases-clause-flags t c =
     on_ok c.append-in-Cases.result
     (cases_flags (all_stated c.args.before.now) c.args.close.now c.in-Cases.lit c.in-Cases.first c.in-Cases.second c.args.state.now.scope c.args.state.now.facts (goal_view c.args.goal.now) c.args.flags.now.items c.look_inside-other.new.flags.items c.look_inside-one.new.flags.items c.in-Cases.is
-    (c.in_ok-other-in-Cases.ensures.flags ∙ ap (λ b. c.args.flags.now.items ++ flags_of (all_stated c.args.before.now) (script_of b) c.args.state.now.scope (joined_all c.args.state.now.facts c.deref-in-Cases.result.now) (goal_view c.args.goal.now)) c.deref.ensures
-    ∙ ap (λ ls. c.args.flags.now.items ++ flags_of (all_stated c.args.before.now) (script_of c.in-Cases.second.value) c.args.state.now.scope (joined_all c.args.state.now.facts ls) (goal_view c.args.goal.now)) (c.deref-in-Cases.ensures.value ∙ c.in_ok-fails-in-Cases.ensures.items ∙ ap (λ l. l ∷ []) (c.negate.ensures ∙ ap negation c.in_ok-copy-in-Cases.ensures)))
-    (c.in_ok-one-in-Cases.ensures.flags ∙ ap (λ (y : StepState). c.look_inside-other.new.flags.items ++ flags_of (all_stated c.args.before.now) (script_of c.deref-in-Cases-2.result.now) y.scope (joined_all y.facts c.deref-in-Cases-3.result.now) (goal_view c.args.goal.now)) c.in_ok-other-in-Cases.ensures.same
-    ∙ ap (λ b. c.look_inside-other.new.flags.items ++ flags_of (all_stated c.args.before.now) (script_of b) c.args.state.now.scope (joined_all c.args.state.now.facts c.deref-in-Cases-3.result.now) (goal_view c.args.goal.now)) c.deref-in-Cases-2.ensures
-    ∙ ap (λ ls. c.look_inside-other.new.flags.items ++ flags_of (all_stated c.args.before.now) (script_of c.in-Cases.first.value) c.args.state.now.scope (joined_all c.args.state.now.facts ls) (goal_view c.args.goal.now)) (c.deref-in-Cases-3.ensures.value ∙ c.in_ok-holds-in-Cases.ensures.items ∙ ap (λ l. l ∷ []) c.in_ok-copy-in-Cases-2.ensures)))
+    (c.in_ok-other-in-Cases.ensures.flags ∙ ap (λ b. c.args.flags.now.items ++ flags_of (all_stated c.args.before.now) (script_of b) c.args.state.now.scope (with_facts c.args.state.now.facts c.deref-in-Cases.result.now) (goal_view c.args.goal.now)) c.deref.ensures
+    ∙ ap (λ ls. c.args.flags.now.items ++ flags_of (all_stated c.args.before.now) (script_of c.in-Cases.second.value) c.args.state.now.scope (with_facts c.args.state.now.facts ls) (goal_view c.args.goal.now)) (c.deref-in-Cases.ensures.value ∙ c.in_ok-fails-in-Cases.ensures.items ∙ ap (λ l. l ∷ []) (c.negate.ensures ∙ ap negation c.in_ok-copy-in-Cases.ensures)))
+    (c.in_ok-one-in-Cases.ensures.flags ∙ ap (λ (y : StepState). c.look_inside-other.new.flags.items ++ flags_of (all_stated c.args.before.now) (script_of c.deref-in-Cases-2.result.now) y.scope (with_facts y.facts c.deref-in-Cases-3.result.now) (goal_view c.args.goal.now)) c.in_ok-other-in-Cases.ensures.same
+    ∙ ap (λ b. c.look_inside-other.new.flags.items ++ flags_of (all_stated c.args.before.now) (script_of b) c.args.state.now.scope (with_facts c.args.state.now.facts c.deref-in-Cases-3.result.now) (goal_view c.args.goal.now)) c.deref-in-Cases-2.ensures
+    ∙ ap (λ ls. c.look_inside-other.new.flags.items ++ flags_of (all_stated c.args.before.now) (script_of c.in-Cases.first.value) c.args.state.now.scope (with_facts c.args.state.now.facts ls) (goal_view c.args.goal.now)) (c.deref-in-Cases-3.ensures.value ∙ c.in_ok-holds-in-Cases.ensures.items ∙ ap (λ l. l ∷ []) c.in_ok-copy-in-Cases-2.ensures)))
 
 pub look_at_close-returns-in-Qed-clause-wanted : goal.look_at_close-returns-in-Qed-clause-wanted
 look_at_close-returns-in-Qed-clause-wanted t c =

@@ -1,7 +1,7 @@
 use Rattle.std.proofs.Common.{sym, ap, ◌∙◌, subst}
 use Rattle.e_theorem.specs.Statements.{all_stated}
 use Rattle.e_deriv.specs.Script.{Cite, Hence, Make, Apply, Claim, Superposed, step_script, script_of}
-use Rattle.e_trim.specs.Looked.{both, needed, objects_of_lits}
+use Rattle.e_trim.specs.Looked.{both, wanted_objects, objects_of_lits}
 use Rattle.e_trim.specs.inner.StepState.{IsApplied, StepFits}
 use Rattle.e_trim.proofs.walks.LookedUp.{line_needs}
 use Rattle.e_trim.proofs.kept_scripts.StepParts.{and_so, same_line, apply_fits, cite_script, hence_script, make_script, apply_script, claim_script, superposed_script}
@@ -57,7 +57,7 @@ returns-in-Claim c =
     let a = c.in-Claim in
     and_so c.need_objects_of_all.result
     (λ h rest goal. same_line before (Claim a.shown (script_of a.inner.value) rest) (step_script step rest) x.scope x.facts goal c.args.out.now c.need_objects_of_all.new.self (claim_script step a.shown a.inner rest a.is)
-    (h ∙ ap (λ ls. both c.args.out.now (needed (objects_of_lits ls))) c.items-in-Claim.ensures ∙ line_needs c.args.out.now (objects_of_lits a.shown))) c.need_objects_of_all.ensures
+    (h ∙ ap (λ ls. both c.args.out.now (wanted_objects (objects_of_lits ls))) c.items-in-Claim.ensures ∙ line_needs c.args.out.now (objects_of_lits a.shown))) c.need_objects_of_all.ensures
 
 pub returns-in-Superposed : goal.returns-in-Superposed
 returns-in-Superposed c =

@@ -1,5 +1,5 @@
 use Rattle.std.proofs.Common.{◌≡◌, sym, subst, true}
-use Rattle.e_literal.specs.Facts.{joined}
+use Rattle.e_literal.specs.Facts.{with_fact}
 use Rattle.e_clause.specs.LimitedFacts.{are_limited_facts}
 use Rattle.e_licence.specs.Contexts.{Basis}
 use Rattle.e_licence.proofs.HeldStates.{after_add, add_joins, add_keeps, add_is}
@@ -9,7 +9,7 @@ pub invariant_of-self : goal.invariant_of-self
 invariant_of-self c =
     let x = c.self.inside in
     after_add c.add.result x.scope x.facts c.add.new.self c.args.lit x.held.items x.solved c.add.ensures.joined c.add.ensures.err
-    (subst (λ (b : Basis). are_limited_facts b.scope (joined b.facts c.args.lit) ≡ true) (sym c.self.view_is) c.requires) c.self.invariant
+    (subst (λ (b : Basis). are_limited_facts b.scope (with_fact b.facts c.args.lit) ≡ true) (sym c.self.view_is) c.requires) c.self.invariant
 
 pub returns-clause-added : goal.returns-clause-added
 returns-clause-added c =

@@ -2,7 +2,7 @@ use Rattle.std.proofs.Common.{ap, ◌∙◌, length}
 use Rattle.std.specs.Prelude.{List}
 use Rattle.e_literal.specs.declared.object.Scope.{Scope}
 use Rattle.e_literal.specs.declared.literal.Lit.{Lit}
-use Rattle.e_literal.specs.Facts.{joined_all}
+use Rattle.e_literal.specs.Facts.{with_facts}
 use Rattle.e_literal.specs.Scopes.{grown}
 use Rattle.e_construct.specs.Superposing as superposing
 use Rattle.e_verify.specs.declared.step_state.StepState.{StepState}
@@ -24,6 +24,6 @@ grown-self-requires-clause-circles c = (few_copies c.args.self.now.scope (length
 pub returns : goal.returns
 returns c =
     let x = c.args.self.now in
-    let facts = c.in_ok-join.ensures ∙ ap (joined_all x.facts) c.in_ok-given.ensures in
+    let facts = c.in_ok-join.ensures ∙ ap (with_facts x.facts) c.in_ok-given.ensures in
     let scope = c.grown-self.ensures ∙ ap (grown x.scope) c.made.ensures in
     ap (λ (s : Scope). as_state s c.join.new.self) scope ∙ ap (as_state (grown x.scope superposing.sorts_copied)) facts

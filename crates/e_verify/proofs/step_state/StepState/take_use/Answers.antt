@@ -2,7 +2,7 @@ use Rattle.std.proofs.Common.{◌≡◌, ◌+◌, ◌<◌, ◌^◌, sym, ap, ◌
 use Rattle.std.specs.Prelude.{List, OnOk}
 use Rattle.e_literal.specs.declared.object.Scope.{Scope}
 use Rattle.e_literal.specs.declared.literal.Lit.{Lit}
-use Rattle.e_literal.specs.Facts.{joined_all}
+use Rattle.e_literal.specs.Facts.{with_facts}
 use Rattle.e_literal.specs.Scopes.{grown}
 use Rattle.e_theorem.specs.Statements.{stated}
 use Rattle.e_verify.specs.declared.step_state.StepState.{StepState}
@@ -31,4 +31,4 @@ pub returns : goal.returns
 returns c =
     let x = c.args.self.now in
     let scope = c.grown-self.ensures ∙ ap (grown x.scope) c.items.ensures in
-    subst (λ (s : Scope). OnOk c.assume_all.result (c.assume_all.new.self ≡ as_state s (joined_all x.facts c.args.gives.now))) scope c.assume_all.ensures
+    subst (λ (s : Scope). OnOk c.assume_all.result (c.assume_all.new.self ≡ as_state s (with_facts x.facts c.args.gives.now))) scope c.assume_all.ensures

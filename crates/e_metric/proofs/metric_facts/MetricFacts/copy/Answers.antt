@@ -1,5 +1,5 @@
 use Rattle.e_literal.specs.declared.object.Kind.TheVariants.{Segment, Angle, Area}
-use Rattle.e_metric.proofs.metric_facts.MetricFacts.copied.Goals as goal
+use Rattle.e_metric.proofs.metric_facts.MetricFacts.copy.Goals as goal
 
 pub returns-in-Ok-copy : goal.returns-in-Ok-copy
 returns-in-Ok-copy c = λ facts h. record {

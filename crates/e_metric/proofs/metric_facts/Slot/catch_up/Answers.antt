@@ -2,7 +2,7 @@ use Rattle.std.proofs.Common.{subst, refl, rules, Some}
 use Rattle.std.specs.Prelude.{IfSome, MatchOption}
 use Rattle.e_metric.specs.SolvedSystems.{IsKindSystem}
 use Rattle.e_metric.proofs.answers.Fronts.{whole_front}
-use Rattle.e_metric.proofs.metric_facts.Slot.bring.Goals as goal
+use Rattle.e_metric.proofs.metric_facts.Slot.catch_up.Goals as goal
 
 pub returns-in-Some : goal.returns-in-Some
 returns-in-Some c =
