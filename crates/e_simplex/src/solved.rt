@@ -243,6 +243,11 @@ impl Table {
         ensures { IfOk result
             (IsTableOutcome (columns_of self.now) (constraints_of self.now ++ more.now)) }
     {
+        if let [constraint] = more {
+            if let Some(weights) = self.refutation(alloc, constraint)? {
+                return Ok(Outcome::Absurd(weights));
+            }
+        }
         let table = self.with_constraints(alloc, more)?;
         table.outcome(alloc)
     }
