@@ -236,6 +236,21 @@ impl Table {
         self.columns.len()
     }
 
+    /// What comes of the constraints and more, in this table.
+    pub fn grown(self, alloc: Global, more: Vec<Constraint>) -> Result<Outcome, AllocError>
+        requires solved { IsSolved (columns_of self) (constraints_of self) self }
+        requires fit { IsFit (columns_of self) (constraints_of self ++ more.items) }
+        ensures { IfOk result
+            (IsTableOutcome (columns_of self) (constraints_of self ++ more.items)) }
+    {
+        let mut table = self;
+        for constraint in more {
+            table.fixed.push(is_zero(constraint.sense))?;
+            table.constraints.push(constraint)?;
+        }
+        table.outcome(alloc)
+    }
+
     /// What comes of the constraints and more. The solved table stays as it is.
     pub fn with_all(&self, alloc: Global, more: &[Constraint]) -> Result<Outcome, AllocError>
         requires solved { IsSolved (columns_of self.now) (constraints_of self.now) self.now }
