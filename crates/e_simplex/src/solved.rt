@@ -200,6 +200,7 @@ impl Table {
         requires begun { IsBegunTable (columns_of self) (constraints_of self) self }
         ensures { IfOk result (IsTableOutcome (columns_of self) (constraints_of self)) }
     {
+        let first = self.basis.len();
         let fits = match self.add_rows(alloc) {
             Ok(fits) => fits,
             Err(error) => {
@@ -211,7 +212,7 @@ impl Table {
             mem::drop(self);
             return Ok(Outcome::TooWide);
         }
-        match self.solve_and_free(alloc) {
+        match self.solve_and_free(alloc, first) {
             Ok(End::Feasible) => Ok(Outcome::Holds(self)),
             Ok(End::Infeasible(row)) => {
                 let found = self.weights(alloc, row);
