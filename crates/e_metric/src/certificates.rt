@@ -39,8 +39,7 @@ pub fn copy_of_name(alloc: Global, name: &RowName) -> Result<RowName, AllocError
     }
 }
 
-/// The names of the rows of a system in two parts, and of further names one that stands for its
-/// row.
+/// The names of the rows of a system, in two parts.
 #[derive(Clone, Copy)]
 pub struct Names<'a> {
     pub first: &'a [RowName],
