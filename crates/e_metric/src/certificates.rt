@@ -13,7 +13,7 @@ ghost use Rattle.e_metric.specs.inner.Certificate.{leasts, IsWeighable};
 ghost use Rattle.e_metric.specs.inner.TermTotals.{kept_total};
 ghost use Rattle.e_literal.specs.declared.object.Term.{Term as ATerm};
 
-use crate::totals::{total_of_term, totals_of};
+use crate::totals::{add_rows_to, total_of_term, totals_of};
 use e_clause::{MetricCert, RowName, Sum, Sums};
 use e_fraction::Row;
 use e_literal::{Term, canonical, copy};
@@ -39,37 +39,47 @@ pub fn copy_of_name(alloc: Global, name: &RowName) -> Result<RowName, AllocError
     }
 }
 
-// Adds a row, unless its multiplier is 0.
-fn add_unless_zero(
-    sum: &mut Vec<(i128, RowName)>,
-    alloc: Global,
-    name: &RowName,
-    multiplier: i128,
-) -> Result<(), AllocError>
-    ensures { OnOk result (sum.new.items ≡ sum.old.items
-        ++ Certificate.named_multipliers (name.now ∷ []) (multiplier ∷ [])) }
-{
-    if multiplier != 0 {
-        sum.push((multiplier, copy_of_name(alloc, name)?))?;
-    }
-    Ok(())
+/// The names of the rows of a system, in two parts.
+#[derive(Clone, Copy)]
+pub struct Names<'a> {
+    pub first: &'a [RowName],
+    pub more: &'a [RowName],
 }
 
-// The rows whose multiplier is not 0.
-#[tactic(auto, using(crate::proofs::sums::ZippedRows::ending))]
-fn rows_not_zero(
-    alloc: Global,
-    names: &[RowName],
-    multipliers: &[i128],
-) -> Result<Vec<(i128, RowName)>, AllocError>
-    requires { length multipliers.now ≡ length names.now }
-    ensures { IfOk result (λ v. v.items ≡ Certificate.named_multipliers names.now multipliers.now) }
-{
-    let mut sum = Vec::new(alloc);
-    for (name, multiplier) in names.iter().zip(multipliers) {
-        add_unless_zero(&mut sum, alloc, name, *multiplier)?;
+impl<'a> Names<'a> {
+    // The name at a place.
+    fn at(&self, place: usize) -> &'a RowName
+        requires { place < length (self.now.first.now ++ self.now.more.now) }
+        ensures { result.now ≡ get_or (self.now.first.now ++ self.now.more.now) place name.Goal }
+    {
+        if place < self.first.len() {
+            &self.first[place]
+        } else {
+            &self.more[place - self.first.len()]
+        }
     }
-    Ok(sum)
+
+    // The rows whose multiplier is not 0. Where a name is given for the row at a place, it has that.
+    fn rows_not_zero(
+        &self,
+        alloc: Global,
+        multipliers: &[i128],
+        renamed: Option<(usize, &RowName)>,
+    ) -> Result<Vec<(i128, RowName)>, AllocError>
+        requires { length multipliers.now ≡ length (self.now.first.now ++ self.now.more.now) }
+    {
+        let mut sum = Vec::new(alloc);
+        for (i, multiplier) in multipliers.iter().enumerate() {
+            if *multiplier != 0 {
+                let name = match renamed {
+                    Some((place, name)) if place == i => name,
+                    _ => self.at(i),
+                };
+                sum.push((*multiplier, copy_of_name(alloc, name)?))?;
+            }
+        }
+        Ok(sum)
+    }
 }
 
 // For each term whose total is less than 0, adds as many times the row that says that it is at
@@ -92,41 +102,30 @@ fn add_leasts_of(
     Ok(())
 }
 
+/// The rows of a system in two parts.
+#[derive(Clone, Copy)]
+pub struct RowsInTwo<'a> {
+    pub first: &'a [Row],
+    pub more: &'a [Row],
+}
+
 // Where the rows, each times its weight, leave less than nothing of a term, adds as many times the
 // row that says that it is at least 0.
 fn add_leasts(
     sum: &mut Vec<(i128, RowName)>,
     alloc: Global,
-    rows: &[Row],
+    rows: RowsInTwo,
     weights: &[i128],
     terms: &[Term],
 ) -> Result<(), AllocError>
-    requires { IsWeighable rows.now weights.now }
+    requires { IsWeighable (rows.first.now ++ rows.more.now) weights.now }
     ensures { OnOk result (sum.new.items ≡ sum.old.items
-        ++ leasts (Absurd.total (weighed rows.now weights.now)) terms.now) }
+        ++ leasts (Absurd.total (weighed (rows.first.now ++ rows.more.now) weights.now)) terms.now) }
 {
-    let totals = totals_of(alloc, rows, weights)?;
+    let count = rows.first.len();
+    let mut totals = totals_of(alloc, rows.first, &weights[..count])?;
+    add_rows_to(&mut totals, rows.more, &weights[count..])?;
     add_leasts_of(sum, &totals, terms)
-}
-
-// The sum of the rows with these multipliers, and of what brings each term to 0, where it is
-// weighed by these weights.
-fn sum_of(
-    alloc: Global,
-    names: &[RowName],
-    rows: &[Row],
-    multipliers: &[i128],
-    weights: &[i128],
-    terms: &[Term],
-) -> Result<Sum, AllocError>
-    requires names { length multipliers.now ≡ length names.now }
-    requires rows { IsWeighable rows.now weights.now }
-    ensures { IfOk result (λ s. s
-        ≡ Certificate.certificate_sum names.now rows.now multipliers.now weights.now terms.now) }
-{
-    let mut sum = rows_not_zero(alloc, names, multipliers)?;
-    add_leasts(&mut sum, alloc, rows, weights, terms)?;
-    Ok(Sum::new(sum))
 }
 
 // The multipliers, with the one at the place negated.
@@ -140,57 +139,27 @@ fn negated_at(alloc: Global, multipliers: &[i128], place: usize) -> Result<Vec<i
     Ok(weights)
 }
 
-// Gives the row another name, and hands out the one that it had.
-fn name_row(names: &mut Vec<RowName>, row: usize, now: RowName) -> RowName
-    requires { row < length names.old.items }
-    ensures before { result ≡ get_or names.old.items row name.Goal }
-    ensures after { names.new.items ≡ set names.old.items row now }
-{
-    mem::replace(&mut names[row], now)
-}
-
 // The two sums where the row at `row` says that its form is not 0.
 fn two_sums(
     alloc: Global,
-    mut names: Vec<RowName>,
-    rows: &[Row],
+    names: Names,
+    rows: RowsInTwo,
     terms: &[Term],
     row: usize,
     above: &[i128],
     below: &[i128],
 ) -> Result<Sums, AllocError>
-    requires here { row < length names.items }
-    requires above_length { length above.now ≡ length names.items }
-    requires below_length { length below.now ≡ length names.items }
-    requires below_small { unsigned_abs (get_or below.now row (pos 0)) ≤ 2 ^ 80 }
-    requires first { IsWeighable rows.now above.now }
-    requires second { IsWeighable rows.now (Certificate.negated_place below.now row) }
-    ensures { IfOk result (λ s. s ≡ TwoSums (get_or names.items row name.Goal)
-        (Certificate.certificate_sum (set names.items row name.Above) rows.now above.now above.now
-        terms.now) (Certificate.certificate_sum (set names.items row name.Below) rows.now below.now
-        (Certificate.negated_place below.now row) terms.now)) }
 {
+    let mut first = names.rows_not_zero(alloc, above, Some((row, &RowName::Above)))?;
+    add_leasts(&mut first, alloc, rows, above, terms)?;
     let weights = negated_at(alloc, below, row)?;
-    let differs = name_row(&mut names, row, RowName::Above);
-    let above = match sum_of(alloc, &names, rows, above, above, terms) {
-        Ok(above) => above,
-        Err(error) => {
-            mem::drop(differs);
-            return Err(error);
-        }
-    };
-    mem::drop(name_row(&mut names, row, RowName::Below));
-    match sum_of(alloc, &names, rows, below, &weights, terms) {
-        Ok(below) => Ok(Sums::Two {
-            differs,
-            above,
-            below,
-        }),
-        Err(error) => {
-            mem::drop(differs);
-            Err(error)
-        }
-    }
+    let mut second = names.rows_not_zero(alloc, below, Some((row, &RowName::Below)))?;
+    add_leasts(&mut second, alloc, rows, &weights, terms)?;
+    Ok(Sums::Two {
+        differs: copy_of_name(alloc, names.at(row))?,
+        above: Sum::new(first),
+        below: Sum::new(second),
+    })
 }
 
 // Puts equal rows of a sum last.
@@ -242,22 +211,26 @@ pub fn copy_of_certificate(alloc: Global, cert: &MetricCert) -> Result<MetricCer
 /// The sums that multipliers of the rows make.
 pub fn sums_of(
     alloc: Global,
-    names: Vec<RowName>,
-    rows: &[Row],
+    names: Names,
+    rows: RowsInTwo,
     terms: &[Term],
     absurdity: &Absurdity,
 ) -> Result<Sums, AllocError>
-    requires names { length names.items ≡ length rows.now }
-    requires few { length rows.now ≤ most_rows_of_system }
-    requires coefficients { IsTrue (all_small rows.now) }
-    requires refuted { IsAbsurdity (views_of_rows rows.now) absurdity.now }
-    ensures { IfOk result
-        (λ s. s ≡ Certificate.certificate_sums names.items rows.now terms.now absurdity.now) }
+    requires names { length (names.first.now ++ names.more.now)
+        ≡ length (rows.first.now ++ rows.more.now) }
+    requires few { length (rows.first.now ++ rows.more.now) ≤ most_rows_of_system }
+    requires coefficients { IsTrue (all_small (rows.first.now ++ rows.more.now)) }
+    requires refuted { IsAbsurdity (views_of_rows (rows.first.now ++ rows.more.now))
+        absurdity.now }
+    ensures { IfOk result (λ s. s ≡ Certificate.certificate_sums
+        (names.first.now ++ names.more.now) (rows.first.now ++ rows.more.now) terms.now
+        absurdity.now) }
 {
     match absurdity {
         Absurdity::One(multipliers) => {
-            let sum = sum_of(alloc, &names, rows, multipliers, multipliers, terms)?;
-            Ok(Sums::One(sum))
+            let mut sum = names.rows_not_zero(alloc, multipliers, None)?;
+            add_leasts(&mut sum, alloc, rows, multipliers, terms)?;
+            Ok(Sums::One(Sum::new(sum)))
         }
         Absurdity::Two { row, above, below } => {
             two_sums(alloc, names, rows, terms, *row, above, below)

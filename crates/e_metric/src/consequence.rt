@@ -19,7 +19,7 @@ ghost use Rattle.e_metric.specs.MetricAnswers.{preferred, IfYes, IfNo};
 
 use crate::assigning::counterexample;
 use crate::by_kind::ByKind;
-use crate::certificates::sums_of;
+use crate::certificates::{Names, RowsInTwo, sums_of};
 use crate::listing::{has_term, terms_of_kind};
 use crate::metric_facts::MetricFacts;
 use crate::systems::system;
@@ -83,19 +83,27 @@ pub fn certificate_of(
     which: Kind,
     facts: &Facts,
     wanted: Option<&Lit>,
-    names: Vec<RowName>,
+    names: &[RowName],
     rows: &[Row],
     absurdity: &Absurdity,
 ) -> Result<MetricCert, AllocError>
-    requires names { length names.items ≡ length rows.now }
+    requires names { length names.now ≡ length rows.now }
     requires few { length rows.now ≤ most_rows_of_system }
     requires coefficients { IsTrue (all_small rows.now) }
     requires refuted { IsAbsurdity (views_of_rows rows.now) absurdity.now }
-    ensures { IfOk result (λ m. m.sums ≡ Certificate.certificate_sums names.items
+    ensures { IfOk result (λ m. m.sums ≡ Certificate.certificate_sums names.now
         rows.now (with_listed (distinct_terms which facts.now (option_copied wanted.entry))
         (Term.Right ∷ [])) absurdity.now) }
 {
     let terms = summed_terms(alloc, which, facts, wanted)?;
+    let names = Names {
+        first: names,
+        more: &[],
+    };
+    let rows = RowsInTwo {
+        first: rows,
+        more: &[],
+    };
     let sums = sums_of(alloc, names, rows, &terms, absurdity)?;
     Ok(MetricCert { sums })
 }
@@ -118,7 +126,7 @@ pub fn answer_of_kind(
         Verdict::Holds(values) => Ok(Metric::No(values)),
         Verdict::TooWide => Ok(Metric::TooWide(width(&rows))),
         Verdict::Absurd(absurdity) => {
-            let certified = certificate_of(alloc, which, facts, wanted, names, &rows, &absurdity);
+            let certified = certificate_of(alloc, which, facts, wanted, &names, &rows, &absurdity);
             mem::drop(absurdity);
             Ok(Metric::Yes(certified?))
         }

@@ -53,29 +53,6 @@ impl Slot {
         self.upto == facts.len()
     }
 
-    // What is solved of all facts; None where what is there already is that.
-    fn of_all_facts(
-        &self,
-        alloc: Global,
-        which: Kind,
-        facts: &Facts,
-    ) -> Result<Option<KindSystem>, AllocError>
-        requires front { IsFrontSystem which facts.now self.now }
-        requires facts { IsTrue (list_all is_well_formed facts.now) }
-        requires few { length (terms_of_lits facts.now) ≤ most_terms_of_step }
-        ensures { IfOk
-            result (λ o. MatchOption o (IfSome self.now.kind_system (IsKindSystem which facts.now))
-            (IsKindSystem which facts.now)) }
-    {
-        match &self.kind_system {
-            Some(kind_system) => kind_system.of_all_facts(alloc, which, facts, self.upto),
-            None => {
-                let kind_system = solve_kind(alloc, which, facts)?;
-                Ok(Some(kind_system))
-            }
-        }
-    }
-
     // Brings what is solved up to all facts. No contract promises that it does, since what is there
     // is right in any case.
     fn catch_up(&mut self, alloc: Global, which: Kind, facts: &Facts) -> Result<(), AllocError>
@@ -87,18 +64,13 @@ impl Slot {
         if self.is_whole(facts) {
             return Ok(());
         }
-        let count = facts.len();
-        match self.of_all_facts(alloc, which, facts)? {
-            Some(kind_system) => {
-                mem::drop(mem::replace(&mut self.kind_system, Some(kind_system)));
-                self.upto = count;
-                Ok(())
-            }
-            None => {
-                self.upto = count;
-                Ok(())
-            }
-        }
+        let kind_system = match mem::replace(&mut self.kind_system, None) {
+            Some(kind_system) => kind_system.with_all_facts(alloc, which, facts, self.upto)?,
+            None => solve_kind(alloc, which, facts)?,
+        };
+        mem::drop(mem::replace(&mut self.kind_system, Some(kind_system)));
+        self.upto = facts.len();
+        Ok(())
     }
 
     // The answer where a literal of this kind is wanted.

@@ -17,14 +17,14 @@ ghost use Rattle.e_metric.specs.SolvedSystems.{AreTogether, IsSolvedSystem};
 ghost use Rattle.e_metric.specs.ListedTerms.{distinct_terms, with_listed};
 ghost use Rattle.e_metric.specs.MetricAnswers.{IsMetricCertificate, IsKindAnswer};
 
-use crate::certificates::{copy_of_name, sums_of};
+use crate::certificates::{Names, RowsInTwo, copy_of_name, sums_of};
 use crate::consequence::{Metric, names_and_rows};
 use crate::evaluating::{are_so, values_with};
 use crate::listing::{fresh_terms, has_term};
 use crate::systems::{rows_of_goal, system};
 use e_clause::{MetricCert, RowName};
 use e_facts::Facts;
-use e_fraction::{Row, Signed};
+use e_fraction::Row;
 use e_literal::{Kind, Lit, Term, Values};
 use e_simplex::{Absurdity, SolvedRows, Verdict, width};
 use std::alloc::{AllocError, Global};
@@ -34,41 +34,10 @@ use std::mem;
 #[derive(Drop)]
 pub struct SolvedSystem {
     pub names: Vec<RowName>,
-    pub rows: Vec<Row>,
     pub terms: Vec<Term>,
     /// How many of the rows the terms bring.
     pub raised: usize,
     pub solved_rows: SolvedRows,
-}
-
-// An equal row.
-fn copy_of_row(alloc: Global, row: &Row) -> Result<Row, AllocError>
-    ensures { IfOk result (λ r. r ≡ row.now) }
-{
-    let summands = Vec::from_slice(alloc, row.form.summands())?;
-    Ok(Row {
-        sense: row.sense,
-        form: Signed::new(summands),
-    })
-}
-
-// Puts equal rows last.
-fn add_rows(rows: &mut Vec<Row>, alloc: Global, more: &[Row]) -> Result<(), AllocError>
-    ensures { OnOk result (rows.new.items ≡ rows.old.items ++ more.now) }
-{
-    for row in more {
-        rows.push(copy_of_row(alloc, row)?)?;
-    }
-    Ok(())
-}
-
-/// Equal rows.
-pub fn copies_of_rows(alloc: Global, rows: &[Row]) -> Result<Vec<Row>, AllocError>
-    ensures { IfOk result (λ v. v.items ≡ rows.now) }
-{
-    let mut copies = Vec::with_capacity(alloc, rows.len())?;
-    add_rows(&mut copies, alloc, rows)?;
-    Ok(copies)
 }
 
 // Puts equal names last.
@@ -111,44 +80,19 @@ impl SolvedSystem {
     /// An equal solved system.
     pub fn copy(&self, alloc: Global) -> Result<SolvedSystem, AllocError>
         ensures names { IfOk result (λ g. g.names.items ≡ self.now.names.items) }
-        ensures rows { IfOk result (λ g. g.rows.items ≡ self.now.rows.items) }
         ensures terms { IfOk result (λ g. g.terms.items ≡ self.now.terms.items) }
         ensures raised { IfOk result (λ g. g.raised ≡ self.now.raised) }
         ensures solved_rows { IfOk result (λ g. g.solved_rows ≡ self.now.solved_rows) }
     {
         let terms = Vec::from_slice(alloc, &self.terms)?;
-        let rows = copies_of_rows(alloc, &self.rows)?;
         let names = copies_of_names(alloc, &self.names)?;
         let solved_rows = self.solved_rows.copy(alloc)?;
         Ok(SolvedSystem {
             names,
-            rows,
             terms,
             raised: self.raised,
             solved_rows,
         })
-    }
-
-    /// The names of the rows, and these.
-    pub fn names_with(&self, alloc: Global, more: &[RowName]) -> Result<Vec<RowName>, AllocError>
-        ensures { IfOk result (λ v. v.items ≡ self.now.names.items ++ more.now) }
-    {
-        let room = self.names.len().saturating_add(more.len());
-        let mut names = Vec::with_capacity(alloc, room)?;
-        add_names(&mut names, alloc, &self.names)?;
-        add_names(&mut names, alloc, more)?;
-        Ok(names)
-    }
-
-    /// The rows, and these.
-    pub fn rows_with(&self, alloc: Global, more: &[Row]) -> Result<Vec<Row>, AllocError>
-        ensures { IfOk result (λ v. v.items ≡ self.now.rows.items ++ more.now) }
-    {
-        let room = self.rows.len().saturating_add(more.len());
-        let mut rows = Vec::with_capacity(alloc, room)?;
-        add_rows(&mut rows, alloc, &self.rows)?;
-        add_rows(&mut rows, alloc, more)?;
-        Ok(rows)
     }
 
     // The terms, and these, and right.
@@ -170,9 +114,9 @@ impl SolvedSystem {
         Ok(terms)
     }
 
-    /// The certificate that multipliers of the rows, and of more after them, make, where `fresh`
-    /// are the terms of those that no row before has.
-    pub fn certificate_with(
+    // The certificate that multipliers of the rows, and of more after them, make, where `fresh`
+    // are the terms of those that no row before has.
+    fn certificate_with(
         &self,
         alloc: Global,
         which: Kind,
@@ -194,10 +138,16 @@ impl SolvedSystem {
             (views_of_rows (self.now.solved_rows ++ rows.now)) absurdity.now }
         ensures { IfOk result (IsMetricCertificate facts.now (option_copied wanted.entry)) }
     {
-        let names = self.names_with(alloc, names)?;
-        let rows = self.rows_with(alloc, rows)?;
+        let names = Names {
+            first: &self.names,
+            more: names,
+        };
+        let rows = RowsInTwo {
+            first: self.solved_rows.rows(),
+            more: rows,
+        };
         let terms = self.summed_terms_with(alloc, fresh)?;
-        let sums = sums_of(alloc, names, &rows, &terms, absurdity)?;
+        let sums = sums_of(alloc, names, rows, &terms, absurdity)?;
         Ok(MetricCert { sums })
     }
 

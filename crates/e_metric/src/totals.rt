@@ -76,6 +76,22 @@ fn add_form(
     Ok(())
 }
 
+/// Adds the rows, each times its weight.
+pub fn add_rows_to(
+    totals: &mut BTreeMap<Term, i128>,
+    rows: &[Row],
+    weights: &[i128],
+) -> Result<(), AllocError>
+    requires { IsWeighable rows.now weights.now }
+    ensures { OnOk result ((t : ATerm) → kept_total totals.new.entries t
+        ≡ kept_total totals.old.entries t +ℤ Absurd.total (weighed rows.now weights.now) t) }
+{
+    for (row, weight) in rows.iter().zip(weights) {
+        add_form(totals, row.form.summands(), *weight)?;
+    }
+    Ok(())
+}
+
 /// The coefficient of each term in the sum of the rows, each times its weight.
 pub fn totals_of(
     alloc: Global,
@@ -87,8 +103,6 @@ pub fn totals_of(
         → kept_total m.entries t ≡ Absurd.total (weighed rows.now weights.now) t) }
 {
     let mut totals = BTreeMap::new(alloc);
-    for (row, weight) in rows.iter().zip(weights) {
-        add_form(&mut totals, row.form.summands(), *weight)?;
-    }
+    add_rows_to(&mut totals, rows, weights)?;
     Ok(totals)
 }

@@ -33,35 +33,8 @@ pub struct Constraint {
     pub form: Items<Monomial>,
 }
 
-fn coefficient_in(x: &Monomial, column: usize) -> i128
-    requires { unsigned_abs x.now.coefficient ≤ 2 ^ 30 }
-    ensures value { result ≡ x.now.coefficient *ℤ unit x.now.column column }
-    ensures small { unsigned_abs result ≤ 2 ^ 30 }
-{
-    if x.column == column {
-        i128::from(x.coefficient)
-    } else {
-        0
-    }
-}
-
-/// The sum of the coefficients in a column.
-fn coefficient(form: &[Monomial], column: usize) -> i128
-    requires small { (k : ℕ) (d : Monomial) → k < length form.now
-        → unsigned_abs (get_or form.now k d).coefficient ≤ 2 ^ 30 }
-    requires short { length form.now ≤ 2 ^ 32 }
-    ensures value { result ≡ form_at form.now column }
-    ensures small { unsigned_abs result ≤ 2 ^ 62 }
-{
-    let mut sum: i128 = 0;
-    for x in form {
-        let coefficient = coefficient_in(x, column);
-        sum += coefficient;
-    }
-    sum
-}
-
-fn constant(sense: ConstraintSense) -> i128
+/// What a constraint of this sense has in the column of constants.
+pub fn constant(sense: ConstraintSense) -> i128
     ensures { result ≡ constant_of sense }
 {
     match sense {
@@ -78,17 +51,6 @@ pub fn is_zero(sense: ConstraintSense) -> bool
         ConstraintSense::Zero => true,
         ConstraintSense::AtLeast | ConstraintSense::More => false,
     }
-}
-
-/// What the row of a constraint has in a column.
-pub fn row_at(constraint: &Constraint, column: usize) -> i128
-    requires { IsSmallConstraint constraint.now }
-    ensures value { result ≡ constraint_row constraint.now column }
-    ensures small { unsigned_abs result ≤ 2 ^ 31 }
-{
-    let sum = coefficient(constraint.form.items(), column);
-    let constant = constant(constraint.sense);
-    if column == 0 { sum + constant } else { sum }
 }
 
 fn part(x: &Monomial, values: &[i128]) -> i128

@@ -1,6 +1,6 @@
 //! Decides rows over terms.
 
-ghost use Rattle.std.specs.Prelude.{◌≡◌, ℕ, ◌+◌, ◌<◌, ◌≤◌, ◌^◌, length, IfOk, IsTrue, false};
+ghost use Rattle.std.specs.Prelude.{◌≡◌, ℕ, ◌+◌, ◌++◌, ◌<◌, ◌≤◌, ◌^◌, length, IfOk, IsTrue, false};
 ghost use Rattle.e_literal.specs.Minor.{IsWide};
 ghost use Rattle.e_literal.specs.Solution.{HasSolution};
 ghost use Rattle.e_fraction.specs.Limits.{most_rows_of_system, all_small};
@@ -12,7 +12,7 @@ ghost use Rattle.e_simplex.specs.inner.Paired.{PairedTo};
 ghost use Rattle.e_simplex.specs.inner.Weights.{AreWeightsFor, AreWeightsForBoth};
 
 use crate::disequalities::{Satisfaction, satisfy_all};
-use crate::multipliers::{multipliers_of_rows, place_of_not};
+use crate::multipliers::{multipliers_of_rows, place_of_not_in};
 use crate::naming::{plain_constraints, terms_of, tried_constraints};
 use crate::solved::{Outcome, solve_constraints};
 use crate::table::Table;
@@ -55,12 +55,17 @@ fn named_values(alloc: Global, terms: &[Term], values: &[i128]) -> Result<Values
 }
 
 /// What comes of rows whose constraints are refuted.
-pub fn refuted_once(alloc: Global, rows: &[Row], weights: &[i128]) -> Result<Absurdity, AllocError>
-    requires few { length rows.now ≤ most_rows_of_system }
-    requires weights { AreWeightsFor (views_of_rows rows.now) weights.now }
-    ensures { IfOk result (IsRefuted (views_of_rows rows.now)) }
+pub fn refuted_once(
+    alloc: Global,
+    rows: &[Row],
+    more: &[Row],
+    weights: &[i128],
+) -> Result<Absurdity, AllocError>
+    requires few { length (rows.now ++ more.now) ≤ most_rows_of_system }
+    requires weights { AreWeightsFor (views_of_rows (rows.now ++ more.now)) weights.now }
+    ensures { IfOk result (IsRefuted (views_of_rows (rows.now ++ more.now))) }
 {
-    let multipliers = multipliers_of_rows(alloc, rows, weights, 0, 0)?;
+    let multipliers = multipliers_of_rows(alloc, rows, more, weights, 0, 0)?;
     Ok(Absurdity::One(multipliers))
 }
 
@@ -69,19 +74,20 @@ pub fn refuted_once(alloc: Global, rows: &[Row], weights: &[i128]) -> Result<Abs
 fn refuted_both(
     alloc: Global,
     rows: &[Row],
+    more: &[Row],
     k: usize,
     above: &[i128],
     below: &[i128],
 ) -> Result<Absurdity, AllocError>
-    requires few { length rows.now ≤ most_rows_of_system }
-    requires weights { AreWeightsForBoth (views_of_rows rows.now) k above.now below.now }
-    ensures { IfOk result (IsRefuted (views_of_rows rows.now)) }
+    requires few { length (rows.now ++ more.now) ≤ most_rows_of_system }
+    requires weights { AreWeightsForBoth (views_of_rows (rows.now ++ more.now)) k above.now below.now }
+    ensures { IfOk result (IsRefuted (views_of_rows (rows.now ++ more.now))) }
 {
-    let row = place_of_not(rows, k);
+    let row = place_of_not_in(rows, more, k);
     let last = above[above.len() - 1];
-    let above = multipliers_of_rows(alloc, rows, above, k + 1, last)?;
+    let above = multipliers_of_rows(alloc, rows, more, above, k + 1, last)?;
     let last = below[below.len() - 1];
-    let below = multipliers_of_rows(alloc, rows, below, k + 1, last)?;
+    let below = multipliers_of_rows(alloc, rows, more, below, k + 1, last)?;
     Ok(Absurdity::Two { row, above, below })
 }
 
@@ -90,20 +96,21 @@ fn refuted_both(
 pub fn verdict_of_solved(
     alloc: Global,
     rows: &[Row],
+    more: &[Row],
     terms: &[Term],
     solved: &Table,
 ) -> Result<Verdict, AllocError>
-    requires few { length rows.now ≤ most_rows_of_system }
-    requires coefficients { IsTrue (all_small rows.now) }
+    requires few { length (rows.now ++ more.now) ≤ most_rows_of_system }
+    requires coefficients { IsTrue (all_small (rows.now ++ more.now)) }
     requires once { AreOnce terms.now }
-    requires named { AllNamed terms.now (views_of_rows rows.now) }
+    requires named { AllNamed terms.now (views_of_rows (rows.now ++ more.now)) }
     requires room { length terms.now < columns_of solved.now }
     requires counted { columns_of solved.now ≤ 2 ^ 63 + spare_columns }
     requires solved { IsSolved (columns_of solved.now)
-        (named_constraints false terms.now (views_of_rows rows.now)) solved.now }
-    ensures { IfOk result (IsVerdict (views_of_rows rows.now)) }
+        (named_constraints false terms.now (views_of_rows (rows.now ++ more.now))) solved.now }
+    ensures { IfOk result (IsVerdict (views_of_rows (rows.now ++ more.now))) }
 {
-    let forms = tried_constraints(alloc, terms, rows)?;
+    let forms = tried_constraints(alloc, terms, rows, more)?;
     match satisfy_all(alloc, solved, &forms)? {
         Satisfaction::TooWide => Ok(Verdict::TooWide),
         Satisfaction::Found(values) => {
@@ -111,7 +118,7 @@ pub fn verdict_of_solved(
             Ok(Verdict::Holds(values))
         }
         Satisfaction::BothRefuted(k, above, below) => {
-            let both = refuted_both(alloc, rows, k, &above, &below)?;
+            let both = refuted_both(alloc, rows, more, k, &above, &below)?;
             Ok(Verdict::Absurd(both))
         }
     }
@@ -121,25 +128,26 @@ pub fn verdict_of_solved(
 pub fn verdict_of(
     alloc: Global,
     rows: &[Row],
+    more: &[Row],
     terms: &[Term],
     outcome: &Outcome,
 ) -> Result<Verdict, AllocError>
-    requires few { length rows.now ≤ most_rows_of_system }
-    requires coefficients { IsTrue (all_small rows.now) }
+    requires few { length (rows.now ++ more.now) ≤ most_rows_of_system }
+    requires coefficients { IsTrue (all_small (rows.now ++ more.now)) }
     requires once { AreOnce terms.now }
-    requires named { AllNamed terms.now (views_of_rows rows.now) }
+    requires named { AllNamed terms.now (views_of_rows (rows.now ++ more.now)) }
     requires outcome { (w : ℕ) × (length terms.now < w) × (w ≤ 2 ^ 63 + spare_columns)
         × IsTableOutcome w
-        (named_constraints false terms.now (views_of_rows rows.now)) outcome.now }
-    ensures { IfOk result (IsVerdict (views_of_rows rows.now)) }
+        (named_constraints false terms.now (views_of_rows (rows.now ++ more.now))) outcome.now }
+    ensures { IfOk result (IsVerdict (views_of_rows (rows.now ++ more.now))) }
 {
     match outcome {
         Outcome::TooWide => Ok(Verdict::TooWide),
         Outcome::Absurd(weights) => {
-            let once = refuted_once(alloc, rows, weights)?;
+            let once = refuted_once(alloc, rows, more, weights)?;
             Ok(Verdict::Absurd(once))
         }
-        Outcome::Holds(solved) => verdict_of_solved(alloc, rows, terms, solved),
+        Outcome::Holds(solved) => verdict_of_solved(alloc, rows, more, terms, solved),
     }
 }
 
@@ -162,7 +170,7 @@ pub fn decide(alloc: Global, rows: &[Row]) -> Result<Verdict, AllocError>
     let terms = terms_of(alloc, rows)?;
     let constraints = plain_constraints(alloc, &terms, rows)?;
     let outcome = solve_constraints(alloc, constraints, terms.len() + 1)?;
-    let verdict = verdict_of(alloc, rows, &terms, &outcome);
+    let verdict = verdict_of(alloc, rows, &[], &terms, &outcome);
     mem::drop(outcome);
     verdict
 }

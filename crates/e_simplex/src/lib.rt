@@ -17,6 +17,7 @@ mod naming;
 mod number;
 mod pivot;
 mod readings;
+mod refutation;
 mod solve;
 mod solved;
 mod solved_rows;

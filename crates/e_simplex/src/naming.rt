@@ -1,6 +1,6 @@
 //! Terms and their columns.
 
-ghost use Rattle.std.specs.Prelude.{◌≡◌, ◌<◌, ◌^◌, IfOk, IsTrue, length, true, false};
+ghost use Rattle.std.specs.Prelude.{◌≡◌, ◌<◌, ◌^◌, IfOk, OnOk, ◌++◌, IsTrue, length, true, false};
 ghost use Rattle.e_literal.specs.declared.object.Term.{Term};
 ghost use Rattle.e_fraction.specs.Views.{sense_of, views_of_rows};
 ghost use Rattle.e_fraction.specs.Limits.{has_small_coefficients, all_small};
@@ -51,7 +51,17 @@ pub fn terms_with(alloc: Global, terms: &[Term], rows: &[Row]) -> Result<Vec<Ter
     ensures all { IfOk result (λ v. AllNamed v.items (views_of_rows rows.now)) }
     ensures continues { IfOk result (λ v. Continues terms.now v.items) }
 {
-    let mut all = Vec::from_slice(alloc, terms)?;
+    terms_and_fresh(Vec::from_slice(alloc, terms)?, rows)
+}
+
+/// The terms, and after them those of the rows that are not among them, in place.
+pub fn terms_and_fresh(terms: Vec<Term>, rows: &[Row]) -> Result<Vec<Term>, AllocError>
+    requires { AreOnce terms.items }
+    ensures once { IfOk result (λ v. AreOnce v.items) }
+    ensures all { IfOk result (λ v. AllNamed v.items (views_of_rows rows.now)) }
+    ensures continues { IfOk result (λ v. Continues terms.items v.items) }
+{
+    let mut all = terms;
     for row in rows {
         all = with_terms(all, row)?;
     }
@@ -112,27 +122,28 @@ pub fn is_kept(not: bool, sense: RowSense) -> bool
     }
 }
 
-/// The constraints of the rows that say `not 0`, or of the others.
-fn constraints_where(
+/// Adds the constraints of the rows that say `not 0`, or of the others.
+fn add_constraints_where(
+    constraints: &mut Vec<Constraint>,
     alloc: Global,
     not: bool,
     terms: &[Term],
     rows: &[Row],
-) -> Result<Vec<Constraint>, AllocError>
+) -> Result<(), AllocError>
     requires once { AreOnce terms.now }
     requires named { AllNamed terms.now (views_of_rows rows.now) }
     requires coefficients { IsTrue (all_small rows.now) }
-    ensures value { IfOk result (λ v.
-        v.items ≡ named_constraints not terms.now (views_of_rows rows.now)) }
-    ensures small { IfOk result (λ v. AllSmallConstraints v.items) }
+    ensures value { OnOk result (constraints.new.items ≡ constraints.old.items
+        ++ named_constraints not terms.now (views_of_rows rows.now)) }
+    ensures small { AllSmallConstraints constraints.old.items →
+        OnOk result (AllSmallConstraints constraints.new.items) }
 {
-    let mut constraints = Vec::with_capacity(alloc, if not { 0 } else { rows.len() })?;
     for row in rows {
         if is_kept(not, row.sense) {
             constraints.push(constraint_of_row(alloc, row, terms)?)?;
         }
     }
-    Ok(constraints)
+    Ok(())
 }
 
 /// The constraints of the rows that do not say `not 0`.
@@ -148,21 +159,28 @@ pub fn plain_constraints(
         v.items ≡ named_constraints false terms.now (views_of_rows rows.now)) }
     ensures small { IfOk result (λ v. AllSmallConstraints v.items) }
 {
-    constraints_where(alloc, false, terms, rows)
+    let mut constraints = Vec::with_capacity(alloc, rows.len())?;
+    add_constraints_where(&mut constraints, alloc, false, terms, rows)?;
+    Ok(constraints)
 }
 
-/// The constraints of the rows that say `not 0`: their forms are tried as more than 0.
+/// The constraints of the rows, in two parts, that say `not 0`: their forms are tried as more than
+/// 0.
 pub fn tried_constraints(
     alloc: Global,
     terms: &[Term],
     rows: &[Row],
+    more: &[Row],
 ) -> Result<Vec<Constraint>, AllocError>
     requires once { AreOnce terms.now }
-    requires named { AllNamed terms.now (views_of_rows rows.now) }
-    requires coefficients { IsTrue (all_small rows.now) }
+    requires named { AllNamed terms.now (views_of_rows (rows.now ++ more.now)) }
+    requires coefficients { IsTrue (all_small (rows.now ++ more.now)) }
     ensures value { IfOk result (λ v.
-        v.items ≡ named_constraints true terms.now (views_of_rows rows.now)) }
+        v.items ≡ named_constraints true terms.now (views_of_rows (rows.now ++ more.now))) }
     ensures small { IfOk result (λ v. AllSmallConstraints v.items) }
 {
-    constraints_where(alloc, true, terms, rows)
+    let mut constraints = Vec::new(alloc);
+    add_constraints_where(&mut constraints, alloc, true, terms, rows)?;
+    add_constraints_where(&mut constraints, alloc, true, terms, more)?;
+    Ok(constraints)
 }

@@ -200,6 +200,7 @@ impl Table {
         requires begun { IsBegunTable (columns_of self) (constraints_of self) self }
         ensures { IfOk result (IsTableOutcome (columns_of self) (constraints_of self)) }
     {
+        let first = self.basis.len();
         let fits = match self.add_rows(alloc) {
             Ok(fits) => fits,
             Err(error) => {
@@ -211,7 +212,7 @@ impl Table {
             mem::drop(self);
             return Ok(Outcome::TooWide);
         }
-        match self.solve_and_free(alloc) {
+        match self.solve_and_free(alloc, first) {
             Ok(End::Feasible) => Ok(Outcome::Holds(self)),
             Ok(End::Infeasible(row)) => {
                 let found = self.weights(alloc, row);
@@ -236,6 +237,21 @@ impl Table {
         self.columns.len()
     }
 
+    /// What comes of the constraints and more, in this table.
+    pub fn grown(self, alloc: Global, more: Vec<Constraint>) -> Result<Outcome, AllocError>
+        requires solved { IsSolved (columns_of self) (constraints_of self) self }
+        requires fit { IsFit (columns_of self) (constraints_of self ++ more.items) }
+        ensures { IfOk result
+            (IsTableOutcome (columns_of self) (constraints_of self ++ more.items)) }
+    {
+        let mut table = self;
+        for constraint in more {
+            table.fixed.push(is_zero(constraint.sense))?;
+            table.constraints.push(constraint)?;
+        }
+        table.outcome(alloc)
+    }
+
     /// What comes of the constraints and more. The solved table stays as it is.
     pub fn with_all(&self, alloc: Global, more: &[Constraint]) -> Result<Outcome, AllocError>
         requires solved { IsSolved (columns_of self.now) (constraints_of self.now) self.now }
@@ -243,6 +259,11 @@ impl Table {
         ensures { IfOk result
             (IsTableOutcome (columns_of self.now) (constraints_of self.now ++ more.now)) }
     {
+        if let [constraint] = more {
+            if let Some(weights) = self.refutation(alloc, constraint)? {
+                return Ok(Outcome::Absurd(weights));
+            }
+        }
         let table = self.with_constraints(alloc, more)?;
         table.outcome(alloc)
     }

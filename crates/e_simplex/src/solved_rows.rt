@@ -13,7 +13,7 @@ ghost use Rattle.e_simplex.specs.Solved.{IsSolved, columns_of, spare_columns};
 ghost use Rattle.e_simplex.specs.SolvedRows.{IsTableFor};
 
 use crate::decision::{Absurdity, Verdict, decide, refuted_once, verdict_of, verdict_of_solved};
-use crate::naming::{plain_constraints, terms_of, terms_with};
+use crate::naming::{plain_constraints, terms_and_fresh, terms_of, terms_with};
 use crate::solved::{Outcome, solve_constraints};
 use crate::table::Table;
 use e_fraction::{Row, Signed};
@@ -52,7 +52,8 @@ impl Model for SolvedRows {
 #[derive(Drop)]
 pub enum Prepared {
     SolvedRows(SolvedRows),
-    Absurd(Absurdity),
+    /// The rows, and what refutes them.
+    Absurd(Vec<Row>, Absurdity),
     TooWide,
 }
 
@@ -112,7 +113,7 @@ fn with_values(
         (named_constraints false terms.items (views_of_rows rows.items)) solved }
     ensures { IfOk result (IsPreparedRows rows.items) }
 {
-    match verdict_of_solved(alloc, &rows, &terms, &solved) {
+    match verdict_of_solved(alloc, &rows, &[], &terms, &solved) {
         Ok(Verdict::Holds(values)) => Ok(Prepared::SolvedRows(SolvedRows {
             rows,
             terms,
@@ -121,7 +122,7 @@ fn with_values(
         })),
         Ok(Verdict::Absurd(absurdity)) => {
             mem::drop(solved);
-            Ok(Prepared::Absurd(absurdity))
+            Ok(Prepared::Absurd(rows, absurdity))
         }
         Ok(Verdict::TooWide) => {
             mem::drop(solved);
@@ -148,8 +149,8 @@ pub fn prepare(alloc: Global, rows: Vec<Row>) -> Result<Prepared, AllocError>
     match solve_constraints(alloc, constraints, terms.len() + 1 + SPARE)? {
         Outcome::TooWide => Ok(Prepared::TooWide),
         Outcome::Absurd(weights) => {
-            let once = refuted_once(alloc, &rows, &weights)?;
-            Ok(Prepared::Absurd(once))
+            let once = refuted_once(alloc, &rows, &[], &weights)?;
+            Ok(Prepared::Absurd(rows, once))
         }
         Outcome::Holds(solved) => with_values(alloc, rows, terms, solved),
     }
@@ -170,61 +171,24 @@ fn decided_with(
     ensures { IfOk result (IsVerdict (views_of_rows (rows.now ++ more.now))) }
 {
     let terms = terms_with(alloc, terms, more)?;
-    let all = rows_with(alloc, rows, more)?;
     if solved.width() <= terms.len() {
+        let all = rows_with(alloc, rows, more)?;
         return decide(alloc, &all);
     }
-    let constraints = match plain_constraints(alloc, &terms, more) {
-        Ok(constraints) => constraints,
-        Err(error) => {
-            mem::drop(all);
-            return Err(error);
-        }
-    };
+    let constraints = plain_constraints(alloc, &terms, more)?;
     if constraints.is_empty() {
-        return verdict_of_solved(alloc, &all, &terms, solved);
+        return verdict_of_solved(alloc, rows, more, &terms, solved);
     }
     let outcome = match solved.with_all(alloc, &constraints) {
         Ok(outcome) => outcome,
         Err(error) => {
-            mem::drop(all);
             mem::drop(constraints);
             return Err(error);
         }
     };
-    let verdict = verdict_of(alloc, &all, &terms, &outcome);
+    let verdict = verdict_of(alloc, rows, more, &terms, &outcome);
     mem::drop(outcome);
     verdict
-}
-
-/// Solves rows whose table is solved and further rows, from the solved table. Where those have more
-/// new terms than the table has columns to spare, all rows are solved from nothing.
-fn prepared_with(
-    alloc: Global,
-    rows: &[Row],
-    terms: &[Term],
-    solved: &Table,
-    more: &[Row],
-) -> Result<Prepared, AllocError>
-    requires few { length (rows.now ++ more.now) ≤ most_rows_of_system }
-    requires coefficients { IsTrue (all_small (rows.now ++ more.now)) }
-    requires table { IsTableFor rows.now terms.now solved.now }
-    ensures { IfOk result (IsPreparedRows (rows.now ++ more.now)) }
-{
-    let terms = terms_with(alloc, terms, more)?;
-    let together = rows_with(alloc, rows, more)?;
-    if solved.width() <= terms.len() {
-        return prepare(alloc, together);
-    }
-    let constraints = plain_constraints(alloc, &terms, more)?;
-    match solved.with_all(alloc, &constraints)? {
-        Outcome::TooWide => Ok(Prepared::TooWide),
-        Outcome::Absurd(weights) => {
-            let once = refuted_once(alloc, &together, &weights)?;
-            Ok(Prepared::Absurd(once))
-        }
-        Outcome::Holds(grown) => with_values(alloc, together, terms, grown),
-    }
 }
 
 impl SolvedRows {
@@ -272,13 +236,39 @@ impl SolvedRows {
         decided_with(alloc, &self.rows, &self.terms, &self.solved, more)
     }
 
-    /// [`prepare`] of the rows and more after them, from the solved table; the rows stay as they
-    /// are. Where `more` has over 8 terms that no row here has, all rows are solved from nothing.
-    pub fn with(&self, alloc: Global, more: &[Row]) -> Result<Prepared, AllocError>
-        requires few { length (self.now ++ more.now) ≤ most_rows_of_system }
-        requires coefficients { IsTrue (all_small (self.now ++ more.now)) }
-        ensures { IfOk result (IsPreparedRows (self.now ++ more.now)) }
+    /// [`prepare`] of the rows and more after them, from the solved table. Where `more` has over 8
+    /// terms that no row here has, all rows are solved from nothing.
+    pub fn with(self, alloc: Global, more: Vec<Row>) -> Result<Prepared, AllocError>
+        requires few { length (self ++ more.items) ≤ most_rows_of_system }
+        requires coefficients { IsTrue (all_small (self ++ more.items)) }
+        ensures { IfOk result (IsPreparedRows (self ++ more.items)) }
     {
-        prepared_with(alloc, &self.rows, &self.terms, &self.solved, more)
+        let SolvedRows {
+            mut rows,
+            terms,
+            solved,
+            values,
+        } = self;
+        mem::drop(values);
+        let terms = terms_and_fresh(terms, &more)?;
+        if solved.width() <= terms.len() {
+            mem::drop(solved);
+            for row in more {
+                rows.push(row)?;
+            }
+            return prepare(alloc, rows);
+        }
+        let constraints = plain_constraints(alloc, &terms, &more)?;
+        for row in more {
+            rows.push(row)?;
+        }
+        match solved.grown(alloc, constraints)? {
+            Outcome::TooWide => Ok(Prepared::TooWide),
+            Outcome::Absurd(weights) => {
+                let once = refuted_once(alloc, &rows, &[], &weights)?;
+                Ok(Prepared::Absurd(rows, once))
+            }
+            Outcome::Holds(grown) => with_values(alloc, rows, terms, grown),
+        }
     }
 }

@@ -49,7 +49,7 @@ fn answer(
     assert!(rt; first.len() <= 4096 && have_small_coefficients(&first));
     match prepare(alloc, first)? {
         Prepared::SolvedRows(prepared) => verdict(rt, alloc, &prepared, &more),
-        Prepared::Absurd(_) => Ok("absurd when prepared"),
+        Prepared::Absurd(_, _) => Ok("absurd when prepared"),
         Prepared::TooWide => Ok("too wide when prepared"),
     }
 }
@@ -82,15 +82,15 @@ fn grown_questions() -> &'static str {
 fn grown_answer(
     rt: &impl Abort,
     alloc: Global,
-    prepared: &SolvedRows,
-    more: &[Row],
+    prepared: SolvedRows,
+    more: Vec<Row>,
     question: &[Row],
 ) -> Result<&'static str, AllocError> {
     assert!(rt; prepared.rows().len() + more.len() <= 4096);
-    assert!(rt; have_small_coefficients(prepared.rows()) && have_small_coefficients(more));
+    assert!(rt; have_small_coefficients(prepared.rows()) && have_small_coefficients(&more));
     match prepared.with(alloc, more)? {
         Prepared::SolvedRows(grown) => verdict(rt, alloc, &grown, question),
-        Prepared::Absurd(_) => Ok("absurd when prepared"),
+        Prepared::Absurd(_, _) => Ok("absurd when prepared"),
         Prepared::TooWide => Ok("too wide when prepared"),
     }
 }
@@ -108,8 +108,8 @@ fn answer_in_turn(
     let first = rows(rt, alloc, first)?;
     assert!(rt; first.len() <= 4096 && have_small_coefficients(&first));
     match prepare(alloc, first)? {
-        Prepared::SolvedRows(prepared) => grown_answer(rt, alloc, &prepared, &more, &question),
-        Prepared::Absurd(_) | Prepared::TooWide => Ok("no solution of the first rows"),
+        Prepared::SolvedRows(prepared) => grown_answer(rt, alloc, prepared, more, &question),
+        Prepared::Absurd(_, _) | Prepared::TooWide => Ok("no solution of the first rows"),
     }
 }
 
