@@ -3,9 +3,13 @@ use Rattle.std.proofs.Common.{◌≡◌, ℕ, List, [], ◌∷◌, ◌++◌, map
 use Rattle.std.specs.Prelude.{codes}
 use Rattle.std.proofs.lemmas.List.{append-nil}
 use Rattle.e_literal.specs.declared.literal.Lit.{Lit}
+use Rattle.e_literal.specs.declared.object.Scope.{Scope}
+use Rattle.e_literal.specs.Use.{scope_of}
 use Rattle.e_deriv.specs.declared.names.Names.{Names}
+use Rattle.e_deriv.specs.Naming.{first_names}
 use Rattle.e_deriv.specs.Script.{Script}
 use Rattle.e_theorem.specs.declared.statement.Statement.{Statement}
+use Rattle.e_theorem.specs.Statements.{stated}
 use Rattle.e_line.specs.declared.raw_line.RawLine.{RawLine}
 use Rattle.e_line.specs.declared.raw_line.RawLine.TheVariants as rawlines
 use Rattle.e_names.specs.TitledStatements.{TitledStatement}
@@ -76,5 +80,13 @@ spelled_parts known t d =
     ∙ sym (of_lines (map line_of (head_raw_lines t)) (script_lines known (names_of_proof t) d ++ line_of end_raw_line ∷ []))
 
 -- the parts as they are written one after another
-pub parts_in_turn : (known : List TitledStatement) (t : TheoremView) (d : Script) → ((([] ++ head_text t.title t.names t.statement) ++ script_text known (names_of_proof t) d) ++ raw_line_text end_raw_line) ≡ spelling known t d
-parts_in_turn known t d = append_assoc (head_text t.title t.names t.statement) (script_text known (names_of_proof t) d) (raw_line_text end_raw_line) ∙ spelled_parts known t d
+pub parts_in_turn : (known : List TitledStatement) (t : TheoremView) (d : Script) (scope : Scope) (ns : Names) (none head block all : List ℕ)
+    → none ≡ [] → head ≡ none ++ head_text t.title t.names t.statement → scope ≡ scope_of (stated t.statement) → ns ≡ first_names scope t.names
+    → block ≡ head ++ script_text known ns d → all ≡ block ++ raw_line_text end_raw_line → all ≡ spelling known t d
+parts_in_turn known t d scope ns none head block all en eh es em eb ea =
+    let is_head : head ≡ head_text t.title t.names t.statement = eh ∙ ap (λ (x : List ℕ). x ++ head_text t.title t.names t.statement) en in
+    let are_names : ns ≡ names_of_proof t = em ∙ ap (λ (s : Scope). first_names s t.names) es in
+    let is_block : block ≡ head_text t.title t.names t.statement ++ script_text known (names_of_proof t) d =
+    eb ∙ ap (λ (x : List ℕ). x ++ script_text known ns d) is_head ∙ ap (λ (n : Names). head_text t.title t.names t.statement ++ script_text known n d) are_names in
+    ea ∙ ap (λ (x : List ℕ). x ++ raw_line_text end_raw_line) is_block
+    ∙ append_assoc (head_text t.title t.names t.statement) (script_text known (names_of_proof t) d) (raw_line_text end_raw_line) ∙ spelled_parts known t d
