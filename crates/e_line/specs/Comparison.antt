@@ -24,6 +24,7 @@ is_spelled None = false
 is_spelled (Some []) = true
 is_spelled (Some (b ∷ text)) = false
 
+-- what a function found to come next is what the definition finds
 abbrev pub IsAfter : Option (Bor (List ℕ)) → Option (List ℕ) → Type 0
 IsAfter None found = found ≡ None
 IsAfter (Some rest) found = found ≡ Some rest.now

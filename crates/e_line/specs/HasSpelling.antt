@@ -1,4 +1,4 @@
--- Words that are names.
+-- Words each of which is a name.
 use Rattle.std.specs.Prelude.{◌≡◌, ℕ, true, List}
 use Rattle.std.specs.List.{AllByRecursion}
 use Rattle.e_text.specs.Names.{is_name}

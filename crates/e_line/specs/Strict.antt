@@ -43,6 +43,6 @@ exact_line_of line words =
     raw_line_of words
     >>= λ f. if is_strict_line f && bytes_eq line (line_of f) then Ok f else Err Malformed
 
--- the words are those of the line
+-- the raw line of a line in its one spelling, by the line's bytes
 abbrev pub exact_line : List ℕ → Result RawLine FaultKind
 exact_line line = exact_line_of line (tokens_of line)

@@ -1,5 +1,5 @@
-//! A text compared, word by word, with what it is to spell: so that nothing is written to see
-//! whether a line is the one of what it says. It takes no memory.
+//! Compares a text with the words that it has to be, one by one, without writing these words down.
+//! It takes no memory.
 ghost use Rattle.std.specs.Prelude.{◌≡◌, ◌∷◌, [], Some};
 ghost use Rattle.e_line.specs.Canonical.{term_words, coefficient_words, mono_words, more_monos};
 ghost use Rattle.e_line.specs.Canonical.{sum_words, sums_words, atom_words, not_words, lit_words};
@@ -11,7 +11,7 @@ use e_text::Name;
 use itoa::{Buffer, Integer};
 use std::marker::Model;
 
-/// What comes after these bytes. Most words are short, and this takes no call.
+/// What comes after these bytes.
 fn after_bytes<'a>(text: &'a [u8], bytes: &[u8]) -> Option<&'a [u8]>
     ensures { IsAfter result (past_bytes bytes.now text.now) }
 {

@@ -1,4 +1,4 @@
-//! Why a book is refused.
+//! What is wrong with a book as a text.
 ghost use Rattle.std.specs.Prelude.{◌≡◌, ◌<◌, ◌^◌};
 ghost use Rattle.e_line.specs.declared.fault.LineError.TheVariants.{NoMemory};
 ghost use Rattle.e_line.specs.Faults.{line_fault};

@@ -32,7 +32,8 @@ pub enum RawItem {
     As(RawAs),
 }
 
-/// A line that takes literals, before these.
+/// What a line that takes literals says before them: its first word, and of a superposition the
+/// names.
 #[derive(Drop)]
 pub enum Listing {
     Given,

@@ -1,4 +1,4 @@
-//! Terms, sums and literals, with the names that they have.
+//! Writes terms, sums and literals, with the names that they have.
 ghost use Rattle.std.specs.Prelude.{◌≡◌, ◌++◌, ◌∷◌, [], true, OnOk};
 ghost use Rattle.e_text.specs.Tokens.{with_spaces};
 ghost use Rattle.e_line.specs.Canonical.{term_words, mono_words, more_monos, sum_words, sums_words};

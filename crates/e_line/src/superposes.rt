@@ -23,7 +23,7 @@ pub struct RawSuperpose {
     pub shown: Items<RawLit>,
 }
 
-/// How many words come before the literals.
+/// How many words come before the literals: `length superpose_pieces`.
 const HEAD: usize = 13;
 
 static PIECES: [Piece; 13] = [
@@ -43,8 +43,7 @@ static PIECES: [Piece; 13] = [
 ];
 
 /// The words of a superposition after its first word, up to the literals that its block shows: the
-/// triangle and its line, the place and its line, and the names of the copied points. They are
-/// thirteen.
+/// triangle and its line, the place and its line, and the names of the copied points.
 pub fn superposition_pieces() -> &'static [Piece]
     ensures { map piece_view result.now ≡ superpose_pieces }
 {

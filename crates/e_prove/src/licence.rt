@@ -19,7 +19,8 @@ use e_literal::{Lit, copy, negate, same};
 use std::alloc::{AllocError, Global};
 use std::mem;
 
-/// A certificate of the literal, where it is allowed. The literals that it names are well formed.
+/// A certificate of the literal, where it is allowed. It cites facts by literals, which are well
+/// formed.
 pub fn licence(alloc: Global, context: &mut Context, lit: &Lit) -> Result<Cert, StepStop>
     requires { IsTrue (is_well_formed_in context.old.scope lit.now) }
     ensures ok { IfOk result

@@ -63,7 +63,8 @@ impl Place {
         }
     }
 
-    /// A block inside begins: the present state is held, and the names are handed out, which
+    /// A block inside begins: the present state is kept as the innermost one outside of the open
+    /// blocks, and the names are handed out, which
     /// [`Place::release`] takes back. The linear systems of the facts are solved before, since
     /// each block inside would have to solve them anew.
     pub(crate) fn hold(&mut self, alloc: Global) -> Result<Names, AllocError>
@@ -100,7 +101,7 @@ impl Place {
         join_copies(alloc, &mut self.context, shown)
     }
 
-    /// The literal is a fact.
+    /// Makes the literal a fact.
     pub(crate) fn assume(&mut self, alloc: Global, lit: &Lit) -> Result<(), AllocError>
         requires { IsTrue
             (are_limited_facts self.old.context.scope (with_fact self.old.context.facts lit.now)) }
@@ -110,7 +111,7 @@ impl Place {
         Ok(())
     }
 
-    /// The negation of the literal is a fact.
+    /// Makes the negation of the literal a fact.
     pub(crate) fn assume_not(&mut self, alloc: Global, lit: &Lit) -> Result<(), AllocError>
         requires { IsTrue (are_limited_facts self.old.context.scope
             (with_fact self.old.context.facts (negation lit.now))) }
@@ -183,7 +184,7 @@ impl Place {
         self.join(given)
     }
 
-    /// Equal literals join the facts, one after the other.
+    /// Copies of the literals join the facts, one after the other.
     pub(crate) fn join_equal(&mut self, alloc: Global, lits: &[Lit]) -> Result<(), AllocError>
         requires { IsTrue (are_limited_facts self.old.context.scope
             (with_facts self.old.context.facts lits.now)) }
@@ -209,7 +210,7 @@ fn join_all(context: &mut Context, lits: Vec<Lit>) -> Result<(), AllocError>
     Ok(())
 }
 
-/// Adds an equal literal for each, unless one the same is there.
+/// Adds a copy of each literal, unless one the same is there.
 fn join_copies(alloc: Global, context: &mut Context, lits: &[Lit]) -> Result<(), AllocError>
     requires { IsTrue
         (are_limited_facts context.old.scope (with_facts context.old.facts lits.now)) }
@@ -236,7 +237,7 @@ fn facts_of(alloc: Global, lits: &[Lit]) -> Result<Facts, AllocError>
     }
 }
 
-/// Puts an equal literal last for each, unless one the same is there.
+/// Puts a copy of each literal last, unless one the same is there.
 fn add_copies(alloc: Global, facts: &mut Facts, lits: &[Lit]) -> Result<(), AllocError>
     ensures { OnOk result (facts.new ≡ with_facts facts.old lits.now) }
 {

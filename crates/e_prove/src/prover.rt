@@ -30,9 +30,10 @@ use std::mem;
 ///
 /// `Unlicensed` comes only at the first step that is not licensed, with what it lacks, the values
 /// that show it where that is a metric literal or a contradiction, and the names in scope before
-/// it. `TooWide` comes only where each step before is licensed and the step is wide. It asks that
-/// each step of the script fits in its place, and so do the literals: those of a theorem that is
-/// read do.
+/// it. `TooWide` comes only where each step before is licensed and the step is wide.
+///
+/// `prove` requires that each step of the script fits in its place, and so do the literals: those of
+/// a theorem that is read do.
 pub fn prove(alloc: Global, before: &[Statement], theorem: &Theorem) -> Result<Block, Stop>
     requires { IsFitting (all_stated before.now) (stated theorem.now.statement)
         (script_of theorem.now.block) }

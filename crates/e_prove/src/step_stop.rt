@@ -61,7 +61,7 @@ pub fn stop(step: u32, step_stop: StepStop, names: Names) -> Stop
     }
 }
 
-/// The stop at the step with this number, where this holds before it.
+/// The stop at the step with this number, where this is the state before it.
 pub fn stop_at(alloc: Global, step_stop: StepStop, state: &Place, number: u32) -> Stop
     ensures { StopOf step_stop number state.now.names result }
 {
@@ -74,8 +74,8 @@ pub fn stop_at(alloc: Global, step_stop: StepStop, state: &Place, number: u32) -
     }
 }
 
-/// Counts a licensed step or close that has no block inside and this number; or gives the stop
-/// there.
+/// Where a step or close without a block inside was licensed, counts it and hands it out; else gives
+/// the stop, with the step's number and names.
 pub fn with_number<T>(
     alloc: Global,
     answered: Result<T, StepStop>,

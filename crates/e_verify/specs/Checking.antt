@@ -15,27 +15,27 @@ use Rattle.e_verify.specs.declared.reject.Reject.TheVariants.{Bad, NoMemory}
 use Rattle.e_verify.specs.declared.step_state.StepState.{StepState}
 use Rattle.e_deriv.specs.Written.{is_written_well}
 
--- the script's first step, and all its steps, where this holds before it
+-- the script's first step, and all its steps, where `x` is the state before it
 abbrev pub step_in_state : Script → StepState → Goal → PlacedStep
 step_in_state d x goal = placed_step d d x.scope x.facts goal
 
 abbrev pub steps_in_state : List StatementView → Script → StepState → Goal → List PlacedStep
 steps_in_state before d x goal = placed_steps before d d x.scope x.facts goal
 
--- the number of the script's first step that is not certified, or the number after the last, where
--- the first has this number
+-- `Err` of the number of the script's first step that is not certified, or `Ok` of the number after
+-- the last, where the first has number `first`
 abbrev pub verdict_at : List StatementView → Script → StepState → Goal → ℕ → Result ℕ ℕ
 verdict_at before d x goal first =
     first_failure (is_certified before) (steps_in_state before d x goal) first
 
--- a step is refused exactly at the first that is not certified; a stop out of memory may come
--- anywhere
+-- `Bad` comes exactly at the first step that is not certified, and `NoMemory` may come anywhere
 abbrev pub RejectIs : Result ℕ ℕ → Reject → Type 0
 RejectIs verdict (Bad step) = verdict ≡ Err step
 RejectIs verdict NoMemory = Unit {0}
 
--- the literals of the script, of the facts and of the goal are well formed, at most 1,000 objects
--- of each sort are in scope before each step, and there are numbers for all steps
+-- IsVerifiable, carried along inside a block: the literals of the script, of the facts and of the
+-- goal are well formed, at most 1,000 objects of each sort are in scope before each step, and there
+-- are numbers for all steps
 pub record IsCheckable (before : List StatementView) (d : Script) (x : StepState) (goal : Goal)
     (first : ℕ) : Type 0 where
   pub written : IsTrue (is_written_well d)
@@ -44,23 +44,24 @@ pub record IsCheckable (before : List StatementView) (d : Script) (x : StepState
   pub shown : IsTrue (list_all is_well_formed goal.shown)
   pub few : first + size d < 2 ^ 32
 
--- before something the steps are ready
+-- `whole` puts some steps before a rest. There are a rest and a goal for which the whole can be
+-- checked from state `x`.
 pub record AreCheckable (before : List StatementView) (whole : Script → Script) (x : StepState)
     (first : ℕ) : Type 0 where
   pub rest : Script
   pub goal : Goal
   pub ready : IsCheckable before (whole rest) x goal first
 
--- and so is the step
+-- the same of one step
 abbrev pub IsCheckableStep : List StatementView → Step → StepState → ℕ → Type 0
 IsCheckableStep before step x first = AreCheckable before (step_script step) x first
 
--- the facts from before are the first ones still
+-- the facts of `after` begin with those of `x`
 abbrev pub KeepsFirstFacts : StepState → StepState → Type 0
 KeepsFirstFacts x after = take (length x.facts) after.facts ≡ x.facts
 
--- the step before whatever comes is certified, or is not; where it is, that holds after it, and
--- well-formed facts stay well formed
+-- `whole` puts one step before a rest. From state `x` it is certified or is not, whatever the rest.
+-- Where it is, state `after` holds after it, and well-formed facts stay well formed.
 pub record IsChecked (before : List StatementView) (whole : Script → Script) (x after : StepState)
     (certified : Bool) : Type 0 where
   pub test : (rest : Script) (goal : Goal)
@@ -72,8 +73,9 @@ pub record IsChecked (before : List StatementView) (whole : Script → Script) (
   pub formed : IsTrue certified → IsTrue (list_all is_well_formed x.facts)
       → IsTrue (list_all is_well_formed after.facts)
 
--- steps before a script have been checked where this held, and now that holds, and the next step
--- has that number
+-- `whole` puts some steps before a rest. Checking these steps has led from state `x`, where the first
+-- has number `first`, to state `after` and number `next`; so the verdict on a rest from there is that
+-- on the whole.
 pub record AreVerified (before : List StatementView) (whole : Script → Script) (x : StepState)
     (first : ℕ) (after : StepState) (next : ℕ) : Type 0 where
   pub ready : (rest : Script) (goal : Goal) → IsCheckable before (whole rest) x goal first
@@ -82,11 +84,11 @@ pub record AreVerified (before : List StatementView) (whole : Script → Script)
       → verdict_at before (whole rest) x goal first ≡ verdict_at before rest after goal next
   pub kept : KeepsFirstFacts x after
 
--- the steps are refused so, whatever comes after them
+-- `e` is the verdict on the steps that `whole` puts before a rest, whatever the rest
 abbrev pub StepsReject : List StatementView → (Script → Script) → StepState → ℕ → Reject → Type 0
 StepsReject before whole x first e =
     (rest : Script) (goal : Goal) → RejectIs (verdict_at before (whole rest) x goal first) e
 
--- and so is the step
+-- the same of one step
 abbrev pub StepRejects : List StatementView → Step → StepState → ℕ → Reject → Type 0
 StepRejects before step x first e = StepsReject before (step_script step) x first e

@@ -1,4 +1,4 @@
-//! The facts before a step.
+//! The facts before a step: as `e_facts::Facts`, with fingerprints.
 
 ghost use Rattle.std.specs.Prelude.{◌≡◌, ◌≤◌, [], take, length, slice_get, OnOk};
 ghost use Rattle.std.specs.List.{list_any, position};

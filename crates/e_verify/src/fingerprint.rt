@@ -72,7 +72,8 @@ fn number_for(kind: u16, a: u16, b: u16, c: u16) -> u128
     u128::from(pack(kind, a, b, c))
 }
 
-/// The fingerprint of a literal: literals that are the same have one.
+/// The fingerprint of a literal's atom: equal for literals that are the same, and for a literal and
+/// its negation.
 #[tactic(auto, unfolding(crate::specs::inner::Fingerprint::atom_fingerprint))]
 pub(crate) fn fingerprint_of(lit: &Lit) -> u128
     ensures { result ≡ atom_fingerprint lit.now.atom }

@@ -88,7 +88,7 @@ fn both_refute<'a>(
     refutes(alloc, &row_scope, below)
 }
 
-/// The row that says that its form is not 0, or none where the name may not be used here.
+/// The row that says that its form differs from 0, or none where the name may not be used here.
 fn row_not_zero<'a>(
     facts: &'a Facts,
     wanted: Option<&'a Lit>,
@@ -109,7 +109,7 @@ fn row_not_zero<'a>(
     }
 }
 
-/// No row but where it says that its form is not 0.
+/// The row, if it says that its form differs from 0.
 fn if_not<'a>(row: Option<Comparison<'a>>) -> Option<Comparison<'a>>
     requires { IfSome row (λ c. IsTrue (is_short c)) }
     ensures row { option_map comparison_view result ≡ option_and_then

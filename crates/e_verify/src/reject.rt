@@ -1,4 +1,4 @@
-//! Why a derivation is refused.
+//! Why a derivation is not verified: a bad step, or no memory.
 
 ghost use Rattle.std.specs.Prelude.{◌≡◌};
 ghost use Rattle.e_verify.specs.declared.reject.Reject.TheVariants.{NoMemory};
@@ -6,7 +6,7 @@ ghost use Rattle.e_verify.specs.declared.reject.Reject.TheVariants.{NoMemory};
 use std::alloc::AllocError;
 use thiserror::Error;
 
-/// Why a derivation is refused.
+/// Why a derivation is not verified.
 #[derive(Debug, Drop, Error)]
 pub enum Reject {
     /// The step with this number, counted from 1, where closes are steps too, is the first that

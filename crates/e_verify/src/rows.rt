@@ -165,7 +165,7 @@ fn row_of<'a>(atom: &'a Atom, neg: bool) -> Option<Comparison<'a>>
     }
 }
 
-/// No row where it says that its form is not 0.
+/// The row, unless it says that its form differs from 0.
 fn unless_not<'a>(row: Option<Comparison<'a>>) -> Option<Row<'a>>
     requires { IfSome row (λ c. IsTrue (is_short c)) }
     ensures row { option_map row_view result

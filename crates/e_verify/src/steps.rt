@@ -32,7 +32,7 @@ use e_theorem::{Applied, Statement, UseFault, use_of};
 use std::alloc::{AllocError, Global};
 use std::mem;
 
-/// Whether a citation is certified; then its literal is a fact.
+/// Checks a citation: where it is certified, its literal becomes a fact, and the answer is true.
 pub fn cite(alloc: Global, by: &By, state: &mut StepState) -> Result<bool, AllocError>
     requires { IsTrue (is_well_formed by.now.lit) }
     ensures { IfOk result (λ b. (before : List StatementView)
@@ -45,7 +45,7 @@ pub fn cite(alloc: Global, by: &By, state: &mut StepState) -> Result<bool, Alloc
     Ok(true)
 }
 
-/// Whether the citation fits, and its instance gives the literal.
+/// Whether the citation is one, over objects in scope, and its instance gives the literal.
 fn is_cited(alloc: Global, scope: Scope, facts: &Facts, by: &By) -> Result<bool, AllocError>
     ensures { IfOk result (λ b. b ≡ (is_citation scope by.now && Steps.is_cited facts.now by.now)) }
 {
@@ -62,7 +62,7 @@ fn is_cited(alloc: Global, scope: Scope, facts: &Facts, by: &By) -> Result<bool,
     Ok(facts.have_all(&needs))
 }
 
-/// Whether a hence is certified; then its literal is a fact.
+/// Checks a hence: where it is certified, its literal becomes a fact, and the answer is true.
 pub fn hence(
     alloc: Global,
     lit: &Lit,
@@ -88,7 +88,8 @@ pub fn hence(
     Ok(true)
 }
 
-/// Whether a construction is certified; then its objects are in scope, and what it gives are facts.
+/// Checks a construction: where it is certified, its objects come into scope, what it gives become
+/// facts, and the answer is true.
 pub fn make(
     alloc: Global,
     construction: &Construction,
@@ -115,8 +116,8 @@ pub fn make(
     Ok(true)
 }
 
-/// Whether an application is certified; then the made objects are in scope, and what the theorem
-/// shows are facts.
+/// Checks an application: where it is certified, the made objects come into scope, what the theorem
+/// shows become facts, and the answer is true.
 pub fn apply(
     alloc: Global,
     before: &[Statement],
@@ -149,8 +150,8 @@ pub fn apply(
     certified
 }
 
-/// Whether what a use of a statement needs is certified; then the made objects are in scope, and
-/// what it gives are facts.
+/// Checks what a use of a statement needs: where it is certified, the made objects come into scope,
+/// what it gives become facts, and the answer is true.
 fn take_use(
     alloc: Global,
     statement: &Statement,

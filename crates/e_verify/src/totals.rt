@@ -67,8 +67,8 @@ impl Totals {
     }
 }
 
-/// Whether the sum of each run of one key is 0. What passes 128 bits on the way is left out, for it
-/// comes back.
+/// Whether the sum of each run of one key is 0. Additions wrap: what overflows on the way cancels,
+/// since each whole sum is below 2^127 in size.
 fn cancel_in_runs(summands: &[(u64, i128)]) -> bool
     ensures { result ≡ totals.cancel_in_runs 0 (pos 0) summands.now }
 {

@@ -39,27 +39,28 @@ pub fn transfer_certifies(
     parts_certify(alloc, facts, &needs, cert.parts.items())
 }
 
-/// Whether there are as many parts as literals, and each certifies its literal.
+/// Whether there are as many parts as literals that are needed, and each certifies its literal. The
+/// definition takes the literals whose negations are needed, so they are negated back here.
 #[tactic(auto, using(crate::proofs::checking::PairedCertificates::parts))]
 fn parts_certify(
     alloc: Global,
     facts: &Facts,
-    lits: &[Lit],
+    needs: &[Lit],
     parts: &[Part],
 ) -> Result<bool, AllocError>
     requires facts { IsTrue (list_all is_well_formed facts.now) }
-    requires lits { IsTrue (list_all is_well_formed lits.now) }
+    requires lits { IsTrue (list_all is_well_formed needs.now) }
     requires parts { IsTrue (list_all is_writable_part parts.now) }
     ensures { IfOk result
-        (λ b. b ≡ TransferCertificate.parts_certify facts.now (map negation lits.now) parts.now) }
+        (λ b. b ≡ TransferCertificate.parts_certify facts.now (map negation needs.now) parts.now) }
 {
-    match (lits, parts) {
+    match (needs, parts) {
         ([], []) => Ok(true),
-        ([lit, lits @ ..], [part, parts @ ..]) => {
+        ([lit, needs @ ..], [part, parts @ ..]) => {
             if !part_certifies(alloc, facts, lit, part)? {
                 return Ok(false);
             }
-            parts_certify(alloc, facts, lits, parts)
+            parts_certify(alloc, facts, needs, parts)
         }
         ([], [_, ..]) => Ok(false),
         ([_, ..], []) => Ok(false),

@@ -33,9 +33,9 @@ step_from_basis script filled x goal = placed_step script filled x.scope x.facts
 abbrev pub fits_here : List StatementView → PlacedStep → Bool
 fits_here before y = fits_with_blanks before y y.here
 
--- where the step fits it is licensed, with its blanks filled as in the derived one, and the derived
--- one is certified; without certificates the derived one is the step with its blanks
--- filled; its certificates name literals that are well formed; this holds after
+-- Where the step fits at state `x` it is licensed, with its blanks filled as in `derived`, and
+-- `derived` is certified. Without certificates `derived` is the step with its blanks filled. Its
+-- certificates cite facts by literals, which are well formed. State `after` holds after the step.
 pub record IsLicensedStep (before : List StatementView) (step : Step) (x : Place)
     (derived : Step) (after : Place) : Type 0 where
   pub licensed : (rest more : Script) (goal : Goal) →
@@ -66,14 +66,14 @@ pub record IsLicensedStep (before : List StatementView) (step : Step) (x : Place
       ≡ x.names ∷ names_of_steps before after.names rest
   pub kept : after.context.held ≡ x.context.held
 
--- where this holds licensing stops so at the step, however its blanks are filled
+-- at state `x` licensing stops by `h` at the step, however its blanks are filled
 abbrev pub IsStopOfStep : List StatementView → Step → Place → StepStop → Type 0
 IsStopOfStep before step x h =
     (rest filled : Script) (goal : Goal)
     → StepStopsAt before (step_from_basis (step_script step rest) filled x.context goal) h
 
--- where this holds the close is licensed, and the derived one certified, by certificates that name
--- literals that are well formed; both are one without certificates
+-- At state `x` the close is licensed, and `derived` is certified, by certificates that cite facts by
+-- literals, which are well formed. Without certificates the two are the same.
 pub record IsLicensedClose (before : List StatementView) (close : Close) (x : Basis) (goal : Goal)
     (derived : Close) : Type 0 where
   pub licensed : AllLicensed before
@@ -84,7 +84,7 @@ pub record IsLicensedClose (before : List StatementView) (close : Close) (x : Ba
       ≡ filled_by (bare_script (close_script close)) (close_script derived)
   pub written : IsTrue (has_certs_of version.One (close_script derived))
 
--- where this holds licensing stops so at the close
+-- at state `x` licensing stops by `h` at the close
 abbrev pub IsStopOfClose : List StatementView → Close → Basis → Goal → StepStop → Type 0
 IsStopOfClose before close x goal h =
     (filled : Script) → StepStopsAt before (step_from_basis (close_script close) filled x goal) h

@@ -27,8 +27,8 @@ use Rattle.e_prove.specs.inner.NextPlaces.{after_literal}
 use Rattle.e_prove.specs.inner.StopsOfSteps.{StepStopsAt}
 use Rattle.e_prove.specs.inner.LicensedSteps.{steps_from_basis, fits_here}
 
--- each step of the script fits in its place, and so do its literals, however blanks are filled;
--- there are numbers for all objects
+-- Where state `x` holds before the script, each of its steps fits in its place, and so do its
+-- literals, however blanks are filled; there are numbers for all objects.
 pub record IsReadyFor (before : List StatementView) (script : Script) (x : Place)
     (goal : Goal) : Type 0 where
   pub forms :
@@ -40,8 +40,8 @@ pub record IsReadyFor (before : List StatementView) (script : Script) (x : Place
       (list_all (λ y. is_small y.scope) (steps_from_basis before script script x.context goal))
   pub statements : IsTrue (list_all is_small_statement before)
 
--- before some script that comes after them the steps are ready, and all their numbers, which begin
--- with this one, have 32 bits
+-- `whole` puts some steps before a rest. There are a rest and a goal for which the whole is ready
+-- from state `x`, and the numbers of its steps, which begin with `first`, have 32 bits.
 pub record AreReadySteps (before : List StatementView) (whole : Script → Script) (x : Place)
     (first : ℕ) : Type 0 where
   pub rest : Script
@@ -49,13 +49,13 @@ pub record AreReadySteps (before : List StatementView) (whole : Script → Scrip
   pub ready : IsReadyFor before (whole rest) x goal
   pub few : first + size (whole rest) < 2 ^ 32
 
--- and so is the step
+-- the same of one step
 abbrev pub IsReadyStep : List StatementView → Step → Place → ℕ → Type 0
 IsReadyStep before step x first = AreReadySteps before (step_script step) x first
 
--- the script is licensed, with its blanks filled as in the derived one, and the derived one is
--- certified; without certificates that is the script with its blanks filled; its certificates name
--- literals that are well formed
+-- From state `x` the script is licensed, with its blanks filled as in `derived`, and `derived` is
+-- certified. Without certificates `derived` is the script with its blanks filled. Its certificates
+-- cite facts by literals, which are well formed.
 pub record IsDerivedFrom (before : List StatementView) (script : Script) (x : Place)
     (goal : Goal) (derived : Script) : Type 0 where
   pub licensed : AllLicensed before (steps_from_basis before script derived x.context goal)
@@ -65,14 +65,14 @@ pub record IsDerivedFrom (before : List StatementView) (script : Script) (x : Pl
   pub erased : bare_script derived ≡ filled_by (bare_script script) derived
   pub written : IsTrue (has_certs_of version.One derived)
 
--- the states that are held are those from before
+-- the states outside of the open blocks are the same in `x` and in `after`
 abbrev pub KeepsHeld : Place → Place → Type 0
 KeepsHeld x after = after.context.held ≡ x.context.held
 
 -- ---- stops
 
--- what is found at a step: that licensing stops so, or that these objects are in scope before it
--- and these are the facts
+-- what is found at a step: that licensing stops there, by `h`; or which objects are in scope before
+-- it, and which literals are facts
 pub data Arrival : Type 0 where
   Halts : (h : StepStop) → Arrival
   Stands : (scope : Scope) (facts : List Lit) → Arrival
@@ -81,8 +81,8 @@ abbrev pub ArrivesAt : List StatementView → PlacedStep → Arrival → Type 0
 ArrivesAt before y (Halts h) = StepStopsAt before y h
 ArrivesAt before y (Stands scope facts) = (y.scope ≡ scope) × (y.facts ≡ facts)
 
--- it is found at step n, before which all are licensed, where the first of the steps has number
--- `first`; and these are the names in scope before step n
+-- Arrival `a` is found at step `n` of the steps `xs`, the first of which has number `first`. All
+-- steps before it are licensed, and `names` are those in scope before it.
 pub record IsReachedIn (before : List StatementView) (xs : List PlacedStep) (ns : List Names)
     (first : ℕ) (a : Arrival) (n : ℕ) (names : Names) : Type 0 where
   pub place : ℕ
@@ -100,19 +100,20 @@ StopIn before xs ns first (stop.TooWide n wanted width names) =
     IsReachedIn before xs ns first (Halts (TooWide wanted width)) n names
 StopIn before xs ns first stop.NoMemory = Unit {0}
 
--- it is found at a step of the script, with the blanks before it filled so
+-- arrival `a` is found at step `n` of the script, from state `x`, with the blanks before it filled
+-- as in `filled`
 pub record ReachesWithin (before : List StatementView) (script : Script) (x : Place)
     (goal : Goal) (first : ℕ) (a : Arrival) (n : ℕ) (names : Names) : Type 0 where
   pub filled : Script
   pub reached : IsReachedIn before (steps_from_basis before script filled x.context goal)
       (names_of_steps before x.names script) first a n names
 
--- at step n of the script this holds, with the blanks before it filled so
+-- before step `n` of the script the state is `y`, with the blanks before it filled somehow
 abbrev pub ReachesStep : List StatementView → Script → Place → Goal → ℕ → ℕ → Place → Type 0
 ReachesStep before script x goal first n y =
     ReachesWithin before script x goal first (Stands y.context.scope y.context.facts) n y.names
 
--- licensing stops so at a step of the script, with the blanks before it filled so
+-- licensing stops by `s` at a step of the script, with the blanks before it filled as in `filled`
 pub record StopsWithin (before : List StatementView) (script : Script) (x : Place) (goal : Goal)
     (first : ℕ) (s : Stop) : Type 0 where
   pub filled : Script
@@ -121,9 +122,9 @@ pub record StopsWithin (before : List StatementView) (script : Script) (x : Plac
 
 -- ---- what has been licensed
 
--- Steps before a script have been licensed where this held, and now that holds, and the next step
--- has that number: whatever comes after them, what is derived from it is derived from the whole,
--- and what is found in it, or a stop in it, is found in the whole.
+-- `whole` puts some steps before a rest. Licensing these steps leads from state `x`, where the first
+-- has number `first`, to state `after` and number `next`. So a derivation of a rest from `after` is,
+-- by `derived`, one of the whole from `x`; and a stop or an arrival in the rest is one in the whole.
 pub record IsPassed (before : List StatementView) (whole : Script → Script) (x : Place)
     (first : ℕ) (derived : Script → Script) (after : Place) (next : ℕ) : Type 0 where
   pub ready : (rest : Script) (goal : Goal) → IsReadyFor before (whole rest) x goal
@@ -140,24 +141,25 @@ pub record IsPassed (before : List StatementView) (whole : Script → Script) (x
   pub number : (rest : Script) → first + size (whole rest) ≡ next + size rest
   pub kept : KeepsHeld x after
 
--- the steps stop so, whatever comes after them, and not at what comes after them
+-- licensing the steps that `whole` puts before a rest stops by `s` at one of them, whatever the rest
 abbrev pub StepsStop : List StatementView → (Script → Script) → Place → ℕ → Stop → Type 0
 StepsStop before whole x first s =
     (rest : Script) (goal : Goal) → IsReadyFor before (whole rest) x goal
     → StopsWithin before (whole rest) x goal first s
     × IsStopBefore (first + size (whole rest) - size rest) s
 
--- and so does the step
+-- the same of one step
 abbrev pub StepStops : List StatementView → Step → Place → ℕ → Stop → Type 0
 StepStops before step x first s = StepsStop before (step_script step) x first s
 
--- at step n of the step's own block this holds, whatever comes after the step
+-- before step `n`, in the step's own block, the state is `y`, whatever comes after the step
 abbrev pub ReachesInStep : List StatementView → Step → Place → ℕ → ℕ → Place → Type 0
 ReachesInStep before step x first n y =
     (rest : Script) (goal : Goal) → IsReadyFor before (step_script step rest) x goal
     → ReachesStep before (step_script step rest) x goal first n y
 
--- the first block of a split was licensed where its literal is a fact, and now its negation is one
+-- The first block of a split has been licensed from `x` with its literal as a fact; in `after` the
+-- negation of the literal is a fact.
 pub record IsFirstPassed (before : List StatementView) (lit : Lit) (first : Script) (x : Place)
     (goal : Goal) (after : Place) : Type 0 where
   pub derived : Script

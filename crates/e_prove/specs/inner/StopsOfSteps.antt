@@ -80,18 +80,18 @@ abbrev pub UnlessNoMemory : Type 0 → StepStop → Type 0
 UnlessNoMemory p NoMemory = Unit {0}
 UnlessNoMemory p h = p
 
--- the stop at the step with this number, where these names are in scope
+-- the stop by `h` at step `n`, where `names` are in scope
 abbrev pub stop_of : StepStop → ℕ → Names → Stop
 stop_of (Lacks wanted values) n names = stop.Unlicensed n wanted values names
 stop_of (TooWide wanted width) n names = stop.TooWide n wanted width names
 stop_of NoMemory n names = stop.NoMemory
 
--- the same, unless there was no memory for a copy of the names
+-- the stop is that one, or there was no memory for a copy of the names
 abbrev pub StopOf : StepStop → ℕ → Names → Stop → Type 0
 StopOf h n names stop.NoMemory = Unit {0}
 StopOf h n names s = s ≡ stop_of h n names
 
--- what is answered on a step, with its number
+-- the stop of an answer `Err` at step `n`; an answer `Ok` has none but for want of memory
 abbrev pub IsWithNumber : {A : Type 0} → Result A StepStop → ℕ → Names → Stop → Type 0
 IsWithNumber (Ok a) n names stop.NoMemory = Unit {0}
 IsWithNumber (Ok a) n names s = ⊥
