@@ -3,5 +3,7 @@ pub mod Answers
 pub mod Concluding
 pub mod Deciding
 pub mod Reading
+pub mod Spreading
+pub mod Further
 pub mod Solving
 pub mod Copying

@@ -8,8 +8,10 @@ use Rattle.e_simplex.specs.Answer.{IsRefuted}
 use Rattle.e_simplex.specs.declared.solved_rows.Prepared.{Prepared}
 use Rattle.e_simplex.specs.declared.solved_rows.Prepared.TheVariants.{SolvedRows, Absurd, TooWide}
 
--- the rows, solved; or multipliers that refute them; or the rows are wide, and so is their width
+-- the rows, solved; or the rows with multipliers that refute them; or the rows are wide, and so is
+-- their width
 abbrev pub IsPreparedRows : List GivenRow → Prepared → Type 0
 IsPreparedRows rows (SolvedRows s) = s ≡ rows
-IsPreparedRows rows (Absurd absurdity) = IsRefuted (views_of_rows rows) absurdity
+IsPreparedRows rows (Absurd same absurdity) =
+    (same.items ≡ rows) × IsRefuted (views_of_rows rows) absurdity
 IsPreparedRows rows TooWide = IsWide (views_of_rows rows) × (2 ^ 63 ≤ width (views_of_rows rows))

@@ -1,11 +1,12 @@
 //! The weights of constraints as multipliers of rows.
 
-ghost use Rattle.std.specs.Prelude.{◌≡◌, ◌+◌, ◌<◌, ◌≤◌, ◌^◌, pos, suc, cond, IfOk, length};
-ghost use Rattle.std.specs.Prelude.{get_or, take};
+ghost use Rattle.std.specs.Prelude.{◌≡◌, ◌+◌, ◌++◌, ◌<◌, ◌≤◌, ◌^◌, pos, suc, cond, IfOk, length};
+ghost use Rattle.std.specs.Prelude.{List, get_or, take};
+ghost use Rattle.e_fraction.specs.declared.row.Row.{Row as GivenRow};
 ghost use Rattle.e_fraction.specs.Limits.{most_rows_of_system};
 ghost use Rattle.e_fraction.specs.Views.{views_of_rows};
 ghost use Rattle.e_simplex.specs.Answer.{IsNotAt};
-ghost use Rattle.e_simplex.specs.inner.RowMultipliers.{row_multipliers};
+ghost use Rattle.e_simplex.specs.inner.RowMultipliers.{row_multipliers, AreSeen};
 ghost use Rattle.e_simplex.specs.inner.RowMultipliers.{multiplier_of_row, count_nots};
 
 use crate::naming::is_kept;
@@ -42,33 +43,29 @@ fn multiplier(is_not: bool, seen: usize, tried: usize, last: i128, weight: i128)
     }
 }
 
-/// How many constraints and rows that say `not 0` came before.
-#[derive(Clone, Copy)]
-struct Seen {
-    plain: usize,
-    nots: usize,
-}
-
-/// Adds the multipliers of rows, where so many came before.
+/// Adds the multipliers of rows. There is one for each row before them, of which so many say
+/// `not 0`; the answer counts these rows too.
 fn add_multipliers(
     all: &mut Vec<i128>,
     rows: &[Row],
     weights: &[i128],
-    mut seen: Seen,
+    mut nots: usize,
     tried: usize,
     last: i128,
-) -> Result<Seen, AllocError> {
+) -> Result<usize, AllocError>
+    requires few { length all.old.items + length rows.now ≤ most_rows_of_system }
+    requires nots { nots ≤ length all.old.items }
+    ensures { IfOk result (λ n. (before : List GivenRow) →
+        AreSeen before weights.now tried last nots all.old.items →
+        AreSeen (before ++ rows.now) weights.now tried last n all.new.items) }
+{
     for row in rows {
         let is_not = is_kept(true, row.sense);
-        let weight = weight_at(weights, seen.plain);
-        all.push(multiplier(is_not, seen.nots, tried, last, weight))?;
-        if is_not {
-            seen.nots += 1;
-        } else {
-            seen.plain += 1;
-        }
+        let weight = weight_at(weights, all.len() - nots);
+        all.push(multiplier(is_not, nots, tried, last, weight))?;
+        nots = nots_so_far(is_not, nots);
     }
-    Ok(seen)
+    Ok(nots)
 }
 
 /// The multipliers of the rows, in two parts, from the weights of the constraints: of the rows that
@@ -87,21 +84,19 @@ pub fn multipliers_of_rows(
         ≡ row_multipliers (views_of_rows (rows.now ++ more.now)) weights.now 0 tried last) }
 {
     let mut all = Vec::with_capacity(alloc, rows.len().saturating_add(more.len()))?;
-    let none = Seen { plain: 0, nots: 0 };
-    let seen = add_multipliers(&mut all, rows, weights, none, tried, last)?;
-    let _all_seen = add_multipliers(&mut all, more, weights, seen, tried, last)?;
+    let nots = add_multipliers(&mut all, rows, weights, 0, tried, last)?;
+    let _all_nots = add_multipliers(&mut all, more, weights, nots, tried, last)?;
     Ok(all)
 }
 
 /// How many rows say `not 0`.
-fn count_nots(rows: &[Row]) -> usize
-    ensures { result ≡ RowMultipliers.count_nots (views_of_rows rows.now) }
+fn nots_among(rows: &[Row]) -> usize
+    requires { length rows.now ≤ most_rows_of_system }
+    ensures { result ≡ count_nots (views_of_rows rows.now) }
 {
     let mut count = 0;
     for row in rows {
-        if is_kept(true, row.sense) {
-            count += 1;
-        }
+        count = nots_so_far(is_kept(true, row.sense), count);
     }
     count
 }
@@ -110,8 +105,11 @@ fn count_nots(rows: &[Row]) -> usize
 /// that itself.
 pub fn place_of_not_in(rows: &[Row], more: &[Row], k: usize) -> usize
     requires few { length (rows.now ++ more.now) ≤ most_rows_of_system }
+    requires here { k < count_nots (views_of_rows (rows.now ++ more.now)) }
+    ensures is_not { IsNotAt (views_of_rows (rows.now ++ more.now)) result }
+    ensures before { count_nots (views_of_rows (take result (rows.now ++ more.now))) ≡ k }
 {
-    let count = count_nots(rows);
+    let count = nots_among(rows);
     if k < count {
         place_of_not(rows, k)
     } else {

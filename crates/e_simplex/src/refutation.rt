@@ -1,11 +1,13 @@
 //! One more constraint that the row of its own refutes: no pivot is needed, and no other table.
 
-ghost use Rattle.std.specs.Prelude.{◌≡◌, ℕ, ◌<◌, ◌++◌, ◌∷◌, [], true, false, pos, get_or, length};
+ghost use Rattle.std.specs.Prelude.{◌≡◌, ℕ, ◌<◌, ◌++◌, ◌∷◌, [], true, pos, get_or, length};
 ghost use Rattle.std.specs.Prelude.{IfOk, IfSome};
 ghost use Rattle.e_simplex.specs.Constraints.{IsAbsurd};
 ghost use Rattle.e_simplex.specs.Entries.{AllSmall};
-ghost use Rattle.e_simplex.specs.Least.{CannotEnter};
+ghost use Rattle.e_simplex.specs.Least.{CannotEnter, fixed_at};
 ghost use Rattle.e_simplex.specs.Solved.{IsSolved, IsFit, columns_of, constraints_of};
+ghost use Rattle.e_simplex.specs.Table.{IsShaped};
+ghost use Rattle.e_simplex.specs.inner.Readings.{WeightsWith};
 
 use crate::constraints::{Constraint, is_zero};
 use crate::further::has_wide;
@@ -17,11 +19,12 @@ use std::alloc::{AllocError, Global};
 impl Table {
     /// Whether no number can enter for the one of a row that is not in the table.
     fn bars(&self, row: &[i128]) -> bool
+        requires shape { IsShaped self.now }
         requires row { length row.now ≡ length self.now.columns.items }
         requires small { AllSmall row.now }
         ensures { result ≡ true → (q : ℕ) → q < length row.now → CannotEnter
             (get_or row.now 0 (pos 0)) (get_or row.now q (pos 0))
-            (get_or self.now.fixed.items (get_or self.now.columns.items q 0) false) }
+            (fixed_at self.now.fixed.items (get_or self.now.columns.items q 0)) }
     {
         for (q, entry) in row.iter().enumerate() {
             if *entry != 0 && may_enter(row[0], *entry, self.fixed[self.columns[q]]) {
@@ -37,6 +40,8 @@ impl Table {
         requires solved { IsSolved (columns_of self.now) (constraints_of self.now) self.now }
         requires row { length row.now ≡ length self.now.columns.items }
         requires small { AllSmall row.now }
+        ensures { IfOk result (λ v. WeightsWith (length self.now.basis.items)
+            self.now.columns.items self.now.det row.now v.items) }
     {
         let w = self.columns.len();
         let mut weights = zeros(alloc, self.basis.len())?;

@@ -96,6 +96,16 @@ fn rows_with(alloc: Global, rows: &[Row], more: &[Row]) -> Result<Vec<Row>, Allo
     Ok(all)
 }
 
+/// The rows, and more, in place.
+fn rows_and(mut rows: Vec<Row>, more: Vec<Row>) -> Result<Vec<Row>, AllocError>
+    ensures { IfOk result (λ v. v.items ≡ rows.items ++ more.items) }
+{
+    for row in more {
+        rows.push(row)?;
+    }
+    Ok(rows)
+}
+
 /// What comes of rows whose table is solved.
 fn with_values(
     alloc: Global,
@@ -244,7 +254,7 @@ impl SolvedRows {
         ensures { IfOk result (IsPreparedRows (self ++ more.items)) }
     {
         let SolvedRows {
-            mut rows,
+            rows,
             terms,
             solved,
             values,
@@ -253,15 +263,10 @@ impl SolvedRows {
         let terms = terms_and_fresh(terms, &more)?;
         if solved.width() <= terms.len() {
             mem::drop(solved);
-            for row in more {
-                rows.push(row)?;
-            }
-            return prepare(alloc, rows);
+            return prepare(alloc, rows_and(rows, more)?);
         }
         let constraints = plain_constraints(alloc, &terms, &more)?;
-        for row in more {
-            rows.push(row)?;
-        }
+        let rows = rows_and(rows, more)?;
         match solved.grown(alloc, constraints)? {
             Outcome::TooWide => Ok(Prepared::TooWide),
             Outcome::Absurd(weights) => {

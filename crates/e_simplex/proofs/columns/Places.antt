@@ -1,6 +1,6 @@
 -- Terms and their columns: places of terms, and constraints of one row more.
 use Rattle.std.proofs.Common.{◌≡◌, ◌≢◌, ℕ, zero, suc, ◌+◌, ◌<◌, ◌≤◌, List, [], ◌∷◌, ◌++◌, refl, ap, ap₂, arith, sym, ◌∙◌, subst, length, get_or, take, cond, Bool, true, false, ltb, None, Some, inl, inr}
-use Rattle.std.proofs.lemmas.List.{take_more, length_push, get_or_push, get_or_append_left}
+use Rattle.std.proofs.lemmas.List.{take_more, length_push, get_or_push, get_or_append_left, map-append}
 use Rattle.std.specs.List.{position, position_or_len}
 use Rattle.std.specs.Option.{unwrap_or}
 use Rattle.std.proofs.lemmas.List.Recursion.{is_position_or_len}
@@ -232,3 +232,15 @@ constraints_append b ts (x ∷ xs) ys = by (keeps b x.sense) (constraints_append
         → cond k (named_constraint ts x ∷ named_constraints b ts (xs ++ ys)) (named_constraints b ts (xs ++ ys)) ≡ cond k (named_constraint ts x ∷ named_constraints b ts xs) (named_constraints b ts xs) ++ named_constraints b ts ys
     by true e = ap (λ v. named_constraint ts x ∷ v) e
     by false e = e
+
+pub all_named_first : (ts : List Term) (xs ys : List GivenRow) → AllNamed ts (views_of_rows (xs ++ ys)) → AllNamed ts (views_of_rows xs)
+all_named_first ts [] ys h = tt
+all_named_first ts (x ∷ xs) ys h = (h.0, all_named_first ts xs ys h.1)
+
+pub all_named_last : (ts : List Term) (xs ys : List GivenRow) → AllNamed ts (views_of_rows (xs ++ ys)) → AllNamed ts (views_of_rows ys)
+all_named_last ts [] ys h = h
+all_named_last ts (x ∷ xs) ys h = all_named_last ts xs ys h.1
+
+pub constraints_both : (b : Bool) (ts : List Term) (xs ys : List GivenRow)
+    → named_constraints b ts (views_of_rows xs) ++ named_constraints b ts (views_of_rows ys) ≡ named_constraints b ts (views_of_rows (xs ++ ys))
+constraints_both b ts xs ys = sym (constraints_append b ts (views_of_rows xs) (views_of_rows ys)) ∙ ap (named_constraints b ts) (sym (map-append view_of_row xs ys))

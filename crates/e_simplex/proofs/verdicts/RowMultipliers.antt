@@ -1,13 +1,14 @@
 -- The multipliers of one row more.
-use Rattle.std.proofs.Common.{◌≡◌, ℕ, zero, suc, ◌+◌, ◌<◌, ◌≤◌, List, [], ◌∷◌, ◌++◌, refl, ap, ap₂, arith, sym, ◌∙◌, length, get_or, take, cond, eqb, Bool, true, false, inl, inr}
-use Rattle.std.proofs.lemmas.List.{take_more}
+use Rattle.std.proofs.Common.{◌≡◌, ℕ, zero, suc, ◌+◌, ◌-◌, ◌<◌, ◌≤◌, List, [], ◌∷◌, ◌++◌, refl, ap, ap₂, arith, sym, ◌∙◌, subst, length, get_or, take, cond, eqb, Bool, true, false, inl, inr}
+use Rattle.std.proofs.lemmas.List.{take_more, take-append-le, append_assoc, length_push}
 use Rattle.std.proofs.lemmas.Bool.{cases_eq, eq-eqb, ne_eqb}
 use lib.IntN.{ℤ, pos}
+use Rattle.e_literal.specs.Rows.{Row}
 use Rattle.e_fraction.specs.declared.row.Row.{Row as GivenRow}
 use Rattle.e_fraction.specs.Views.{view_of_row, views_of_rows}
 use Rattle.e_simplex.specs.Naming.{keeps}
 use Rattle.e_simplex.specs.Answer.{IsNotAt}
-use Rattle.e_simplex.specs.inner.RowMultipliers.{row_multipliers, count_nots, multiplier_of_row}
+use Rattle.e_simplex.specs.inner.RowMultipliers.{row_multipliers, count_nots, multiplier_of_row, AreSeen}
 use Rattle.e_simplex.proofs.columns.NamedConstraints.{kept_not}
 
 eqb_suc : (a b : ℕ) → eqb a b ≡ eqb (suc a) (suc b)
@@ -102,15 +103,72 @@ row_multipliers_push (q ∷ qs) r ws n (suc k) m last h = by (keeps true (view_o
         none (suc i) f = ap (λ v. get_or ws n (pos 0) ∷ v) (jh (suc n) i (omega (arith, f)))
             ∙ ap (λ v. (get_or ws n (pos 0) ∷ row_multipliers (views_of_rows qs) ws (suc n) (suc k) last) ++ multiplier_of_row (keeps true (view_of_row r).sense) (count_nots (views_of_rows qs)) (suc k) last (get_or ws v (pos 0)) ∷ []) (omega arith)
 
-pub row_multipliers_more : (rows : List GivenRow) (i : ℕ) (d : GivenRow) (ws : List ℤ) (k m nots : ℕ) (last v : ℤ) (old new : List ℤ) → i < length rows → m + nots ≡ i
-    → nots ≡ count_nots (views_of_rows (take i rows)) → length (take i rows) ≡ i
-    → old ≡ row_multipliers (views_of_rows (take i rows)) ws 0 k last → new ≡ old ++ v ∷ []
-    → v ≡ multiplier_of_row (keeps true (view_of_row (get_or rows i d)).sense) nots k last (get_or ws m (pos 0)) → new ≡ row_multipliers (views_of_rows (take (i + 1) rows)) ws 0 k last
-row_multipliers_more rows i d ws k m nots last v old new l h c t e f g =
-    f ∙ ap₂ {A = List ℤ} {B = ℤ} (λ a b. a ++ b ∷ []) e (g ∙ ap (λ s. multiplier_of_row (keeps true (view_of_row (get_or rows i d)).sense) s k last (get_or ws m (pos 0))) c
-    ∙ ap (λ j. multiplier_of_row (keeps true (view_of_row (get_or rows i d)).sense) (count_nots (views_of_rows (take i rows))) k last (get_or ws j (pos 0))) (omega arith))
-    ∙ sym (row_multipliers_push (take i rows) (get_or rows i d) ws 0 k m last (omega (arith, h, c, t)))
-    ∙ ap (λ a. row_multipliers (views_of_rows a) ws 0 k last) (sym (take_more rows i d l))
+-- one row more
+seen_push : (rows : List GivenRow) (r : GivenRow) (ws : List ℤ) (k : ℕ) (last v : ℤ) (nots next : ℕ) (all new : List ℤ) → AreSeen rows ws k last nots all
+    → new ≡ all ++ v ∷ [] → v ≡ multiplier_of_row (keeps true (view_of_row r).sense) nots k last (get_or ws (length all - nots) (pos 0))
+    → next ≡ cond (keeps true (view_of_row r).sense) (suc nots) nots → AreSeen (rows ++ r ∷ []) ws k last next new
+seen_push rows r ws k last v nots next all new h f g e = record {
+  many = omega (arith, ap length f, length_push all v, length_push rows r, h.many);
+  nots_are = e ∙ ap (λ n. cond (keeps true (view_of_row r).sense) (suc n) n) h.nots_are ∙ sym (nots_push rows r);
+  value = f ∙ ap₂ {A = List ℤ} {B = ℤ} (λ a b. a ++ b ∷ []) h.value (g ∙ ap (λ n. multiplier_of_row (keeps true (view_of_row r).sense) n k last (get_or ws (length all - nots) (pos 0))) h.nots_are
+      ∙ ap (λ j. multiplier_of_row (keeps true (view_of_row r).sense) (count_nots (views_of_rows rows)) k last (get_or ws j (pos 0))) (omega arith))
+      ∙ sym (row_multipliers_push rows r ws 0 k (length all - nots) last (omega (arith, h.many, h.nots_are, nots_most rows)));
+}
+
+pub seen_more : (before rows : List GivenRow) (i : ℕ) (d : GivenRow) (ws : List ℤ) (k : ℕ) (last v : ℤ) (nots next : ℕ) (all new : List ℤ) → i < length rows
+    → new ≡ all ++ v ∷ [] → v ≡ multiplier_of_row (keeps true (view_of_row (get_or rows i d)).sense) nots k last (get_or ws (length all - nots) (pos 0))
+    → next ≡ cond (keeps true (view_of_row (get_or rows i d)).sense) (suc nots) nots
+    → AreSeen (before ++ take i rows) ws k last nots all → AreSeen (before ++ take (i + 1) rows) ws k last next new
+seen_more before rows i d ws k last v nots next all new l f g e h =
+    subst (λ x. AreSeen x ws k last next new) (append_assoc before (take i rows) (get_or rows i d ∷ []) ∙ ap (λ x. before ++ x) (sym (take_more rows i d l)))
+    (seen_push (before ++ take i rows) (get_or rows i d) ws k last v nots next all new h f g e)
+
+pub seen_none : (ws : List ℤ) (k : ℕ) (last : ℤ) (all : List ℤ) → all ≡ [] → AreSeen [] ws k last 0 all
+seen_none ws k last all e = record { many = ap length e; nots_are = refl; value = e }
+
+pub seen_most : (rows : List GivenRow) (ws : List ℤ) (k : ℕ) (last : ℤ) (nots : ℕ) (all : List ℤ) → AreSeen rows ws k last nots all → nots ≤ length all
+seen_most rows ws k last nots all h = omega (arith, h.many, h.nots_are, nots_most rows)
+
+-- ---- two lists of rows
+
+pub nots_append : (xs ys : List GivenRow) → count_nots (views_of_rows (xs ++ ys)) ≡ count_nots (views_of_rows xs) + count_nots (views_of_rows ys)
+nots_append [] ys = omega arith
+nots_append (x ∷ xs) ys = by (keeps true (view_of_row x).sense) (nots_append xs ys)
+  where
+    by : (b : Bool) → count_nots (views_of_rows (xs ++ ys)) ≡ count_nots (views_of_rows xs) + count_nots (views_of_rows ys)
+        → cond b (suc (count_nots (views_of_rows (xs ++ ys)))) (count_nots (views_of_rows (xs ++ ys))) ≡ cond b (suc (count_nots (views_of_rows xs))) (count_nots (views_of_rows xs)) + count_nots (views_of_rows ys)
+    by true e = omega (arith, e)
+    by false e = e
+
+pub is_not_here : (rows : List Row) (k : ℕ) → IsNotAt rows k → k < length rows
+is_not_here [] k h = absurd h
+is_not_here (r ∷ rs) zero h = omega arith
+is_not_here (r ∷ rs) (suc k) h = omega (arith, is_not_here rs k h)
+
+pub not_before : (xs ys : List GivenRow) (k : ℕ) → IsNotAt (views_of_rows xs) k → IsNotAt (views_of_rows (xs ++ ys)) k
+not_before [] ys k h = absurd h
+not_before (x ∷ xs) ys zero h = h
+not_before (x ∷ xs) ys (suc k) h = not_before xs ys k h
+
+pub not_after : (xs ys : List GivenRow) (n k : ℕ) → n ≡ length xs + k → IsNotAt (views_of_rows ys) k → IsNotAt (views_of_rows (xs ++ ys)) n
+not_after [] ys n k e h =
+    let same : k ≡ n = omega (arith, e) in
+    subst (IsNotAt (views_of_rows ys)) same h
+not_after (x ∷ xs) ys zero k e h = absurd (omega (arith, e))
+not_after (x ∷ xs) ys (suc n) k e h = not_after xs ys n k (omega (arith, e)) h
+
+pub nots_before : (xs ys : List GivenRow) (k : ℕ) → k ≤ length xs → count_nots (views_of_rows (take k (xs ++ ys))) ≡ count_nots (views_of_rows (take k xs))
+nots_before xs ys k l = ap (λ v. count_nots (views_of_rows v)) (take-append-le k xs ys l)
+
+pub nots_after : (xs ys : List GivenRow) (n k : ℕ) → n ≡ length xs + k → count_nots (views_of_rows (take n (xs ++ ys))) ≡ count_nots (views_of_rows xs) + count_nots (views_of_rows (take k ys))
+nots_after xs ys n k e = ap (λ v. count_nots (views_of_rows v)) (split xs n e) ∙ nots_append xs (take k ys)
+  where
+    split : (zs : List GivenRow) (m : ℕ) → m ≡ length zs + k → take m (zs ++ ys) ≡ zs ++ take k ys
+    split [] m f =
+        let same : m ≡ k = omega (arith, f) in
+        ap (λ v. take v ys) same
+    split (z ∷ zs) zero f = absurd (omega (arith, f))
+    split (z ∷ zs) (suc m) f = ap (λ v. z ∷ v) (split zs m (omega (arith, f)))
 
 -- ---- the place of a row that says `not 0`
 

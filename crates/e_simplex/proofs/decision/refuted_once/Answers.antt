@@ -1,3 +1,4 @@
+use Rattle.std.proofs.Common.{◌++◌}
 use Rattle.e_fraction.specs.Views.{views_of_rows}
 use Rattle.std.proofs.Common.{subst, sym}
 use Rattle.e_simplex.specs.Answer.{Refutes}
@@ -9,6 +10,6 @@ pub returns : goal.returns
 returns c =
     let w = c.requires.weights in
     record {
-      refutes = subst (Refutes (views_of_rows c.args.rows.now)) (sym c.in_ok-multipliers.ensures) (refutes_one w.terms (views_of_rows c.args.rows.now) c.args.weights.now w.once w.named w.absurd);
-      none = λ s. none_one w.terms (views_of_rows c.args.rows.now) w.named s c.args.weights.now w.absurd;
+      refutes = subst (Refutes (views_of_rows (c.args.rows.now ++ c.args.more.now))) (sym c.in_ok-multipliers.ensures) (refutes_one w.terms (views_of_rows (c.args.rows.now ++ c.args.more.now)) c.args.weights.now w.once w.named w.absurd);
+      none = λ s. none_one w.terms (views_of_rows (c.args.rows.now ++ c.args.more.now)) w.named s c.args.weights.now w.absurd;
     }

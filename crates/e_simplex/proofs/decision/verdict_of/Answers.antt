@@ -1,4 +1,4 @@
-use Rattle.std.proofs.Common.{◌+◌, arith, sym, subst, false, length}
+use Rattle.std.proofs.Common.{◌++◌, ◌+◌, arith, sym, subst, false, length}
 use Rattle.e_fraction.specs.Views.{views_of_rows}
 use Rattle.e_fraction.proofs.Wideness.{wide_rows_width}
 use Rattle.e_simplex.specs.Constraints.{IsAbsurd}
@@ -12,8 +12,8 @@ pub returns-in-TooWide : goal.returns-in-TooWide
 returns-in-TooWide c =
     let o = c.requires.outcome in
     let h = rw c.in-TooWide.is at o.3 in
-    let w = wide_over c.args.terms.now (views_of_rows c.args.rows.now) o.0 c.requires.once c.requires.named h in
-    (w, wide_rows_width (views_of_rows c.args.rows.now) w)
+    let w = wide_over c.args.terms.now (views_of_rows (c.args.rows.now ++ c.args.more.now)) o.0 c.requires.once c.requires.named h in
+    (w, wide_rows_width (views_of_rows (c.args.rows.now ++ c.args.more.now)) w)
 
 pub refuted_once-requires-clause-weights : goal.refuted_once-requires-clause-weights
 refuted_once-requires-clause-weights c =
@@ -23,8 +23,8 @@ refuted_once-requires-clause-weights c =
       terms = c.args.terms.now;
       once = c.requires.once;
       named = c.requires.named;
-      absurd = subst (IsAbsurd (length c.args.terms.now + 1) (named_constraints false c.args.terms.now (views_of_rows c.args.rows.now))) (sym c.deref.ensures.value)
-          (narrow_absurd (length c.args.terms.now + 1) o.0 (named_constraints false c.args.terms.now (views_of_rows c.args.rows.now)) c.in-Absurd.weights.items (omega (arith, o.1)) h);
+      absurd = subst (IsAbsurd (length c.args.terms.now + 1) (named_constraints false c.args.terms.now (views_of_rows (c.args.rows.now ++ c.args.more.now)))) (sym c.deref.ensures.value)
+          (narrow_absurd (length c.args.terms.now + 1) o.0 (named_constraints false c.args.terms.now (views_of_rows (c.args.rows.now ++ c.args.more.now))) c.in-Absurd.weights.items (omega (arith, o.1)) h);
     }
 
 pub verdict_of_solved-requires-clause-room : goal.verdict_of_solved-requires-clause-room
@@ -43,4 +43,4 @@ pub verdict_of_solved-requires-clause-solved : goal.verdict_of_solved-requires-c
 verdict_of_solved-requires-clause-solved c =
     let o = c.requires.outcome in
     let h = rw c.in-Holds.is at o.3 in
-    subst (λ v. IsSolved v (named_constraints false c.args.terms.now (views_of_rows c.args.rows.now)) c.in-Holds.solved) (sym h.table.columns_many) h
+    subst (λ v. IsSolved v (named_constraints false c.args.terms.now (views_of_rows (c.args.rows.now ++ c.args.more.now))) c.in-Holds.solved) (sym h.table.columns_many) h

@@ -1,4 +1,5 @@
 use Rattle.std.proofs.Common.{◌≡◌, ◌+◌, ◌<◌, ◌^◌, arith, ap, sym, ◌∙◌, subst, length, false, rules}
+use Rattle.std.proofs.lemmas.List.{append-nil}
 use Rattle.e_fraction.specs.Det.{HasWideMinor}
 use Rattle.e_fraction.specs.Views.{views_of_rows}
 use Rattle.e_fraction.proofs.Wideness.{wide_rows_width}
@@ -45,7 +46,7 @@ refuted_once-requires-clause-weights c =
       absurd = narrow_absurd (length ts + 1) (c.len.result + 1 + 8) (named_constraints false ts (views_of_rows c.args.rows.items)) c.in-Absurd.weights.items (omega (arith, k))
           (subst (λ v. IsAbsurd (c.len.result + 1 + 8) v c.in-Absurd.weights.items) l h);
     } in
-    subst (λ v. AreWeightsFor (views_of_rows v) c.deref-in-Absurd-2.result.now) (sym c.deref-in-Absurd.ensures.value)
+    subst (λ v. AreWeightsFor (views_of_rows v) c.deref-in-Absurd-2.result.now) (sym (append-nil c.deref-in-Absurd.result.now ∙ c.deref-in-Absurd.ensures.value))
     (subst (AreWeightsFor (views_of_rows c.args.rows.items)) (sym c.deref-in-Absurd-2.ensures.value) w)
 
 pub returns-in-TooWide : goal.returns-in-TooWide
