@@ -1,7 +1,7 @@
 //! What is solved of the facts of a step, kind by kind, from as many of them as were asked about.
 
 ghost use Rattle.std.specs.Prelude.{◌≡◌, ◌≤◌, [], length, take, true, option_copied};
-ghost use Rattle.std.specs.Prelude.{IsTrue, IfOk, IfSome, MatchOption, List, Some, None};
+ghost use Rattle.std.specs.Prelude.{IsTrue, IfOk, IfSome, List, Some, None};
 ghost use Rattle.std.specs.List.{list_all};
 ghost use Rattle.e_literal.specs.declared.object.Kind.{Kind};
 ghost use Rattle.e_literal.specs.declared.literal.Lit.{Lit};
