@@ -1,7 +1,7 @@
 //! The system of the facts of one kind.
 
 ghost use Rattle.std.specs.Prelude.{◌≡◌, ◌≤◌, ◌++◌, length, take, drop, flat_map};
-ghost use Rattle.std.specs.Prelude.{IsTrue, IfOk, Some, None};
+ghost use Rattle.std.specs.Prelude.{IsTrue, IfOk, IfSome, Some, None};
 ghost use Rattle.std.specs.List.{list_all};
 ghost use Rattle.e_literal.specs.WellFormed.{is_well_formed};
 ghost use Rattle.e_clause.specs.Assignment.{terms_of_lits};
@@ -162,23 +162,26 @@ impl KindSystem {
             KindSystem::Solved(_) | KindSystem::TooWide(_) => Ok(None),
         }
     }
+}
 
-    /// What is solved of all facts, where this is that of the first `from` of them. Facts that
-    /// contradict each other stay so, and facts with a wide system are asked from nothing.
-    pub fn with_all_facts(
-        self,
-        alloc: Global,
-        which: Kind,
-        facts: &Facts,
-        from: usize,
-    ) -> Result<KindSystem, AllocError>
-        requires within { from ≤ length facts.now }
-        requires kind_system { IsKindSystem which (take from facts.now) self }
-        requires facts { IsTrue (list_all is_well_formed facts.now) }
-        requires few { length (terms_of_lits facts.now) ≤ most_terms_of_step }
-        ensures { IfOk result (IsKindSystem which facts.now) }
-    {
-        match self {
+/// What is solved of all facts, where `known`, if there is any, is that of the first `from` of them.
+/// Facts that contradict each other stay so, and facts with a wide system are asked from nothing.
+pub fn system_of_all_facts(
+    alloc: Global,
+    known: Option<KindSystem>,
+    which: Kind,
+    facts: &Facts,
+    from: usize,
+) -> Result<KindSystem, AllocError>
+    requires within { from ≤ length facts.now }
+    requires known { IfSome known (IsKindSystem which (take from facts.now)) }
+    requires facts { IsTrue (list_all is_well_formed facts.now) }
+    requires few { length (terms_of_lits facts.now) ≤ most_terms_of_step }
+    ensures { IfOk result (IsKindSystem which facts.now) }
+{
+    match known {
+        None => solve_kind(alloc, which, facts),
+        Some(kind_system) => match kind_system {
             KindSystem::Solved(solved_system) => with_further_facts(
                 alloc,
                 solved_system,
@@ -188,7 +191,7 @@ impl KindSystem {
             ),
             KindSystem::Absurd(cert) => Ok(KindSystem::Absurd(cert)),
             KindSystem::TooWide(_) => solve_kind(alloc, which, facts),
-        }
+        },
     }
 }
 
@@ -238,10 +241,14 @@ fn rest_of_facts(
     ensures named { IfOk result (λ r. AreNamed (rows_added_by_facts which facts.now
         (drop from facts.now) r.terms.items) r.names.items r.rows.items) }
 {
-    let terms = fresh_terms_of_facts(alloc, which, terms, facts, from)?;
-    let named = rows_of_facts(alloc, which, facts, from, &terms)?;
+    let fresh = fresh_terms_of_facts(alloc, which, terms, facts, from)?;
+    let named = rows_of_facts(alloc, which, facts, from, &fresh)?;
     let (names, rows) = names_and_rows(alloc, named)?;
-    Ok(Rest { terms, names, rows })
+    Ok(Rest {
+        terms: fresh,
+        names,
+        rows,
+    })
 }
 
 // What is solved of all facts, where the first `from` of them have this solved system and its terms

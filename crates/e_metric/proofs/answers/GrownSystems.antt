@@ -1,6 +1,7 @@
 -- What is solved of the facts of a kind, from what is solved of those before a place.
 use Rattle.std.proofs.Common.{◌≡◌, ℕ, List, [], ◌∷◌, ◌++◌, map, take, drop, length, sym, ap, ap₂, ◌∙◌, subst, refl, None}
 use Rattle.std.specs.Prelude.{flat_map}
+use Rattle.std.proofs.lemmas.List.{nil_from_length}
 use Rattle.e_literal.specs.declared.object.Kind.{Kind}
 use Rattle.e_literal.specs.declared.object.Term.{Term}
 use Rattle.e_literal.specs.declared.literal.Lit.{Lit}
@@ -45,30 +46,35 @@ module _ (which : Kind) (facts : List Lit) (from : ℕ) (g : SolvedSystem) (solv
   fresh_is : (fresh : List Term) → fresh ≡ terms_added which g.terms.items (drop from facts) → fresh ≡ terms_added which (distinct_terms which (take from facts) None) (drop from facts)
   fresh_is fresh e = e ∙ ap (λ ts. terms_added which ts (drop from facts)) solved_system.terms
 
-  pub joined_rows : (fresh : List Term) → fresh ≡ terms_added which g.terms.items (drop from facts) → rows_added_by_facts which facts (drop from facts) fresh ≡ joining which facts from
+  joined_rows : (fresh : List Term) → fresh ≡ terms_added which g.terms.items (drop from facts) → rows_added_by_facts which facts (drop from facts) fresh ≡ joining which facts from
   joined_rows fresh e = ap (rows_added_by_facts which facts (drop from facts)) (fresh_is fresh e)
 
   pub joined_terms : (fresh : List Term) → fresh ≡ terms_added which g.terms.items (drop from facts) → g.terms.items ++ fresh ≡ distinct_terms which facts None
   joined_terms fresh e = ap₂ {A = List Term} {B = List Term} (λ x y. x ++ y) solved_system.terms (fresh_is fresh e) ∙ sym (terms_at which facts from)
 
-  -- where the facts from the place on bring nothing, the solved system is that of all
-  pub unchanged : (fresh : List Term) → fresh ≡ terms_added which g.terms.items (drop from facts) → fresh ≡ [] → joining which facts from ≡ [] → IsSolvedSystem which facts g
-  unchanged fresh e n j = record {
-    rows = record {
-      all = solved_system.rows.all;
-      order = subst (λ v. AreReordered v (system which facts None)) (ap (λ v. solved_system.rows.all ++ v) j ∙ none_more solved_system.rows.all) order;
-      named = solved_system.rows.named;
-    };
-    terms = sym (ap (λ v. g.terms.items ++ v) n ∙ none_more g.terms.items) ∙ joined_terms fresh e;
-    raised = raised;
-  }
+  -- the terms and the rows with their names that the facts from the place on bring
+  module _ (fresh : List Term) (names : List RowName) (rows : List GivenRow) (e : fresh ≡ terms_added which g.terms.items (drop from facts)) (named : AreNamed (rows_added_by_facts which facts (drop from facts) fresh) names rows) where
+    joining_named : AreNamed (joining which facts from) names rows
+    joining_named = subst (λ ns. AreNamed ns names rows) (joined_rows fresh e) named
 
-  pub facts_together : (names : List RowName) (rows : List GivenRow) → AreNamed (joining which facts from) names rows → AreRowsOf which facts None (g.names.items ++ names) (g.solved_rows ++ rows)
-  facts_together names rows more = record {
-    all = all;
-    order = order;
-    named = named_append solved_system.rows.all (joining which facts from) g.names.items names g.solved_rows rows solved_system.rows.named more;
-  }
+    pub facts_together : AreRowsOf which facts None (g.names.items ++ names) (g.solved_rows ++ rows)
+    facts_together = record {
+      all = all;
+      order = order;
+      named = named_append solved_system.rows.all (joining which facts from) g.names.items names g.solved_rows rows solved_system.rows.named joining_named;
+    }
+
+    -- where they bring nothing, the solved system is that of all
+    pub unchanged : length rows ≡ 0 → length fresh ≡ 0 → IsSolvedSystem which facts g
+    unchanged none n = record {
+      rows = record {
+        all = solved_system.rows.all;
+        order = subst (λ v. AreReordered v (system which facts None)) (ap (λ v. solved_system.rows.all ++ v) (no_rows (joining which facts from) names rows joining_named (nil_from_length rows none)) ∙ none_more solved_system.rows.all) order;
+        named = solved_system.rows.named;
+      };
+      terms = sym (ap (λ v. g.terms.items ++ v) (nil_from_length fresh n) ∙ none_more g.terms.items) ∙ joined_terms fresh e;
+      raised = raised;
+    }
 
 -- equal parts
 pub same_solved : (which : Kind) (facts : List Lit) (g n : SolvedSystem) → n.names.items ≡ g.names.items → n.terms.items ≡ g.terms.items → n.raised ≡ g.raised → n.solved_rows ≡ g.solved_rows → IsSolvedSystem which facts g → IsSolvedSystem which facts n

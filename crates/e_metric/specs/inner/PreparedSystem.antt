@@ -10,7 +10,7 @@ use Rattle.e_metric.specs.SolvedSystems.{AreRowsOf}
 
 -- it comes of the rows of the facts of the kind, which have these names
 pub record IsPreparedSystem (which : Kind) (facts : List Lit) (names : List RowName)
-    (prepared : Prepared) : Type 0 where
+    (p : Prepared) : Type 0 where
   pub rows : List GivenRow
   pub rows_of : AreRowsOf which facts None names rows
-  pub prepared : IsPreparedRows rows prepared
+  pub prepared : IsPreparedRows rows p
