@@ -6,7 +6,7 @@ use Rattle.e_clause.specs.declared.cert.Version.TheVariants.{One}
 use Rattle.e_theorem.specs.Statements.{stated}
 use Rattle.e_deriv.specs.declared.stop.Wanted.{Wanted}
 use Rattle.e_deriv.specs.declared.names.Names.{Names}
-use Rattle.e_deriv.specs.Script.{Script, script_without_certs, size}
+use Rattle.e_deriv.specs.Script.{Script, bare_script, size}
 use Rattle.e_deriv.specs.Parts.{filled_by}
 use Rattle.e_deriv.specs.PlacedSteps.{proof_steps}
 use Rattle.e_deriv.specs.Licensed.{AllLicensed}
@@ -43,8 +43,7 @@ pub record Derived : Type 0 where
 pub record IsDerived (known : List TitledStatement) (d : Derived) : Type 0 where
   pub proves : IsProof (stated_by known) (stated d.theorem.statement) d.derivation
   pub certified : Certified (stated_by known) (stated d.theorem.statement) d.derivation
-  pub own : script_without_certs d.derivation
-      ≡ filled_by (script_without_certs d.theorem.script) d.derivation
+  pub own : bare_script d.derivation ≡ filled_by (bare_script d.theorem.script) d.derivation
   pub least : AllLicensed (stated_by known)
       (proof_steps (stated_by known) (stated d.theorem.statement) d.theorem.script d.derivation)
   pub written : IsTrue (is_written_well d.derivation)

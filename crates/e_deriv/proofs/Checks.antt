@@ -24,7 +24,7 @@ use Rattle.e_clause.specs.Table.Incidence.{incidence}
 use Rattle.e_clause.specs.Instance.{Inst}
 use Rattle.e_deriv.specs.declared.stop.Wanted.TheVariants.{Literal, Contradiction as AContradiction}
 use Rattle.e_deriv.specs.declared.names.Names.{Names}
-use Rattle.e_deriv.specs.Script.{Script, Cite, Hence, Make, Apply, Claim, Qed, Contradiction, Cases, size, depth, script_without_certs}
+use Rattle.e_deriv.specs.Script.{Script, Cite, Hence, Make, Apply, Claim, Qed, Contradiction, Cases, size, depth, bare_script}
 use Rattle.e_deriv.specs.PlacedSteps.{placed_step, placed_steps}
 use Rattle.e_deriv.specs.Goal.{goal_of_statement}
 use Rattle.e_deriv.specs.Licensed.{IsFirstUnlicensed}
@@ -66,17 +66,17 @@ unfolding placed_steps with_fact Inst table incidence
 four_verified = refl
 
 -- a script's hence has no certificate
-bare_at_two : verdict [] four (script_without_certs derivation) ≡ Err 2
-unfolding placed_steps with_fact Inst table incidence script_without_certs
+bare_at_two : verdict [] four (bare_script derivation) ≡ Err 2
+unfolding placed_steps with_fact Inst table incidence bare_script
 bare_at_two = refl
 
 -- with one premise less the first line is not licensed, and it lacks the literal cited
-one_less_stops : IsFirstUnlicensed [] one_less (script_without_certs derivation) 1 (Literal (between 0 1 3))
-unfolding placed_steps with_fact Inst table incidence script_without_certs
+one_less_stops : IsFirstUnlicensed [] one_less (bare_script derivation) 1 (Literal (between 0 1 3))
+unfolding placed_steps with_fact Inst table incidence bare_script
 one_less_stops =
     record {
-      step = placed_step (script_without_certs derivation) (script_without_certs derivation) (record { points = 4; lines = 0; circles = 0 }) (between 0 1 2 ∷ []) (goal_of_statement one_less);
-      context = record { filled = script_without_certs derivation; place = 0; number = refl; at = refl; earlier = tt };
+      step = placed_step (bare_script derivation) (bare_script derivation) (record { points = 4; lines = 0; circles = 0 }) (between 0 1 2 ∷ []) (goal_of_statement one_less);
+      context = record { filled = bare_script derivation; place = 0; number = refl; at = refl; earlier = tt };
       lacks = (refl, refl);
     }
 

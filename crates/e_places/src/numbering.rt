@@ -15,7 +15,7 @@ ghost use Rattle.e_deriv.specs.declared.block.Close.TheVariants.{
 };
 ghost use Rattle.e_deriv.specs.declared.block.Step.TheVariants.{Apply as ApplyStep};
 ghost use Rattle.e_deriv.specs.Script.{Cite, Hence, Make, Apply, Claim, Superposed, Qed};
-ghost use Rattle.e_deriv.specs.Script.{script_of, step_script, close_script, script_without_certs};
+ghost use Rattle.e_deriv.specs.Script.{script_of, step_script, close_script, bare_script};
 ghost use Rattle.e_deriv.specs.Versions.{has_certs_of};
 ghost use Rattle.e_places.specs.Numbered;
 ghost use Rattle.e_places.specs.Numbered.{derivation_with_places};
@@ -61,7 +61,7 @@ pub fn numbered(
     ensures numbered { IfOk result (λ d. script_of d ≡ derivation_with_places
         (all_stated before.now) (stated statement.now) (script_of deriv.now)) }
     ensures script { IfOk result
-        (λ d. script_without_certs (script_of d) ≡ script_without_certs (script_of deriv.now)) }
+        (λ d. bare_script (script_of d) ≡ bare_script (script_of deriv.now)) }
     ensures certified { IfOk result
         (λ d. Certified (all_stated before.now) (stated statement.now) (script_of d)) }
     ensures version { IfOk result (λ d. IsTrue (has_certs_of version.Two (script_of d))) }

@@ -22,7 +22,7 @@ use Rattle.e_theorem.specs.Choice.{fills, is_choice, IsLeastChoice}
 use Rattle.e_theorem.specs.Pattern.{is_pattern, are_entries}
 use Rattle.e_deriv.specs.declared.block.Step.TheVariants.{Apply as ApplyStep}
 use Rattle.e_deriv.specs.declared.stop.Wanted.TheVariants.{Literal, Match, Contradiction}
-use Rattle.e_deriv.specs.Script.{Apply, step_script, script_without_certs}
+use Rattle.e_deriv.specs.Script.{Apply, step_script, bare_script}
 use Rattle.e_deriv.specs.Parts.{written, has_no_blank, filled_in, filled_by}
 use Rattle.e_deriv.specs.PlacedSteps.{placed_steps, theorem_at}
 use Rattle.e_deriv.specs.Naming.{names_of_steps}
@@ -110,7 +110,7 @@ record Filled (t : StatementView) (pattern entries : List (Option Obj)) (x : Bas
 
 licensed_by_choice : (before : List StatementView) (theorem : ℕ) (pattern entries : List (Option Obj)) (names : List (List ℕ)) (old certs : List Cert) (x : Place) → Filled (theorem_at before theorem) pattern entries x.context certs →
     IsLicensedStep before (ApplyStep theorem pattern names old) x (ApplyStep theorem entries names certs) (after_apply (theorem_at before theorem) (written entries) names x)
-unfolding placed_steps script_without_certs filled_by names_of_steps step_script has_certs_of
+unfolding placed_steps bare_script filled_by names_of_steps step_script has_certs_of
 licensed_by_choice before theorem pattern entries names old certs x h =
     let t = theorem_at before theorem in
     let s = x.context.scope in

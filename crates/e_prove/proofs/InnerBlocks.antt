@@ -19,7 +19,7 @@ use Rattle.e_construct.specs.declared.superpose.Superpose.{Superpose}
 use Rattle.e_construct.specs.Superposing as superposing
 use Rattle.e_deriv.specs.declared.names.Names.{Names}
 use Rattle.e_deriv.specs.declared.stop.Stop.{Stop}
-use Rattle.e_deriv.specs.Script.{Script, Claim, Superposed, Cases, size, script_without_certs}
+use Rattle.e_deriv.specs.Script.{Script, Claim, Superposed, Cases, size, bare_script}
 use Rattle.e_deriv.specs.Goal.{Goal, goal_of}
 use Rattle.e_deriv.specs.PlacedSteps.{PlacedStep, placed_steps}
 use Rattle.e_deriv.specs.Steps.{are_over}
@@ -90,7 +90,7 @@ claim_rest before shown inner derived rest x goal d r =
 
 claim_derives : (before : List StatementView) (shown : List Lit) (inner derived rest more : Script) (x : Place) (goal : Goal) → are_over x.context.scope shown ≡ true → IsDerivedFrom before inner x (goal_of shown) derived →
     IsDerivedFrom before rest (after_block shown x) goal more → IsDerivedFrom before (Claim shown inner rest) x goal (Claim shown derived more)
-unfolding placed_steps script_without_certs filled_by has_certs_of
+unfolding placed_steps bare_script filled_by has_certs_of
 claim_derives before shown inner derived rest more x goal over d m =
     let s = x.context.scope in
     let facts = x.context.facts in
@@ -240,7 +240,7 @@ superposed_licensed before superposition names shown written certs inner rest f 
 superposed_derives : (before : List StatementView) (superposition : Superpose) (names : List (List ℕ)) (shown : List Lit) (written certs : List Cert) (inner derived rest more : Script) (x : Place) (goal : Goal) →
     superposing.fits_superposition superposition x.context.scope ≡ true → are_over x.context.scope shown ≡ true → Certifies superposition x certs → IsDerivedFrom before inner (after_superposed superposition names x) (goal_of shown) derived →
     IsDerivedFrom before rest (after_block shown x) goal more → IsDerivedFrom before (Superposed superposition names shown written inner rest) x goal (Superposed superposition names shown certs derived more)
-unfolding placed_steps script_without_certs filled_by has_certs_of
+unfolding placed_steps bare_script filled_by has_certs_of
 superposed_derives before superposition names shown written certs inner derived rest more x goal fit over c d m =
     let s = x.context.scope in
     let facts = x.context.facts in
@@ -389,7 +389,7 @@ split_other before lit first second derived x goal d r =
 
 pub split_derives : (before : List StatementView) (lit : Lit) (first second one other : Script) (x : Place) (goal : Goal) → all_in_scope x.context.scope lit ≡ true → IsDerivedFrom before first (after_literal lit x) goal one →
     IsDerivedFrom before second (after_literal (negation lit) x) goal other → IsDerivedFrom before (Cases lit first second) x goal (Cases lit one other)
-unfolding placed_steps script_without_certs filled_by has_certs_of
+unfolding placed_steps bare_script filled_by has_certs_of
 split_derives before lit first second one other x goal over d e =
     let s = x.context.scope in
     let facts = x.context.facts in

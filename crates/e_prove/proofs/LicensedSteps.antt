@@ -12,7 +12,7 @@ use Rattle.e_clause.specs.declared.cert.Cert.{Cert}
 use Rattle.e_clause.specs.Certify.{certifies, certify_all}
 use Rattle.e_clause.proofs.Sound.{allowed_of_certified, all_allowed_of_certified}
 use Rattle.e_deriv.specs.declared.block.Step.TheVariants.{Cite as CiteStep, Hence as HenceStep, Make as MakeStep}
-use Rattle.e_deriv.specs.Script.{Cite, Hence, Make, step_script, script_without_certs}
+use Rattle.e_deriv.specs.Script.{Cite, Hence, Make, step_script, bare_script}
 use Rattle.e_deriv.specs.Parts.{filled_by}
 use Rattle.e_deriv.specs.PlacedSteps.{placed_steps}
 use Rattle.e_deriv.specs.Steps.{is_cited}
@@ -27,7 +27,7 @@ use Rattle.e_deriv.specs.Versions.{has_certs_of}
 -- ---- a citation
 
 licensed_by : (before : List StatementView) (by : By) (x : Place) → is_cited x.context.facts by ≡ true → IsLicensedStep before (CiteStep by) x (CiteStep by) (after_literal by.lit x)
-unfolding placed_steps script_without_certs filled_by names_of_steps step_script has_certs_of
+unfolding placed_steps bare_script filled_by names_of_steps step_script has_certs_of
 licensed_by before by x h =
     record {
       licensed = λ rest more goal form. record { fits = form; allowed = tt; others = h };
@@ -48,7 +48,7 @@ licensed_cite before by derived x after same h gives = rw (same, gives) (license
 
 licensed_by_cert : (before : List StatementView) (lit : Lit) (written : Option Cert) (cert : Cert) (x : Place) → IsTrue (certifies x.context.scope x.context.facts lit cert) → IsTrue (is_cert_of version.One cert) →
     IsLicensedStep before (HenceStep lit written) x (HenceStep lit (Some cert)) (after_literal lit x)
-unfolding placed_steps script_without_certs filled_by names_of_steps step_script has_certs_of
+unfolding placed_steps bare_script filled_by names_of_steps step_script has_certs_of
 licensed_by_cert before lit written cert x h g =
     record {
       licensed = λ rest more goal form. record { fits = form; allowed = (allowed_of_certified x.context.scope x.context.facts lit cert h, tt); others = tt };
@@ -70,7 +70,7 @@ licensed_hence before lit derived written cert x after same h g gives = rw (same
 
 licensed_by_certs : (before : List StatementView) (construction : Construction) (names : List (List ℕ)) (written certs : List Cert) (x : Place) → IsTrue (certify_all x.context.scope x.context.facts (needs_of_construction construction) certs) →
     IsTrue (list_all (is_cert_of version.One) certs) → IsLicensedStep before (MakeStep construction names written) x (MakeStep construction names certs) (after_make construction names x)
-unfolding placed_steps script_without_certs filled_by names_of_steps step_script has_certs_of
+unfolding placed_steps bare_script filled_by names_of_steps step_script has_certs_of
 licensed_by_certs before construction names written certs x h g =
     record {
       licensed = λ rest more goal fit. record { fits = fit; allowed = all_allowed_of_certified x.context.scope x.context.facts (needs_of_construction construction) certs h; others = tt };

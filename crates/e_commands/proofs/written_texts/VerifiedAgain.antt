@@ -4,7 +4,7 @@ use Rattle.std.specs.Prelude.{IsTrue}
 use Rattle.std.specs.List.{list_all}
 use Rattle.e_clause.specs.declared.cert.Version.{Version}
 use Rattle.e_clause.specs.declared.cert.Version.TheVariants.{One, Two}
-use Rattle.e_deriv.specs.Script.{Script, script_without_certs}
+use Rattle.e_deriv.specs.Script.{Script, bare_script}
 use Rattle.e_deriv.specs.Fitting.{is_small_statement}
 use Rattle.e_names.specs.TitledStatements.{TitledStatement, titled_statement, stated_by}
 use Rattle.e_book.specs.TheoremViews.{TheoremView}
@@ -59,7 +59,7 @@ Again job v w f =
 small_after : (v : Version) (last : ℕ) (known : List TitledStatement) (lines after : Rest) (t : TheoremView) → IsTrue (list_all is_small_statement (stated_by known)) → ReadsNext v last known lines t after
     → IsTrue (list_all is_small_statement (stated_by (with_theorem known t)))
 small_after v last known lines after t small read =
-    one_more_stated known t.title t.statement small (small_statement known (record t { script = script_without_certs t.script }) (read_is_formed_so v known last t lines after read).plain.fits)
+    one_more_stated known t.title t.statement small (small_statement known (record t { script = bare_script t.script }) (read_is_formed_so v known last t lines after read).plain.fits)
 
 abbrev pairs : (List TitledStatement → TheoremView → Script) → List TitledStatement → List TheoremView → List (TheoremView × Script)
 pairs f known [] = []

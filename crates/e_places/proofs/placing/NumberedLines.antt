@@ -27,7 +27,7 @@ use Rattle.e_clause.specs.Versions.{is_name_of, is_sum_of, are_sums_of, is_part_
 use Rattle.e_clause.specs.Written.{is_writable_name, is_writable_sum, are_writable_sums, is_writable_part, is_writable_cert, is_writable_against}
 use Rattle.e_construct.specs.Construct.{fits_construction, sorts_made, gives_of_construction}
 use Rattle.e_construct.specs.Superposing as superposing
-use Rattle.e_deriv.specs.Script.{Script, Cite, Hence, Make, Apply, Claim, Superposed, Qed, Contradiction, Cases, script_without_certs}
+use Rattle.e_deriv.specs.Script.{Script, Cite, Hence, Make, Apply, Claim, Superposed, Qed, Contradiction, Cases, bare_script}
 use Rattle.e_deriv.specs.Goal.{Goal, goal_of, are_for}
 use Rattle.e_deriv.specs.PlacedSteps.{PlacedStep, placed_step, placed_steps, theorem_at}
 use Rattle.e_deriv.specs.Parts.{has_no_blank, written}
@@ -125,8 +125,8 @@ numbered_certified before (Cases lit one two) s facts goal h =
 
 -- ---- the script is the same
 
-pub numbered_erased : (before : List StatementView) (d : Script) (s : Scope) (facts : List Lit) (goal : Goal) → script_without_certs (with_places before d s facts goal) ≡ script_without_certs d
-unfolding script_without_certs with_places
+pub numbered_erased : (before : List StatementView) (d : Script) (s : Scope) (facts : List Lit) (goal : Goal) → bare_script (with_places before d s facts goal) ≡ bare_script d
+unfolding bare_script with_places
 numbered_erased before (Cite by rest) s facts goal = ap (Cite by) (numbered_erased before rest s (with_fact facts by.lit) goal)
 numbered_erased before (Hence lit cert rest) s facts goal = ap (Hence lit None) (numbered_erased before rest s (with_fact facts lit) goal)
 numbered_erased before (Make construction names certs rest) s facts goal = ap (Make construction names []) (numbered_erased before rest (with_sorts s (sorts_made construction)) (with_facts facts (gives_of_construction construction s)) goal)

@@ -4,7 +4,7 @@ use Rattle.std.specs.List.{list_all}
 use Rattle.e_literal.specs.Use.{StatementView}
 use Rattle.e_deriv.specs.declared.block.Step.{Step}
 use Rattle.e_deriv.specs.declared.block.Close.{Close}
-use Rattle.e_deriv.specs.Script.{Script, step_script, close_script, script_without_certs}
+use Rattle.e_deriv.specs.Script.{Script, step_script, close_script, bare_script}
 use Rattle.e_deriv.specs.Parts.{filled_by}
 use Rattle.e_deriv.specs.Goal.{Goal}
 use Rattle.e_deriv.specs.PlacedSteps.{PlacedStep, placed_step, placed_steps}
@@ -49,9 +49,9 @@ pub record IsLicensedStep (before : List StatementView) (step : Step) (x : Place
       IsTrue (is_certified before
       (step_from_basis (step_script derived more) (step_script derived more) x.context goal))
   pub erased : (rest more : Script)
-      → script_without_certs more ≡ filled_by (script_without_certs rest) more →
-      script_without_certs (step_script derived more)
-      ≡ filled_by (script_without_certs (step_script step rest)) (step_script derived more)
+      → bare_script more ≡ filled_by (bare_script rest) more →
+      bare_script (step_script derived more)
+      ≡ filled_by (bare_script (step_script step rest)) (step_script derived more)
   pub written : (more : Script) → IsTrue (has_certs_of version.One more)
       → IsTrue (has_certs_of version.One (step_script derived more))
   pub next : (rest more : Script) (goal : Goal) →
@@ -80,8 +80,8 @@ pub record IsLicensedClose (before : List StatementView) (close : Close) (x : Ba
       (steps_from_basis before (close_script close) (close_script derived) x goal)
   pub certified : IsTrue (list_all (is_certified before)
       (steps_from_basis before (close_script derived) (close_script derived) x goal))
-  pub erased : script_without_certs (close_script derived)
-      ≡ filled_by (script_without_certs (close_script close)) (close_script derived)
+  pub erased : bare_script (close_script derived)
+      ≡ filled_by (bare_script (close_script close)) (close_script derived)
   pub written : IsTrue (has_certs_of version.One (close_script derived))
 
 -- where this holds licensing stops so at the close

@@ -9,7 +9,7 @@ use Rattle.e_deriv.specs.declared.block.Step.{Step}
 use Rattle.e_deriv.specs.declared.names.Names.{Names}
 use Rattle.e_deriv.specs.declared.stop.Stop.{Stop}
 use Rattle.e_deriv.specs.declared.stop.Stop.TheVariants as stop
-use Rattle.e_deriv.specs.Script.{Script, step_script, size, script_without_certs}
+use Rattle.e_deriv.specs.Script.{Script, step_script, size, bare_script}
 use Rattle.e_deriv.specs.Parts.{filled_by}
 use Rattle.e_deriv.specs.Goal.{Goal}
 use Rattle.e_deriv.specs.PlacedSteps.{PlacedStep}
@@ -62,7 +62,7 @@ pub record IsDerivedFrom (before : List StatementView) (script : Script) (x : Pl
   pub certified :
       IsTrue
       (list_all (is_certified before) (steps_from_basis before derived derived x.context goal))
-  pub erased : script_without_certs derived ≡ filled_by (script_without_certs script) derived
+  pub erased : bare_script derived ≡ filled_by (bare_script script) derived
   pub written : IsTrue (has_certs_of version.One derived)
 
 -- the states that are held are those from before

@@ -9,7 +9,7 @@ use Rattle.e_literal.specs.Use.{StatementView, scope_of}
 use Rattle.e_clause.specs.declared.cert.Version.TheVariants as version
 use Rattle.e_theorem.specs.Statements.{stated, all_stated}
 use Rattle.e_deriv.specs.declared.block.Block.{Block}
-use Rattle.e_deriv.specs.Script.{Script, script_of, script_without_certs}
+use Rattle.e_deriv.specs.Script.{Script, script_of, bare_script}
 use Rattle.e_deriv.specs.Goal.{Goal, goal_of_statement, facts_of_statement}
 use Rattle.e_deriv.specs.Certified.{Certified}
 use Rattle.e_deriv.specs.Versions.{has_certs_of}
@@ -99,7 +99,7 @@ returns-clause-script c =
     let g = as_goal c.deref.result.now c.items-3.result.now in
     let made = made_is t c.with_sorts-scope.result c.items.result.now c.items-2.result.now c.deref.result.now c.in_ok-made.made.items c.with_sorts-scope.ensures c.items.ensures c.items-2.ensures c.in_ok-made.ensures c.deref.ensures.value in
     let same = goal_is t c.deref.result.now c.items-3.result.now made c.items-3.ensures in
-    if_ok c.number_block.result c.number_block.ensures.same (λ (b : Block) e. ap script_without_certs (whole before t d (script_of b) x g c.in_ok-state.ensures same e) ∙ numbered_erased before d (scope_of t) (facts_of_statement t) (goal_of_statement t))
+    if_ok c.number_block.result c.number_block.ensures.same (λ (b : Block) e. ap bare_script (whole before t d (script_of b) x g c.in_ok-state.ensures same e) ∙ numbered_erased before d (scope_of t) (facts_of_statement t) (goal_of_statement t))
 
 pub returns-clause-certified : goal.returns-clause-certified
 returns-clause-certified c =
