@@ -29,7 +29,6 @@ use Rattle.e_clause.specs.Assignment.{terms_of_lits, terms_of_wanted}
 use Rattle.e_clause.specs.System.{pos_row, top_row, least_row}
 use Rattle.e_clause.specs.Sum.{Place, is_step_term, fact_row, row_at, says_differ, unless_not, row_named, weighed_rows, is_limited_sum, refutes}
 use Rattle.e_clause.specs.MetricCertificate.{differing_row, above_row, below_row, both_refute, sums_refute}
-use Rattle.e_metric.specs.declared.kind_system.KindSystem.{KindSystem}
 use Rattle.e_metric.specs.declared.kind_system.KindSystem.TheVariants.{Absurd}
 use Rattle.e_metric.specs.SolvedSystems.{IsKindSystem}
 use Rattle.e_metric.specs.MetricAnswers.{IsMetricCertificate}

@@ -1,5 +1,5 @@
 -- Names with their multipliers, one by one.
-use Rattle.std.proofs.Common.{◌≡◌, ℕ, zero, suc, ◌+◌, ◌<◌, List, [], ◌∷◌, ◌++◌, length, get_or, drop, refl, sym, ap, ◌∙◌, subst, arith, cond, Bool, true, false, append_assoc, ap₂, Option, Some, None}
+use Rattle.std.proofs.Common.{◌≡◌, ℕ, ◌+◌, ◌<◌, List, [], ◌∷◌, ◌++◌, length, get_or, drop, refl, sym, ap, ◌∙◌, cond, Bool, true, false, append_assoc, ap₂, Option, Some, None}
 use Rattle.std.proofs.lemmas.List.{drop_more, length-set}
 use Rattle.std.specs.Prelude.{ℤ, pos}
 use Rattle.std.proofs.lemmas.Bool.Decides.{Decides-int_eq}

@@ -1,4 +1,4 @@
-use Rattle.std.proofs.Common.{◌≡◌, ◌+◌, ◌++◌, ◌∷◌, [], ◌<◌, ◌∙◌, length, get_or, drop, ap, sym, pos, arith, rules, ℤ, List, SFits, of_z, to_z, to_z-of_z, Vec, Global}
+use Rattle.std.proofs.Common.{◌+◌, ◌++◌, ◌∷◌, [], ◌<◌, ◌∙◌, length, get_or, drop, ap, sym, pos, arith, rules, ℤ, List, SFits, of_z, to_z, to_z-of_z, Vec, Global}
 use mir.Syntax.{w128}
 use Rattle.e_clause.specs.declared.cert.RowName.{RowName}
 use Rattle.e_clause.specs.declared.cert.RowName.TheVariants.{Goal}

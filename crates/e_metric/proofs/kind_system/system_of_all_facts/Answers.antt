@@ -1,4 +1,4 @@
-use Rattle.std.proofs.Common.{subst, take, Option, ◌∙◌}
+use Rattle.std.proofs.Common.{subst, take, Option}
 use Rattle.std.specs.Prelude.{IfSome}
 use Rattle.e_metric.specs.declared.kind_system.KindSystem.{KindSystem}
 use Rattle.e_metric.specs.SolvedSystems.{IsKindSystem}

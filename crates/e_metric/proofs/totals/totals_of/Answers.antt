@@ -1,13 +1,11 @@
-use Rattle.std.proofs.Common.{◌≡◌, ◌≤◌, ◌<◌, ◌+◌, ◌*◌, ◌^◌, ◌+ℤ◌, ◌*ℤ◌, take, pos, ap, ap₂, refl, sym, subst, ◌∙◌, to_z-of_z, SFits, arith, get_or, length, ℤ}
+use Rattle.std.proofs.Common.{◌≡◌, ◌≤◌, ◌<◌, ◌+◌, ◌*◌, ◌^◌, ◌+ℤ◌, ◌*ℤ◌, pos, ap, sym, subst, ◌∙◌, to_z-of_z, SFits, arith, get_or, length, ℤ}
 use Rattle.std.specs.Prelude.{unsigned_abs}
 use mir.Syntax.{w128}
 use Rattle.e_literal.specs.Rows.{coefficient}
-use Rattle.e_literal.specs.Absurd.{total}
 use Rattle.e_literal.proofs.Arith.{fits_wide}
 use Rattle.e_fraction.specs.declared.row.Row.{Row}
 use Rattle.e_literal.specs.declared.object.Term.{Term}
 use Rattle.e_fraction.specs.Limits.{has_small_coefficients}
-use Rattle.e_fraction.specs.Views.{weighed}
 use Rattle.e_fraction.proofs.Sums.{small_row, good_multiplier, small_coefficient, product_size, total_step, sum_size}
 use Rattle.e_metric.specs.inner.TermTotals.{kept_total}
 use Rattle.e_metric.proofs.totals.totals_of.Goals as goal
