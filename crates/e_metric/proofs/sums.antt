@@ -6,4 +6,4 @@ pub mod RowNames
 pub mod ScopeOfSums
 pub mod WrittenSums
 pub mod TermTotals
-pub mod ZippedRows
+pub mod NamedMultipliers

@@ -1,5 +1,5 @@
 -- What is solved of the facts of a step, kind by kind.
-use Rattle.std.specs.Prelude.{◌≡◌, List, [], ◌++◌, length, map, flat_map, IfSome, Option, None}
+use Rattle.std.specs.Prelude.{◌≡◌, List, [], length, map, flat_map, IfSome, Option, None}
 use Rattle.e_literal.specs.declared.object.Kind.{Kind}
 use Rattle.e_literal.specs.declared.literal.Lit.{Lit}
 use Rattle.e_clause.specs.declared.cert.RowName.{RowName}
@@ -26,22 +26,18 @@ pub record AreNamed (ns : List NamedRow) (names : List RowName)
   pub names_are : names ≡ map (λ p. p.0) pairs
   pub rows_are : rows ≡ map (λ p. p.1) pairs
 
--- the rows of the facts of the kind, in some order; their terms, and how many rows these bring
-pub record IsSolvedSystem (which : Kind) (facts : List Lit) (g : SolvedSystem) : Type 0 where
-  pub rows : List NamedRow
-  pub order : AreReordered rows (system which facts None)
-  pub named : AreNamed rows g.names.items g.rows.items
-  pub solved_rows : g.solved_rows ≡ g.rows.items
-  pub terms : g.terms.items ≡ distinct_terms which facts None
-  pub raised : g.raised ≡ length (flat_map (rows_of_term facts) g.terms.items)
-
--- the solved rows, and more after them, are those of a system, in some order, with their names
-pub record AreTogether (which : Kind) (facts : List Lit) (wanted : Option Lit) (g : SolvedSystem)
+-- the rows are those of a system, in some order, with their names
+pub record AreRowsOf (which : Kind) (facts : List Lit) (wanted : Option Lit)
     (names : List RowName) (rows : List GivenRow) : Type 0 where
   pub all : List NamedRow
   pub order : AreReordered all (system which facts wanted)
-  pub named : AreNamed all (g.names.items ++ names) (g.rows.items ++ rows)
-  pub solved_rows : g.solved_rows ≡ g.rows.items
+  pub named : AreNamed all names rows
+
+-- the solved rows are those of the facts of the kind; their terms, and how many rows these bring
+pub record IsSolvedSystem (which : Kind) (facts : List Lit) (g : SolvedSystem) : Type 0 where
+  pub rows : AreRowsOf which facts None g.names.items g.solved_rows
+  pub terms : g.terms.items ≡ distinct_terms which facts None
+  pub raised : g.raised ≡ length (flat_map (rows_of_term facts) g.terms.items)
 
 -- the system of the facts of one kind: their rows have a solution; or they contradict each other;
 -- or their system is wide

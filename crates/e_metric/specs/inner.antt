@@ -5,3 +5,4 @@ pub mod AssignedValues
 pub mod FurtherRows
 pub mod ByKind
 pub mod TermTotals
+pub mod PreparedSystem

@@ -13,14 +13,14 @@ ghost use Rattle.e_metric.specs.inner.Certificate.{leasts, IsWeighable};
 ghost use Rattle.e_metric.specs.inner.TermTotals.{kept_total};
 ghost use Rattle.e_literal.specs.declared.object.Term.{Term as ATerm};
 
-use crate::totals::{add_rows_to, total_of_term, totals_of};
+use crate::in_two::InTwo;
+use crate::totals::{total_of_term, totals_of};
 use e_clause::{MetricCert, RowName, Sum, Sums};
 use e_fraction::Row;
 use e_literal::{Term, canonical, copy};
 use e_simplex::Absurdity;
 use std::alloc::{AllocError, Global};
 use std::collections::BTreeMap;
-use std::mem;
 
 /// An equal name.
 pub fn copy_of_name(alloc: Global, name: &RowName) -> Result<RowName, AllocError>
@@ -39,47 +39,42 @@ pub fn copy_of_name(alloc: Global, name: &RowName) -> Result<RowName, AllocError
     }
 }
 
-/// The names of the rows of a system, in two parts.
-#[derive(Clone, Copy)]
-pub struct Names<'a> {
-    pub first: &'a [RowName],
-    pub more: &'a [RowName],
+// The name of the row at a place, or the other one that is given for it.
+fn name_at(
+    alloc: Global,
+    names: &InTwo<RowName>,
+    renamed: Option<(usize, &RowName)>,
+    place: usize,
+) -> Result<RowName, AllocError>
+    requires { place < length names.now }
+    ensures { IfOk result
+        (λ n. n ≡ get_or (Certificate.renamed_at names.now renamed.entry) place name.Goal) }
+{
+    match renamed {
+        Some((row, name)) if row == place => copy_of_name(alloc, name),
+        _ => copy_of_name(alloc, names.at(place)),
+    }
 }
 
-impl<'a> Names<'a> {
-    // The name at a place.
-    fn at(&self, place: usize) -> &'a RowName
-        requires { place < length (self.now.first.now ++ self.now.more.now) }
-        ensures { result.now ≡ get_or (self.now.first.now ++ self.now.more.now) place name.Goal }
-    {
-        if place < self.first.len() {
-            &self.first[place]
-        } else {
-            &self.more[place - self.first.len()]
+// The rows whose multiplier is not 0. Where another name is given for the row at a place, it has
+// that.
+fn rows_not_zero(
+    alloc: Global,
+    names: &InTwo<RowName>,
+    renamed: Option<(usize, &RowName)>,
+    multipliers: &[i128],
+) -> Result<Vec<(i128, RowName)>, AllocError>
+    requires { length multipliers.now ≡ length names.now }
+    ensures { IfOk result (λ v. v.items ≡ Certificate.named_multipliers
+        (Certificate.renamed_at names.now renamed.entry) multipliers.now) }
+{
+    let mut sum = Vec::new(alloc);
+    for (i, multiplier) in multipliers.iter().enumerate() {
+        if *multiplier != 0 {
+            sum.push((*multiplier, name_at(alloc, names, renamed, i)?))?;
         }
     }
-
-    // The rows whose multiplier is not 0. Where a name is given for the row at a place, it has that.
-    fn rows_not_zero(
-        &self,
-        alloc: Global,
-        multipliers: &[i128],
-        renamed: Option<(usize, &RowName)>,
-    ) -> Result<Vec<(i128, RowName)>, AllocError>
-        requires { length multipliers.now ≡ length (self.now.first.now ++ self.now.more.now) }
-    {
-        let mut sum = Vec::new(alloc);
-        for (i, multiplier) in multipliers.iter().enumerate() {
-            if *multiplier != 0 {
-                let name = match renamed {
-                    Some((place, name)) if place == i => name,
-                    _ => self.at(i),
-                };
-                sum.push((*multiplier, copy_of_name(alloc, name)?))?;
-            }
-        }
-        Ok(sum)
-    }
+    Ok(sum)
 }
 
 // For each term whose total is less than 0, adds as many times the row that says that it is at
@@ -102,30 +97,43 @@ fn add_leasts_of(
     Ok(())
 }
 
-/// The rows of a system in two parts.
-#[derive(Clone, Copy)]
-pub struct RowsInTwo<'a> {
-    pub first: &'a [Row],
-    pub more: &'a [Row],
-}
-
 // Where the rows, each times its weight, leave less than nothing of a term, adds as many times the
 // row that says that it is at least 0.
 fn add_leasts(
     sum: &mut Vec<(i128, RowName)>,
     alloc: Global,
-    rows: RowsInTwo,
+    rows: &InTwo<Row>,
     weights: &[i128],
     terms: &[Term],
 ) -> Result<(), AllocError>
-    requires { IsWeighable (rows.first.now ++ rows.more.now) weights.now }
+    requires { IsWeighable rows.now weights.now }
     ensures { OnOk result (sum.new.items ≡ sum.old.items
-        ++ leasts (Absurd.total (weighed (rows.first.now ++ rows.more.now) weights.now)) terms.now) }
+        ++ leasts (Absurd.total (weighed rows.now weights.now)) terms.now) }
 {
-    let count = rows.first.len();
-    let mut totals = totals_of(alloc, rows.first, &weights[..count])?;
-    add_rows_to(&mut totals, rows.more, &weights[count..])?;
+    let totals = totals_of(alloc, rows, weights)?;
     add_leasts_of(sum, &totals, terms)
+}
+
+// The sum of the rows with these multipliers, and of what brings each term to 0, where it is
+// weighed by these weights. Where another name is given for the row at a place, it has that.
+fn sum_of(
+    alloc: Global,
+    names: &InTwo<RowName>,
+    renamed: Option<(usize, &RowName)>,
+    rows: &InTwo<Row>,
+    multipliers: &[i128],
+    weights: &[i128],
+    terms: &[Term],
+) -> Result<Sum, AllocError>
+    requires names { length multipliers.now ≡ length names.now }
+    requires rows { IsWeighable rows.now weights.now }
+    ensures { IfOk result (λ s. s ≡ Certificate.certificate_sum
+        (Certificate.renamed_at names.now renamed.entry) rows.now multipliers.now weights.now
+        terms.now) }
+{
+    let mut sum = rows_not_zero(alloc, names, renamed, multipliers)?;
+    add_leasts(&mut sum, alloc, rows, weights, terms)?;
+    Ok(Sum::new(sum))
 }
 
 // The multipliers, with the one at the place negated.
@@ -142,22 +150,33 @@ fn negated_at(alloc: Global, multipliers: &[i128], place: usize) -> Result<Vec<i
 // The two sums where the row at `row` says that its form is not 0.
 fn two_sums(
     alloc: Global,
-    names: Names,
-    rows: RowsInTwo,
+    names: &InTwo<RowName>,
+    rows: &InTwo<Row>,
     terms: &[Term],
     row: usize,
     above: &[i128],
     below: &[i128],
-) -> Result<Sums, AllocError> {
-    let mut first = names.rows_not_zero(alloc, above, Some((row, &RowName::Above)))?;
-    add_leasts(&mut first, alloc, rows, above, terms)?;
+) -> Result<Sums, AllocError>
+    requires here { row < length names.now }
+    requires above_length { length above.now ≡ length names.now }
+    requires below_length { length below.now ≡ length names.now }
+    requires below_small { unsigned_abs (get_or below.now row (pos 0)) ≤ 2 ^ 80 }
+    requires first { IsWeighable rows.now above.now }
+    requires second { IsWeighable rows.now (Certificate.negated_place below.now row) }
+    ensures { IfOk result (λ s. s ≡ TwoSums (get_or names.now row name.Goal)
+        (Certificate.certificate_sum (set names.now row name.Above) rows.now above.now above.now
+        terms.now) (Certificate.certificate_sum (set names.now row name.Below) rows.now below.now
+        (Certificate.negated_place below.now row) terms.now)) }
+{
     let weights = negated_at(alloc, below, row)?;
-    let mut second = names.rows_not_zero(alloc, below, Some((row, &RowName::Below)))?;
-    add_leasts(&mut second, alloc, rows, &weights, terms)?;
+    let named_above = Some((row, &RowName::Above));
+    let named_below = Some((row, &RowName::Below));
+    let above = sum_of(alloc, names, named_above, rows, above, above, terms)?;
+    let below = sum_of(alloc, names, named_below, rows, below, &weights, terms)?;
     Ok(Sums::Two {
         differs: copy_of_name(alloc, names.at(row))?,
-        above: Sum::new(first),
-        below: Sum::new(second),
+        above,
+        below,
     })
 }
 
@@ -210,26 +229,22 @@ pub fn copy_of_certificate(alloc: Global, cert: &MetricCert) -> Result<MetricCer
 /// The sums that multipliers of the rows make.
 pub fn sums_of(
     alloc: Global,
-    names: Names,
-    rows: RowsInTwo,
+    names: &InTwo<RowName>,
+    rows: &InTwo<Row>,
     terms: &[Term],
     absurdity: &Absurdity,
 ) -> Result<Sums, AllocError>
-    requires names { length (names.first.now ++ names.more.now)
-        ≡ length (rows.first.now ++ rows.more.now) }
-    requires few { length (rows.first.now ++ rows.more.now) ≤ most_rows_of_system }
-    requires coefficients { IsTrue (all_small (rows.first.now ++ rows.more.now)) }
-    requires refuted { IsAbsurdity (views_of_rows (rows.first.now ++ rows.more.now))
-        absurdity.now }
-    ensures { IfOk result (λ s. s ≡ Certificate.certificate_sums
-        (names.first.now ++ names.more.now) (rows.first.now ++ rows.more.now) terms.now
-        absurdity.now) }
+    requires names { length names.now ≡ length rows.now }
+    requires few { length rows.now ≤ most_rows_of_system }
+    requires coefficients { IsTrue (all_small rows.now) }
+    requires refuted { IsAbsurdity (views_of_rows rows.now) absurdity.now }
+    ensures { IfOk result
+        (λ s. s ≡ Certificate.certificate_sums names.now rows.now terms.now absurdity.now) }
 {
     match absurdity {
         Absurdity::One(multipliers) => {
-            let mut sum = names.rows_not_zero(alloc, multipliers, None)?;
-            add_leasts(&mut sum, alloc, rows, multipliers, terms)?;
-            Ok(Sums::One(Sum::new(sum)))
+            let sum = sum_of(alloc, names, None, rows, multipliers, multipliers, terms)?;
+            Ok(Sums::One(sum))
         }
         Absurdity::Two { row, above, below } => {
             two_sums(alloc, names, rows, terms, *row, above, below)

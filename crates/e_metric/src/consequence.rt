@@ -19,7 +19,8 @@ ghost use Rattle.e_metric.specs.MetricAnswers.{preferred, IfYes, IfNo};
 
 use crate::assigning::counterexample;
 use crate::by_kind::ByKind;
-use crate::certificates::{Names, RowsInTwo, sums_of};
+use crate::certificates::sums_of;
+use crate::in_two::InTwo;
 use crate::listing::{has_term, terms_of_kind};
 use crate::metric_facts::MetricFacts;
 use crate::systems::system;
@@ -96,15 +97,9 @@ pub fn certificate_of(
         (Term.Right ∷ [])) absurdity.now) }
 {
     let terms = summed_terms(alloc, which, facts, wanted)?;
-    let names = Names {
-        first: names,
-        more: &[],
-    };
-    let rows = RowsInTwo {
-        first: rows,
-        more: &[],
-    };
-    let sums = sums_of(alloc, names, rows, &terms, absurdity)?;
+    let names = InTwo::new(names, &[]);
+    let rows = InTwo::new(rows, &[]);
+    let sums = sums_of(alloc, &names, &rows, &terms, absurdity)?;
     Ok(MetricCert { sums })
 }
 

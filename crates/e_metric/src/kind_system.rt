@@ -1,16 +1,18 @@
 //! The system of the facts of one kind.
 
-ghost use Rattle.std.specs.Prelude.{◌≡◌, ◌≤◌, ◌++◌, length, take, flat_map};
-ghost use Rattle.std.specs.Prelude.{true, IsTrue, IfOk, MatchOption, Some, None};
+ghost use Rattle.std.specs.Prelude.{◌≡◌, ◌≤◌, ◌++◌, length, take, drop, flat_map};
+ghost use Rattle.std.specs.Prelude.{IsTrue, IfOk, IfSome, Some, None};
 ghost use Rattle.std.specs.List.{list_all};
 ghost use Rattle.e_literal.specs.WellFormed.{is_well_formed};
 ghost use Rattle.e_clause.specs.Assignment.{terms_of_lits};
 ghost use Rattle.e_clause.specs.Laws.{is_well_formed_metric};
 ghost use Rattle.e_clause.specs.LimitedFacts.{most_terms_of_step};
 ghost use Rattle.e_clause.specs.System.{rows_of_term};
-ghost use Rattle.e_metric.specs.SolvedSystems.{AreTogether, IsContradictionOf, IsSolvedSystem};
-ghost use Rattle.e_metric.specs.SolvedSystems.{IsKindSystem, IsAnswerAlone, AnswersAs};
-ghost use Rattle.e_metric.specs.ListedTerms;
+ghost use Rattle.e_metric.specs.SolvedSystems.{AreNamed, AreRowsOf, IsSolvedSystem, IsKindSystem};
+ghost use Rattle.e_metric.specs.SolvedSystems.{IsAnswerAlone, AnswersAs, IsContradictionOf};
+ghost use Rattle.e_metric.specs.inner.FurtherRows.{terms_added, rows_added_by_facts};
+ghost use Rattle.e_metric.specs.inner.PreparedSystem.{IsPreparedSystem};
+ghost use Rattle.e_metric.specs.ListedTerms.{distinct_terms};
 ghost use Rattle.e_metric.specs.MetricAnswers.{IsKindAnswer};
 
 use crate::certificates::copy_of_certificate;
@@ -20,6 +22,7 @@ use crate::solved_system::{SolvedSystem, system_width};
 use crate::systems::{count_term_rows, rows_of_facts, system};
 use e_clause::{MetricCert, RowName};
 use e_facts::Facts;
+use e_fraction::Row;
 use e_literal::{Kind, Lit, Term};
 use e_simplex::{Prepared, prepare};
 use std::alloc::{AllocError, Global};
@@ -45,10 +48,11 @@ pub fn solve_kind(alloc: Global, which: Kind, facts: &Facts) -> Result<KindSyste
     let named = system(alloc, which, facts, None)?;
     let (names, rows) = names_and_rows(alloc, named)?;
     let terms = terms_of_kind(alloc, which, facts, None)?;
-    system_of_prepared(alloc, which, facts, names, terms, prepare(alloc, rows)?)
+    let prepared = prepare(alloc, rows)?;
+    system_of_prepared(alloc, which, facts, names, terms, prepared)
 }
 
-// The system of rows with these names and terms, of which this comes.
+// The system of the facts, where this comes of its rows, which have these names and terms.
 fn system_of_prepared(
     alloc: Global,
     which: Kind,
@@ -56,17 +60,23 @@ fn system_of_prepared(
     names: Vec<RowName>,
     terms: Vec<Term>,
     prepared: Prepared,
-) -> Result<KindSystem, AllocError> {
+) -> Result<KindSystem, AllocError>
+    requires facts { IsTrue (list_all is_well_formed facts.now) }
+    requires few { length (terms_of_lits facts.now) ≤ most_terms_of_step }
+    requires prepared { IsPreparedSystem which facts.now names.items prepared }
+    requires terms { terms.items ≡ distinct_terms which facts.now None }
+    ensures { IfOk result (IsKindSystem which facts.now) }
+{
     match prepared {
         Prepared::TooWide => {
             let width = system_width(alloc, which, facts, None)?;
             Ok(KindSystem::TooWide(width))
         }
         Prepared::Absurd(rows, absurdity) => {
-            let cert = certificate_of(alloc, which, facts, None, &names, &rows, &absurdity);
+            let certified = certificate_of(alloc, which, facts, None, &names, &rows, &absurdity);
             mem::drop(rows);
             mem::drop(absurdity);
-            Ok(KindSystem::Absurd(cert?))
+            Ok(KindSystem::Absurd(certified?))
         }
         Prepared::SolvedRows(solved_rows) => {
             let raised = count_term_rows(facts, &terms);
@@ -152,23 +162,26 @@ impl KindSystem {
             KindSystem::Solved(_) | KindSystem::TooWide(_) => Ok(None),
         }
     }
+}
 
-    /// What is solved of all facts, where this is that of the first `from` of them. Facts that
-    /// contradict each other stay so, and facts with a wide system are asked from nothing.
-    pub fn with_all_facts(
-        self,
-        alloc: Global,
-        which: Kind,
-        facts: &Facts,
-        from: usize,
-    ) -> Result<KindSystem, AllocError>
-        requires within { from ≤ length facts.now }
-        requires kind_system { IsKindSystem which (take from facts.now) self }
-        requires facts { IsTrue (list_all is_well_formed facts.now) }
-        requires few { length (terms_of_lits facts.now) ≤ most_terms_of_step }
-        ensures { IfOk result (IsKindSystem which facts.now) }
-    {
-        match self {
+/// What is solved of all facts, where `known`, if there is any, is that of the first `from` of them.
+/// Facts that contradict each other stay so, and facts with a wide system are asked from nothing.
+pub fn system_of_all_facts(
+    alloc: Global,
+    known: Option<KindSystem>,
+    which: Kind,
+    facts: &Facts,
+    from: usize,
+) -> Result<KindSystem, AllocError>
+    requires within { from ≤ length facts.now }
+    requires known { IfSome known (IsKindSystem which (take from facts.now)) }
+    requires facts { IsTrue (list_all is_well_formed facts.now) }
+    requires few { length (terms_of_lits facts.now) ≤ most_terms_of_step }
+    ensures { IfOk result (IsKindSystem which facts.now) }
+{
+    match known {
+        None => solve_kind(alloc, which, facts),
+        Some(kind_system) => match kind_system {
             KindSystem::Solved(solved_system) => with_further_facts(
                 alloc,
                 solved_system,
@@ -178,13 +191,13 @@ impl KindSystem {
             ),
             KindSystem::Absurd(cert) => Ok(KindSystem::Absurd(cert)),
             KindSystem::TooWide(_) => solve_kind(alloc, which, facts),
-        }
+        },
     }
 }
 
-// What is solved of all facts, where the first `from` of them have this solved system: the rows of
-// the others come after them. Where a term that was there brings a row by a new fact, the rows are
-// solved from nothing, since that row would come among the others.
+// What is solved of all facts, where the first `from` of them have this solved system. Where a term
+// that was there brings a row by a new fact, the rows are solved from nothing, since that row would
+// come among the others.
 fn with_further_facts(
     alloc: Global,
     solved_system: SolvedSystem,
@@ -199,34 +212,109 @@ fn with_further_facts(
     ensures { IfOk result (IsKindSystem which facts.now) }
 {
     let raised = count_term_rows(facts, &solved_system.terms);
-    if raised != solved_system.raised {
-        mem::drop(solved_system);
-        return solve_kind(alloc, which, facts);
+    if raised == solved_system.raised {
+        return with_rest(alloc, solved_system, which, facts, from);
     }
-    let fresh = fresh_terms_of_facts(alloc, which, &solved_system.terms, facts, from)?;
+    mem::drop(solved_system);
+    solve_kind(alloc, which, facts)
+}
+
+// What facts from a place on bring: terms that are none of those before, and rows with their names.
+#[derive(Drop)]
+struct Rest {
+    terms: Vec<Term>,
+    names: Vec<RowName>,
+    rows: Vec<Row>,
+}
+
+fn rest_of_facts(
+    alloc: Global,
+    terms: &[Term],
+    which: Kind,
+    facts: &Facts,
+    from: usize,
+) -> Result<Rest, AllocError>
+    requires within { from ≤ length facts.now }
+    requires facts { IsTrue (list_all is_well_formed facts.now) }
+    ensures terms { IfOk result
+        (λ r. r.terms.items ≡ terms_added which terms.now (drop from facts.now)) }
+    ensures named { IfOk result (λ r. AreNamed (rows_added_by_facts which facts.now
+        (drop from facts.now) r.terms.items) r.names.items r.rows.items) }
+{
+    let fresh = fresh_terms_of_facts(alloc, which, terms, facts, from)?;
     let named = rows_of_facts(alloc, which, facts, from, &fresh)?;
-    if named.is_empty() && fresh.is_empty() {
-        mem::drop(named);
-        return Ok(KindSystem::Solved(solved_system));
-    }
-    let SolvedSystem {
-        mut names,
-        mut terms,
-        raised: _,
-        solved_rows,
-    } = solved_system;
-    let mut rows = Vec::with_capacity(alloc, named.len())?;
-    for (name, row) in named {
-        names.push(name)?;
-        rows.push(row)?;
-    }
-    terms.extend_from_slice(&fresh)?;
-    system_of_prepared(
-        alloc,
-        which,
-        facts,
+    let (names, rows) = names_and_rows(alloc, named)?;
+    Ok(Rest {
+        terms: fresh,
         names,
-        terms,
-        solved_rows.with(alloc, rows)?,
-    )
+        rows,
+    })
+}
+
+// What is solved of all facts, where the first `from` of them have this solved system and its terms
+// bring no more rows than before: the rows of the other facts come after them.
+fn with_rest(
+    alloc: Global,
+    solved_system: SolvedSystem,
+    which: Kind,
+    facts: &Facts,
+    from: usize,
+) -> Result<KindSystem, AllocError>
+    requires within { from ≤ length facts.now }
+    requires solved_system { IsSolvedSystem which (take from facts.now) solved_system }
+    requires raised { solved_system.raised
+        ≡ length (flat_map (rows_of_term facts.now) solved_system.terms.items) }
+    requires facts { IsTrue (list_all is_well_formed facts.now) }
+    requires few { length (terms_of_lits facts.now) ≤ most_terms_of_step }
+    ensures { IfOk result (IsKindSystem which facts.now) }
+{
+    match rest_of_facts(alloc, &solved_system.terms, which, facts, from) {
+        Ok(rest) => {
+            if rest.rows.is_empty() && rest.terms.is_empty() {
+                mem::drop(rest);
+                return Ok(KindSystem::Solved(solved_system));
+            }
+            joined_system(alloc, which, facts, solved_system, rest)
+        }
+        Err(error) => {
+            mem::drop(solved_system);
+            Err(error)
+        }
+    }
+}
+
+// The system of the rows of a solved system and more after them, which are those of the facts.
+fn joined_system(
+    alloc: Global,
+    which: Kind,
+    facts: &Facts,
+    mut solved_system: SolvedSystem,
+    rest: Rest,
+) -> Result<KindSystem, AllocError>
+    requires facts { IsTrue (list_all is_well_formed facts.now) }
+    requires few { length (terms_of_lits facts.now) ≤ most_terms_of_step }
+    requires rows { AreRowsOf which facts.now None
+        (solved_system.names.items ++ rest.names.items)
+        (solved_system.solved_rows ++ rest.rows.items) }
+    requires terms { solved_system.terms.items ++ rest.terms.items
+        ≡ distinct_terms which facts.now None }
+    ensures { IfOk result (IsKindSystem which facts.now) }
+{
+    let Rest { terms, names, rows } = rest;
+    match solved_system.add(names, &terms) {
+        Ok(()) => {
+            let SolvedSystem {
+                names,
+                terms,
+                raised: _,
+                solved_rows,
+            } = solved_system;
+            let prepared = solved_rows.with(alloc, rows)?;
+            system_of_prepared(alloc, which, facts, names, terms, prepared)
+        }
+        Err(error) => {
+            mem::drop(solved_system);
+            Err(error)
+        }
+    }
 }

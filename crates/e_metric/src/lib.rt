@@ -7,6 +7,7 @@ mod by_kind;
 mod certificates;
 mod consequence;
 mod evaluating;
+mod in_two;
 mod joining;
 mod kind_system;
 mod limits;

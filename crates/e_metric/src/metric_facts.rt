@@ -1,7 +1,7 @@
 //! What is solved of the facts of a step, kind by kind, from as many of them as were asked about.
 
 ghost use Rattle.std.specs.Prelude.{◌≡◌, ◌≤◌, [], length, take, true, option_copied};
-ghost use Rattle.std.specs.Prelude.{IsTrue, IfOk, IfSome, MatchOption, List, Some, None};
+ghost use Rattle.std.specs.Prelude.{IsTrue, IfOk, IfSome, List, Some, None};
 ghost use Rattle.std.specs.List.{list_all};
 ghost use Rattle.e_literal.specs.declared.object.Kind.{Kind};
 ghost use Rattle.e_literal.specs.declared.literal.Lit.{Lit};
@@ -19,7 +19,7 @@ ghost use Rattle.e_metric.specs.MetricAnswers.{IsKindAnswer, IfYes, IfNo};
 
 use crate::by_kind::{ByKind, other_kinds};
 use crate::consequence::{Metric, answer_of_kind, joined_answer};
-use crate::kind_system::{KindSystem, solve_kind};
+use crate::kind_system::{KindSystem, system_of_all_facts};
 use e_clause::MetricCert;
 use e_facts::Facts;
 use e_literal::{Kind, Lit, kind};
@@ -64,10 +64,8 @@ impl Slot {
         if self.is_whole(facts) {
             return Ok(());
         }
-        let kind_system = match mem::replace(&mut self.kind_system, None) {
-            Some(kind_system) => kind_system.with_all_facts(alloc, which, facts, self.upto)?,
-            None => solve_kind(alloc, which, facts)?,
-        };
+        let known = mem::replace(&mut self.kind_system, None);
+        let kind_system = system_of_all_facts(alloc, known, which, facts, self.upto)?;
         mem::drop(mem::replace(&mut self.kind_system, Some(kind_system)));
         self.upto = facts.len();
         Ok(())

@@ -13,13 +13,14 @@ ghost use Rattle.e_clause.specs.System.{system, rows_of_system};
 ghost use Rattle.e_fraction.specs.Views.{views_of_rows};
 ghost use Rattle.e_simplex.specs.Answer.{AreValuesOf, IsRefuted};
 ghost use Rattle.e_metric.specs.inner.FurtherRows.{values_extended};
-ghost use Rattle.e_metric.specs.SolvedSystems.{AreTogether, IsSolvedSystem};
+ghost use Rattle.e_metric.specs.SolvedSystems.{AreRowsOf, IsSolvedSystem};
 ghost use Rattle.e_metric.specs.ListedTerms.{distinct_terms, with_listed};
 ghost use Rattle.e_metric.specs.MetricAnswers.{IsMetricCertificate, IsKindAnswer};
 
-use crate::certificates::{Names, RowsInTwo, copy_of_name, sums_of};
+use crate::certificates::{copy_of_name, sums_of};
 use crate::consequence::{Metric, names_and_rows};
 use crate::evaluating::{are_so, values_with};
+use crate::in_two::InTwo;
 use crate::listing::{fresh_terms, has_term};
 use crate::systems::{rows_of_goal, system};
 use e_clause::{MetricCert, RowName};
@@ -95,6 +96,18 @@ impl SolvedSystem {
         })
     }
 
+    /// Puts names and terms last.
+    pub fn add(&mut self, names: Vec<RowName>, terms: &[Term]) -> Result<(), AllocError>
+        ensures names { OnOk result (self.new.names.items ≡ self.old.names.items ++ names.items) }
+        ensures terms { OnOk result (self.new.terms.items ≡ self.old.terms.items ++ terms.now) }
+        ensures solved_rows { self.new.solved_rows ≡ self.old.solved_rows }
+    {
+        for name in names {
+            self.names.push(name)?;
+        }
+        self.terms.extend_from_slice(terms)
+    }
+
     // The terms, and these, and right.
     fn summed_terms_with(&self, alloc: Global, fresh: &[Term]) -> Result<Vec<Term>, AllocError>
         ensures { IfOk result
@@ -130,24 +143,18 @@ impl SolvedSystem {
         requires facts { IsTrue (list_all is_well_formed facts.now) }
         requires few { length (terms_of_lits facts.now) ≤ most_terms_of_step }
         requires wanted { IsTrue (is_well_formed_metric (option_copied wanted)) }
-        requires together { AreTogether which facts.now (option_copied wanted) self.now names.now
-            rows.now }
+        requires together { AreRowsOf which facts.now (option_copied wanted)
+            (self.now.names.items ++ names.now) (self.now.solved_rows ++ rows.now) }
         requires terms { self.now.terms.items ++ fresh.now
             ≡ distinct_terms which facts.now (option_copied wanted) }
         requires refuted { IsRefuted
             (views_of_rows (self.now.solved_rows ++ rows.now)) absurdity.now }
         ensures { IfOk result (IsMetricCertificate facts.now (option_copied wanted.entry)) }
     {
-        let names = Names {
-            first: &self.names,
-            more: names,
-        };
-        let rows = RowsInTwo {
-            first: self.solved_rows.rows(),
-            more: rows,
-        };
+        let names = InTwo::new(&self.names, names);
+        let rows = InTwo::new(self.solved_rows.rows(), rows);
         let terms = self.summed_terms_with(alloc, fresh)?;
-        let sums = sums_of(alloc, names, rows, &terms, absurdity)?;
+        let sums = sums_of(alloc, &names, &rows, &terms, absurdity)?;
         Ok(MetricCert { sums })
     }
 
@@ -165,8 +172,8 @@ impl SolvedSystem {
         requires facts { IsTrue (list_all is_well_formed facts.now) }
         requires few { length (terms_of_lits facts.now) ≤ most_terms_of_step }
         requires goal { IsTrue (is_well_formed_metric (Some goal.now)) }
-        requires together { AreTogether which facts.now (Some goal.now) self.now names.now
-            rows.now }
+        requires together { AreRowsOf which facts.now (Some goal.now)
+            (self.now.names.items ++ names.now) (self.now.solved_rows ++ rows.now) }
         requires terms { self.now.terms.items ++ fresh.now
             ≡ distinct_terms which facts.now (Some goal.now) }
         ensures { IfOk result (IsKindAnswer which facts.now (Some goal.now)) }

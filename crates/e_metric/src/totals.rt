@@ -11,6 +11,7 @@ ghost use Rattle.e_fraction.specs.Views.{weighed};
 ghost use Rattle.e_metric.specs.inner.Certificate.{IsWeighable};
 ghost use Rattle.e_metric.specs.inner.TermTotals.{kept_total};
 
+use crate::in_two::InTwo;
 use e_fraction::Row;
 use e_literal::Term;
 use std::alloc::{AllocError, Global};
@@ -76,26 +77,10 @@ fn add_form(
     Ok(())
 }
 
-/// Adds the rows, each times its weight.
-pub fn add_rows_to(
-    totals: &mut BTreeMap<Term, i128>,
-    rows: &[Row],
-    weights: &[i128],
-) -> Result<(), AllocError>
-    requires { IsWeighable rows.now weights.now }
-    ensures { OnOk result ((t : ATerm) → kept_total totals.new.entries t
-        ≡ kept_total totals.old.entries t +ℤ Absurd.total (weighed rows.now weights.now) t) }
-{
-    for (row, weight) in rows.iter().zip(weights) {
-        add_form(totals, row.form.summands(), *weight)?;
-    }
-    Ok(())
-}
-
 /// The coefficient of each term in the sum of the rows, each times its weight.
 pub fn totals_of(
     alloc: Global,
-    rows: &[Row],
+    rows: &InTwo<Row>,
     weights: &[i128],
 ) -> Result<BTreeMap<Term, i128>, AllocError>
     requires { IsWeighable rows.now weights.now }
@@ -103,6 +88,8 @@ pub fn totals_of(
         → kept_total m.entries t ≡ Absurd.total (weighed rows.now weights.now) t) }
 {
     let mut totals = BTreeMap::new(alloc);
-    add_rows_to(&mut totals, rows, weights)?;
+    for (i, weight) in weights.iter().enumerate() {
+        add_form(&mut totals, rows.at(i).form.summands(), *weight)?;
+    }
     Ok(totals)
 }

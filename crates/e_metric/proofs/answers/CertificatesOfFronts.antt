@@ -29,7 +29,6 @@ use Rattle.e_clause.specs.Assignment.{terms_of_lits, terms_of_wanted}
 use Rattle.e_clause.specs.System.{pos_row, top_row, least_row}
 use Rattle.e_clause.specs.Sum.{Place, is_step_term, fact_row, row_at, says_differ, unless_not, row_named, weighed_rows, is_limited_sum, refutes}
 use Rattle.e_clause.specs.MetricCertificate.{differing_row, above_row, below_row, both_refute, sums_refute}
-use Rattle.e_metric.specs.declared.kind_system.KindSystem.{KindSystem}
 use Rattle.e_metric.specs.declared.kind_system.KindSystem.TheVariants.{Absurd}
 use Rattle.e_metric.specs.SolvedSystems.{IsKindSystem}
 use Rattle.e_metric.specs.MetricAnswers.{IsMetricCertificate}
@@ -179,7 +178,5 @@ pub certified_wider : (facts : List Lit) (wanted : Option Lit) (m : MetricCert) 
 certified_wider facts wanted m h = subst (λ fs. IsMetricCertificate fs wanted m) (none_more facts) (certified_more facts [] wanted m h)
 
 -- a certificate of the first facts is one of all
-pub absurd_stays : (which : Kind) (facts : List Lit) (from : ℕ) (kind_system : KindSystem) (m : MetricCert) → kind_system ≡ Absurd m → IsKindSystem which (take from facts) kind_system → IsKindSystem which facts kind_system
-absurd_stays which facts from kind_system m e h =
-    subst (IsKindSystem which facts) (sym e)
-    (subst (λ fs. IsMetricCertificate fs None m) (take-append-drop from facts) (certified_more (take from facts) (drop from facts) None m (subst (IsKindSystem which (take from facts)) e h)))
+pub absurd_stays : (which : Kind) (facts : List Lit) (from : ℕ) (m : MetricCert) → IsKindSystem which (take from facts) (Absurd m) → IsKindSystem which facts (Absurd m)
+absurd_stays which facts from m h = subst (λ fs. IsMetricCertificate fs None m) (take-append-drop from facts) (certified_more (take from facts) (drop from facts) None m h)

@@ -36,8 +36,7 @@ same_system which facts wanted e =
 pub solved_alone : (g : SolvedSystem) (values : List (Term × ℕ)) → AreValuesOf (views_of_rows g.solved_rows) values → IsAnswerAlone (kind_system.Solved g) (No values)
 solved_alone g values h which facts wanted solved_system e =
     subst (Satisfy (assigned values)) (same_system which facts wanted e)
-    (satisfied which facts None solved_system.rows solved_system.order solved_system.named.pairs solved_system.named.are g.rows.items solved_system.named.rows_are (assigned values)
-    (subst (λ rs. Satisfy (assigned values) (views_of_rows rs)) solved_system.solved_rows h.satisfy))
+    (satisfied which facts None solved_system.rows.all solved_system.rows.order solved_system.rows.named.pairs solved_system.rows.named.are g.solved_rows solved_system.rows.named.rows_are (assigned values) h.satisfy)
 
 pub absurd_alone : (m : MetricCert) → IsAnswerAlone (kind_system.Absurd m) (Yes m)
 absurd_alone m which facts wanted h e = certified_wider facts wanted m h

@@ -29,12 +29,11 @@ use Rattle.e_metric.specs.declared.solved_system.SolvedSystem.{SolvedSystem}
 use Rattle.e_metric.specs.AgreeingRows.{AreRows, AllLimited}
 use Rattle.e_metric.specs.inner.Certificate.{certificate_sums}
 use Rattle.e_metric.specs.inner.FurtherRows.{terms_added, rows_added_by_goal, further}
-use Rattle.e_metric.specs.SolvedSystems.{AreNamed, IsSolvedSystem, AreTogether}
+use Rattle.e_metric.specs.SolvedSystems.{AreNamed, AreRowsOf, IsSolvedSystem}
 use Rattle.e_metric.specs.ListedTerms.{with_listed, distinct_terms}
 use Rattle.e_metric.specs.MetricAnswers.{IsMetricCertificate}
 use Rattle.e_metric.proofs.rows.GoalRows.{with_further, all_terms}
-use Rattle.e_metric.proofs.rows.RowOrder.{one_order, reordered_more}
-use Rattle.e_metric.specs.RowOrder.{AreReordered}
+use Rattle.e_metric.proofs.rows.RowOrder.{one_order, reordered_more, same_order}
 use Rattle.e_metric.proofs.answers.KindAnswers
 
 -- ---- rows with their names, one list after the other
@@ -67,25 +66,44 @@ named_append ns ms names more rows others h k = record {
 pub named_of : (ns : List NamedRow) (ps : List (RowName × GivenRow)) (names : List RowName) (rows : List GivenRow) → AreRows ns ps → AllLimited ps → names ≡ map name_in ps → rows ≡ map row_in ps → AreNamed ns names rows
 named_of ns ps names rows a l n r = record { pairs = ps; are = a; limited = l; names_are = n; rows_are = r }
 
+-- the rows of a system, in its order
+pub in_order : (which : Kind) (facts : List Lit) (wanted : Option Lit) (ps : List (RowName × GivenRow)) (names : List RowName) (rows : List GivenRow) → AreRows (system which facts wanted) ps → AllLimited ps → names ≡ map name_in ps → rows ≡ map row_in ps
+    → AreRowsOf which facts wanted names rows
+in_order which facts wanted ps names rows a l n r = record {
+  all = system which facts wanted;
+  order = same_order (system which facts wanted);
+  named = named_of (system which facts wanted) ps names rows a l n r;
+}
+
 -- ---- what is solved of such rows
 
-module _ (which : Kind) (facts : List Lit) (wanted : Option Lit) (ns : List NamedRow) (order : AreReordered ns (system which facts wanted)) (names : List RowName) (rows : List GivenRow) (named : AreNamed ns names rows)
+module _ (which : Kind) (facts : List Lit) (wanted : Option Lit) (names : List RowName) (rows : List GivenRow) (r : AreRowsOf which facts wanted names rows)
     (good : list_all is_well_formed facts ≡ true) (few : length (terms_of_lits facts) ≤ 1100) (good_wanted : is_well_formed_metric wanted ≡ true) where
   pub few_named : length rows ≤ 4096
-  few_named = KindAnswers.few_rows which facts wanted ns order named.pairs named.are named.limited good few good_wanted rows named.rows_are
+  few_named = KindAnswers.few_rows which facts wanted r.all r.order r.named.pairs r.named.are r.named.limited good few good_wanted rows r.named.rows_are
 
   pub small_named : all_small rows ≡ true
-  small_named = KindAnswers.small_rows which facts wanted ns order named.pairs named.are named.limited good few good_wanted rows named.rows_are
+  small_named = KindAnswers.small_rows which facts wanted r.all r.order r.named.pairs r.named.are r.named.limited good few good_wanted rows r.named.rows_are
+
+  -- each row has a name
+  pub as_many : length names ≡ length rows
+  as_many = omega (
+    arith,
+    ap (λ (ns : List RowName). length ns) r.named.names_are,
+    ap (λ (rs : List GivenRow). length rs) r.named.rows_are,
+    length-map r.named.pairs name_in,
+    length-map r.named.pairs row_in,
+  )
 
   pub solved_named : (v : Term → ℕ) → Satisfy v (views_of_rows rows) → Satisfy v (rows_of_system which facts wanted)
-  solved_named = KindAnswers.solved which facts wanted ns order named.pairs named.are named.limited good few good_wanted rows named.rows_are
+  solved_named = KindAnswers.solved which facts wanted r.all r.order r.named.pairs r.named.are r.named.limited good few good_wanted rows r.named.rows_are
 
   pub wide_named : (w : ℕ) → w ≡ width (rows_of_system which facts wanted) → IsWide (views_of_rows rows) → HasWidth (rows_of_system which facts wanted) w
-  wide_named = KindAnswers.has_width which facts wanted ns order named.pairs named.are named.limited good few good_wanted rows named.rows_are
+  wide_named = KindAnswers.has_width which facts wanted r.all r.order r.named.pairs r.named.are r.named.limited good few good_wanted rows r.named.rows_are
 
   pub refuted_named : (terms : List Term) (a : Absurdity) (sums : Sums) → terms ≡ with_listed (distinct_terms which facts wanted) (Right ∷ [])
       → IsAbsurdity (views_of_rows rows) a → sums ≡ certificate_sums names rows terms a → IsMetricCertificate facts wanted (record { sums = sums })
-  refuted_named terms a sums t h e = KindAnswers.refuted which facts wanted ns order named.pairs named.are named.limited good few good_wanted rows named.rows_are names terms a sums named.names_are t h e
+  refuted_named terms a sums t h e = KindAnswers.refuted which facts wanted r.all r.order r.named.pairs r.named.are r.named.limited good few good_wanted rows r.named.rows_are names terms a sums r.named.names_are t h e
 
 -- ---- values, and those of more terms
 
@@ -125,58 +143,16 @@ one_so v rows i r l e h s = subst (λ rs. Satisfy v (views_of_rows rs)) (sym (at
     at (y ∷ ys) zero x d l h = ap (λ z. z ∷ ys) (sym h)
     at (y ∷ ys) (suc k) x d l h = at ys k x d (omega (arith, l)) h
 
--- ---- the answer where more rows come after those that are kept
+-- ---- the answer where more rows come after those that are solved
 
-module _ (which : Kind) (facts : List Lit) (wanted : Option Lit) (g : SolvedSystem) (names : List RowName) (rows : List GivenRow) (t : AreTogether which facts wanted g names rows)
-    (good : list_all is_well_formed facts ≡ true) (few : length (terms_of_lits facts) ≤ 1100) (good_wanted : is_well_formed_metric wanted ≡ true) where
-  abbrev both : List GivenRow
-  both = g.solved_rows ++ rows
-
-  same_both : both ≡ g.rows.items ++ rows
-  same_both = ap (λ v. v ++ rows) t.solved_rows
-
-  named_both : AreNamed t.all (g.names.items ++ names) both
-  named_both = subst (AreNamed t.all (g.names.items ++ names)) (sym same_both) t.named
-
-  pub few_together : length both ≤ 4096
-  few_together = few_named which facts wanted t.all t.order (g.names.items ++ names) both named_both good few good_wanted
-
-  pub small_together : all_small both ≡ true
-  small_together = small_named which facts wanted t.all t.order (g.names.items ++ names) both named_both good few good_wanted
-
-  pub solved_together : (v : Term → ℕ) → Satisfy v (views_of_rows both) → Satisfy v (rows_of_system which facts wanted)
-  solved_together = solved_named which facts wanted t.all t.order (g.names.items ++ names) both named_both good few good_wanted
-
-  pub width_together : (w : ℕ) → w ≡ width (rows_of_system which facts wanted) → IsWide (views_of_rows both) → HasWidth (rows_of_system which facts wanted) w
-  width_together = wide_named which facts wanted t.all t.order (g.names.items ++ names) both named_both good few good_wanted
-
-  -- the copies that the certificate is made of
-  pub same_rows : (rs : List GivenRow) → rs ≡ g.rows.items ++ rows → rs ≡ both
-  same_rows rs e = e ∙ sym same_both
-
-  -- each row has a name
-  pub as_many : length (g.names.items ++ names) ≡ length (g.rows.items ++ rows)
-  as_many = omega (
-    arith,
-    ap (λ (ns : List RowName). length ns) t.named.names_are,
-    ap (λ (rs : List GivenRow). length rs) t.named.rows_are,
-    length-map t.named.pairs name_in,
-    length-map t.named.pairs row_in,
-  )
-
-  pub refuted_together : (all : List RowName) (rs : List GivenRow) (terms : List Term) (a : Absurdity) (sums : Sums) → all ≡ g.names.items ++ names → rs ≡ g.rows.items ++ rows
-      → terms ≡ with_listed (distinct_terms which facts wanted) (Right ∷ []) → IsAbsurdity (views_of_rows both) a → sums ≡ certificate_sums all rs terms a → IsMetricCertificate facts wanted (record { sums = sums })
-  refuted_together all rs terms a sums n r same h e =
-      refuted_named which facts wanted t.all t.order (g.names.items ++ names) both named_both good few good_wanted terms a sums same h
-      (e ∙ ap₂ {A = List RowName} {B = List GivenRow} (λ x y. certificate_sums x y terms a) n (same_rows rs r))
-
-  -- the values of the kept rows, and those of more terms, solve the system where they solve the rows after them
-  pub false_already : (values fresh : List (Term × ℕ)) (vs : List (Term × ℕ)) → vs ≡ values ++ fresh → AreValuesOf (views_of_rows g.solved_rows) values → Satisfy (assigned vs) (views_of_rows rows)
-      → Satisfy (assigned vs) (rows_of_system which facts wanted)
-  false_already values fresh vs e h s =
-      solved_together (assigned vs)
-      (subst (Satisfy (assigned vs)) (sym (map-append view_of_row g.solved_rows rows))
-      (satisfy_append (assigned vs) (views_of_rows g.solved_rows) (views_of_rows rows) (subst (λ v. Satisfy (assigned v) (views_of_rows g.solved_rows)) (sym e) (satisfy_more values fresh (views_of_rows g.solved_rows) h.all h.satisfy)) s))
+-- the values of the solved rows, and those of more terms, solve the system where they solve the rows after them
+pub false_already : (which : Kind) (facts : List Lit) (wanted : Option Lit) (names : List RowName) (solved rows : List GivenRow) → AreRowsOf which facts wanted names (solved ++ rows) → list_all is_well_formed facts ≡ true
+    → length (terms_of_lits facts) ≤ 1100 → is_well_formed_metric wanted ≡ true → (values fresh vs : List (Term × ℕ)) → vs ≡ values ++ fresh → AreValuesOf (views_of_rows solved) values → Satisfy (assigned vs) (views_of_rows rows)
+    → Satisfy (assigned vs) (rows_of_system which facts wanted)
+false_already which facts wanted names solved rows r good few good_wanted values fresh vs e h s =
+    solved_named which facts wanted names (solved ++ rows) r good few good_wanted (assigned vs)
+    (subst (Satisfy (assigned vs)) (sym (map-append view_of_row solved rows))
+    (satisfy_append (assigned vs) (views_of_rows solved) (views_of_rows rows) (subst (λ v. Satisfy (assigned v) (views_of_rows solved)) (sym e) (satisfy_more values fresh (views_of_rows solved) h.all h.satisfy)) s))
 
 -- ---- the rows of a goal
 
@@ -189,11 +165,13 @@ pub goal_terms : (which : Kind) (facts : List Lit) (l : Lit) (g : SolvedSystem) 
 goal_terms which facts l g fresh solved_system e =
     ap₂ {A = List Term} {B = List Term} (λ x y. x ++ y) solved_system.terms (e ∙ ap (λ ts. terms_added which ts (l ∷ [])) solved_system.terms) ∙ sym (all_terms which facts l)
 
-pub goal_together : (which : Kind) (facts : List Lit) (l : Lit) (g : SolvedSystem) (names : List RowName) (rows : List GivenRow) → IsSolvedSystem which facts g → AreNamed (further which facts l) names rows → AreTogether which facts (Some l) g names rows
-goal_together which facts l g names rows solved_system more = record {
-  all = solved_system.rows ++ further which facts l;
-  order = one_order (solved_system.rows ++ further which facts l) (system which facts None ++ further which facts l) (system which facts (Some l))
-      (reordered_more solved_system.rows (system which facts None) (further which facts l) solved_system.order) (with_further which facts l);
-  named = named_append solved_system.rows (further which facts l) g.names.items names g.rows.items rows solved_system.named more;
-  solved_rows = solved_system.solved_rows;
-}
+pub goal_together : (which : Kind) (facts : List Lit) (l : Lit) (g : SolvedSystem) (names : List RowName) (rows : List GivenRow) → IsSolvedSystem which facts g → AreNamed (further which facts l) names rows
+    → AreRowsOf which facts (Some l) (g.names.items ++ names) (g.solved_rows ++ rows)
+goal_together which facts l g names rows solved_system more =
+    (let solved = solved_system.rows in
+    record {
+      all = solved.all ++ further which facts l;
+      order = one_order (solved.all ++ further which facts l) (system which facts None ++ further which facts l) (system which facts (Some l))
+          (reordered_more solved.all (system which facts None) (further which facts l) solved.order) (with_further which facts l);
+      named = named_append solved.all (further which facts l) g.names.items names g.solved_rows rows solved.named more;
+    })

@@ -1,6 +1,7 @@
 -- The sums of a certificate, from multipliers of the rows of a system.
 use Rattle.std.specs.Prelude.{◌≡◌, ℕ, ◌≤◌, ◌^◌, List, [], ◌∷◌, ◌++◌, if◌then◌else◌, ℤ, pos, neg_ℤ}
-use Rattle.std.specs.Prelude.{int_lt, unsigned_abs, length, get_or, set, IsTrue}
+use Rattle.std.specs.Prelude.{int_lt, unsigned_abs, length, get_or, set, IsTrue, Option, Some, None}
+use Rattle.std.specs.Borrow.{Bor}
 use Rattle.std.specs.Ordering.{int_eq}
 use Rattle.e_literal.specs.declared.object.Term.{Term}
 use Rattle.e_literal.specs.Same.{canonical}
@@ -43,6 +44,11 @@ abbrev pub certificate_sum : List RowName → List GivenRow → List ℤ → Lis
     → List (ℤ × RowName)
 certificate_sum names rows multipliers weights terms =
     named_multipliers names multipliers ++ leasts (total (weighed rows weights)) terms
+
+-- the names, where the row at the place has another one, if one is given
+abbrev pub renamed_at : List RowName → Option (ℕ × Bor RowName) → List RowName
+renamed_at names None = names
+renamed_at names (Some p) = set names p.0 p.1.now
 
 -- the number at the place negated
 abbrev pub negated_place : List ℤ → ℕ → List ℤ

@@ -11,12 +11,12 @@ use Rattle.e_metric.proofs.certificates.sums_of.Goals as goal
 pub sum_of-requires-clause-names : goal.sum_of-requires-clause-names
 sum_of-requires-clause-names c =
     let h : Refutes (views_of_rows c.args.rows.now) c.in-One.multipliers.items = subst (λ (a : Absurdity). IsAbsurdity (views_of_rows c.args.rows.now) a) c.in-One.is c.requires.refuted in
-    ap (λ (xs : List ℤ). length xs) c.deref-in-One.ensures.value ∙ one_length c.args.rows.now c.requires.few c.requires.coefficients c.in-One.multipliers.items h ∙ sym c.requires.names ∙ sym (ap (λ xs. length xs) c.deref.ensures.value)
+    ap (λ (xs : List ℤ). length xs) c.deref.ensures.value ∙ one_length c.args.rows.now c.requires.few c.requires.coefficients c.in-One.multipliers.items h ∙ sym c.requires.names
 
 pub sum_of-requires-clause-rows : goal.sum_of-requires-clause-rows
 sum_of-requires-clause-rows c =
     let h : Refutes (views_of_rows c.args.rows.now) c.in-One.multipliers.items = subst (λ (a : Absurdity). IsAbsurdity (views_of_rows c.args.rows.now) a) c.in-One.is c.requires.refuted in
-    subst (λ (xs : List ℤ). IsWeighable c.args.rows.now xs) (sym c.deref-in-One-2.ensures.value) (one_weighable c.args.rows.now c.requires.few c.requires.coefficients c.in-One.multipliers.items h)
+    subst (λ (xs : List ℤ). IsWeighable c.args.rows.now xs) (sym c.deref-in-One.ensures.value) (one_weighable c.args.rows.now c.requires.few c.requires.coefficients c.in-One.multipliers.items h)
 
 pub two_sums-requires-clause-here : goal.two_sums-requires-clause-here
 two_sums-requires-clause-here c =

@@ -7,7 +7,7 @@ use Rattle.e_metric.proofs.kind_system.KindSystem.copy.Goals as goal
 pub returns-in_ok-solved_system-in-Solved : goal.returns-in_ok-solved_system-in-Solved
 returns-in_ok-solved_system-in-Solved c = λ which facts h.
     let e = c.in_ok-solved_system-in-Solved.ensures in
-    same_solved which facts c.in-Solved.solved_system c.in_ok-solved_system-in-Solved.solved_system e.names e.rows e.terms e.raised e.solved_rows (subst (IsKindSystem which facts) c.in-Solved.is h)
+    same_solved which facts c.in-Solved.solved_system c.in_ok-solved_system-in-Solved.solved_system e.names e.terms e.raised e.solved_rows (subst (IsKindSystem which facts) c.in-Solved.is h)
 
 pub returns-in_ok-cert-in-Absurd : goal.returns-in_ok-cert-in-Absurd
 returns-in_ok-cert-in-Absurd c = λ which facts h.

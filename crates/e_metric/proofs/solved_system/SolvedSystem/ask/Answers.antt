@@ -1,4 +1,4 @@
-use Rattle.std.proofs.Common.{◌∙◌, ◌∷◌, [], ap, subst, map, Some}
+use Rattle.std.proofs.Common.{◌∙◌, ◌∷◌, ◌++◌, [], ap, subst, map, Some}
 use Rattle.e_literal.specs.Same.{canonical}
 use Rattle.e_literal.specs.Solution.{Satisfy}
 use Rattle.e_fraction.specs.Views.{views_of_rows}
@@ -14,7 +14,7 @@ returns-then-are_so c =
     let l = c.args.goal.now in
     let g = c.args.self.now in
     let rows_are = asked c.args.which facts l g c.deref-2.result.now c.requires.solved_system (c.deref-2.ensures.value ∙ c.in_ok-fresh.ensures ∙ ap (λ ts. terms_added c.args.which ts (l ∷ [])) c.deref.ensures.value) in
-    false_already c.args.which facts (Some l) g c.in_ok-names.names.items c.deref-4.result.now
+    false_already c.args.which facts (Some l) (g.names.items ++ c.in_ok-names.names.items) g.solved_rows c.deref-4.result.now
     (goal_together c.args.which facts l g c.in_ok-names.names.items c.deref-4.result.now c.requires.solved_system
     (named_of (further c.args.which facts l) c.in_ok-named.named.items c.in_ok-names.names.items c.deref-4.result.now
     (subst (λ ns. AreRows ns c.in_ok-named.named.items) rows_are c.in_ok-named.ensures.rows) c.in_ok-named.ensures.limited
