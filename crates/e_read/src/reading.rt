@@ -166,7 +166,7 @@ impl BlockParser {
     }
 
     /// Takes a line of a certificate.
-    #[tactic(auto, unfolding(crate::specs::inner::Machine::parser_after_certificate), using(crate::proofs::SeenAgain::line_read))]
+    #[tactic(auto, unfolding(crate::specs::inner::Machine::parser_after_certificate))]
     fn take_certificate(
         &mut self,
         alloc: Global,
@@ -289,7 +289,7 @@ impl BlockParser {
     }
 
     /// Takes a line by its bytes.
-    #[tactic(auto, unfolding(crate::specs::inner::Machine::parser_after_bytes), using(crate::proofs::SeenAgain::line_again))]
+    #[tactic(auto, unfolding(crate::specs::inner::Machine::parser_after_bytes))]
     fn take_bytes(&mut self, alloc: Global, known: &Theorems, line: &[u8]) -> Result<(), LineError>
         requires reading { FitsReading self.old }
         requires few { OnSome self.old.parser (length known.now ≤ most_theorems) }
