@@ -18,13 +18,13 @@ use Rattle.e_clause.specs.Counterexample.{ListsCounterexample}
 use Rattle.e_clause.specs.Rows.{between, on}
 use Rattle.e_construct.specs.declared.construction.Construction.{Construction}
 use Rattle.e_construct.specs.declared.construction.Shape.TheVariants.{LineThrough, Within}
-use Rattle.e_construct.specs.Shapes.{shape_row, apart}
+use Rattle.e_construct.specs.Shapes.{shape_row, neq}
 use Rattle.e_clause.specs.Table.{table}
 use Rattle.e_clause.specs.Table.Incidence.{incidence}
 use Rattle.e_clause.specs.Instance.{Inst}
 use Rattle.e_deriv.specs.declared.stop.Wanted.TheVariants.{Literal, Contradiction as AContradiction}
 use Rattle.e_deriv.specs.declared.names.Names.{Names}
-use Rattle.e_deriv.specs.Script.{Script, Cite, Hence, Make, Apply, Claim, Qed, Contradiction, Cases, size, depth, script_without_certs}
+use Rattle.e_deriv.specs.Script.{Script, Cite, Hence, Make, Apply, Claim, Qed, Contradiction, Cases, size, depth, bare_script}
 use Rattle.e_deriv.specs.PlacedSteps.{placed_step, placed_steps}
 use Rattle.e_deriv.specs.Goal.{goal_of_statement}
 use Rattle.e_deriv.specs.Licensed.{IsFirstUnlicensed}
@@ -66,24 +66,24 @@ unfolding placed_steps with_fact Inst table incidence
 four_verified = refl
 
 -- a script's hence has no certificate
-bare_at_two : verdict [] four (script_without_certs derivation) ≡ Err 2
-unfolding placed_steps with_fact Inst table incidence script_without_certs
+bare_at_two : verdict [] four (bare_script derivation) ≡ Err 2
+unfolding placed_steps with_fact Inst table incidence bare_script
 bare_at_two = refl
 
 -- with one premise less the first line is not licensed, and it lacks the literal cited
-one_less_stops : IsFirstUnlicensed [] one_less (script_without_certs derivation) 1 (Literal (between 0 1 3))
-unfolding placed_steps with_fact Inst table incidence script_without_certs
+one_less_stops : IsFirstUnlicensed [] one_less (bare_script derivation) 1 (Literal (between 0 1 3))
+unfolding placed_steps with_fact Inst table incidence bare_script
 one_less_stops =
     record {
-      step = placed_step (script_without_certs derivation) (script_without_certs derivation) (record { points = 4; lines = 0; circles = 0 }) (between 0 1 2 ∷ []) (goal_of_statement one_less);
-      context = record { filled = script_without_certs derivation; place = 0; number = refl; at = refl; earlier = tt };
+      step = placed_step (bare_script derivation) (bare_script derivation) (record { points = 4; lines = 0; circles = 0 }) (between 0 1 2 ∷ []) (goal_of_statement one_less);
+      context = record { filled = bare_script derivation; place = 0; number = refl; at = refl; earlier = tt };
       lacks = (refl, refl);
     }
 
 -- ---- of two points that differ: there is a point between them
 
 abbrev apart_points : List Lit
-apart_points = apart (point 0) (point 1) ∷ []
+apart_points = neq (point 0) (point 1) ∷ []
 
 abbrev halfway : List Lit → StatementView
 halfway given = record { declared = Point ∷ Point ∷ []; given = given; made = Point ∷ []; shown = between 0 2 1 ∷ [] }
@@ -184,11 +184,11 @@ with_point shown rest =
     Claim shown (Make within ((101 ∷ []) ∷ []) (Plain Fact ∷ Plain Fact ∷ Plain Fact ∷ []) (Qed [] (Plain Fact ∷ []))) rest
 
 abbrev two_on_line : List Lit
-two_on_line = apart (point 0) (point 1) ∷ []
+two_on_line = neq (point 0) (point 1) ∷ []
 
 abbrev on_one_line : StatementView
 on_one_line =
-    record { declared = Point ∷ Point ∷ Line ∷ []; given = apart (point 0) (point 1) ∷ on 0 0 ∷ on 1 0 ∷ []; made = []; shown = two_on_line }
+    record { declared = Point ∷ Point ∷ Line ∷ []; given = neq (point 0) (point 1) ∷ on 0 0 ∷ on 1 0 ∷ []; made = []; shown = two_on_line }
 
 claim_certified : Certified [] on_one_line (with_point two_on_line (Qed [] (Plain Fact ∷ [])))
 unfolding placed_steps with_fact shape_row

@@ -12,7 +12,7 @@ use Rattle.e_deriv.specs.declared.block.Block.{Block}
 use Rattle.e_deriv.specs.declared.block.Step.{Step, Row_of-Step, end_of-Step, more_of-Step, items-the_row-Step, items_hidden-the_row-Step-0}
 use Rattle.e_deriv.specs.declared.block.Step.TheVariants.{Cite as CiteStep, Hence as HenceStep, Make as MakeStep, Apply as ApplyStep, Claim as ClaimStep, Superposed as SuperposedStep, Claim', Superposed'}
 use Rattle.e_deriv.specs.declared.block.Close.TheVariants.{Qed as QedClose, Contradiction as ContradictionClose, Cases as CasesClose}
-use Rattle.e_deriv.specs.Script.{Script, Cite, Hence, Make, Apply, Claim, Superposed, Qed, Contradiction, Cases, step_script, row_script, close_script, steps_script, script_of, size, depth, script_without_certs}
+use Rattle.e_deriv.specs.Script.{Script, Cite, Hence, Make, Apply, Claim, Superposed, Qed, Contradiction, Cases, step_script, row_script, close_script, steps_script, script_of, size, depth, bare_script}
 use Rattle.e_deriv.specs.PlainStep.{Cited, Inferred, Made, Applied, Claimed, Copied, plain_step, before}
 
 row_script-items : (n : _) (row : Row_of-Step n) (rest : Script) → row_script row rest ≡ steps_script (items-the_row-Step n row) rest
@@ -145,47 +145,47 @@ depth-Cases lit first second = refl
 
 pub ruleset depths = (common_steps, scripts, depth-Cite, depth-Hence, depth-Make, depth-Apply, depth-Claim, depth-Superposed, depth-Qed, depth-Contradiction, depth-Cases)
 
-pub script_without_certs-Cite : (by : By) (rest : Script) → script_without_certs (Cite by rest) ≡ Cite by (script_without_certs rest)
-unfolding script_without_certs
-script_without_certs-Cite by rest = refl
+pub bare_script-Cite : (by : By) (rest : Script) → bare_script (Cite by rest) ≡ Cite by (bare_script rest)
+unfolding bare_script
+bare_script-Cite by rest = refl
 
-pub script_without_certs-Hence : (lit : Lit) (cert : Option Cert) (rest : Script) → script_without_certs (Hence lit cert rest) ≡ Hence lit None (script_without_certs rest)
-unfolding script_without_certs
-script_without_certs-Hence lit cert rest = refl
+pub bare_script-Hence : (lit : Lit) (cert : Option Cert) (rest : Script) → bare_script (Hence lit cert rest) ≡ Hence lit None (bare_script rest)
+unfolding bare_script
+bare_script-Hence lit cert rest = refl
 
-pub script_without_certs-Make : (construction : Construction) (names : List (List ℕ)) (certs : List Cert) (rest : Script) → script_without_certs (Make construction names certs rest) ≡ Make construction names [] (script_without_certs rest)
-unfolding script_without_certs
-script_without_certs-Make construction names certs rest = refl
+pub bare_script-Make : (construction : Construction) (names : List (List ℕ)) (certs : List Cert) (rest : Script) → bare_script (Make construction names certs rest) ≡ Make construction names [] (bare_script rest)
+unfolding bare_script
+bare_script-Make construction names certs rest = refl
 
-pub script_without_certs-Apply : (theorem : ℕ) (args : List (Option Obj)) (names : List (List ℕ)) (certs : List Cert) (rest : Script) → script_without_certs (Apply theorem args names certs rest) ≡ Apply theorem args names [] (script_without_certs rest)
-unfolding script_without_certs
-script_without_certs-Apply theorem args names certs rest = refl
+pub bare_script-Apply : (theorem : ℕ) (args : List (Option Obj)) (names : List (List ℕ)) (certs : List Cert) (rest : Script) → bare_script (Apply theorem args names certs rest) ≡ Apply theorem args names [] (bare_script rest)
+unfolding bare_script
+bare_script-Apply theorem args names certs rest = refl
 
-pub script_without_certs-Claim : (shown : List Lit) (inner : Script) (rest : Script) → script_without_certs (Claim shown inner rest) ≡ Claim shown (script_without_certs inner) (script_without_certs rest)
-unfolding script_without_certs
-script_without_certs-Claim shown inner rest = refl
+pub bare_script-Claim : (shown : List Lit) (inner : Script) (rest : Script) → bare_script (Claim shown inner rest) ≡ Claim shown (bare_script inner) (bare_script rest)
+unfolding bare_script
+bare_script-Claim shown inner rest = refl
 
-pub script_without_certs-Superposed : (superposition : Superpose) (names : List (List ℕ)) (shown : List Lit) (certs : List Cert) (inner : Script) (rest : Script) → script_without_certs (Superposed superposition names shown certs inner rest) ≡ Superposed superposition names shown [] (script_without_certs inner) (script_without_certs rest)
-unfolding script_without_certs
-script_without_certs-Superposed superposition names shown certs inner rest = refl
+pub bare_script-Superposed : (superposition : Superpose) (names : List (List ℕ)) (shown : List Lit) (certs : List Cert) (inner : Script) (rest : Script) → bare_script (Superposed superposition names shown certs inner rest) ≡ Superposed superposition names shown [] (bare_script inner) (bare_script rest)
+unfolding bare_script
+bare_script-Superposed superposition names shown certs inner rest = refl
 
-pub script_without_certs-Qed : (objects : List Obj) (certs : List Cert) → script_without_certs (Qed objects certs) ≡ Qed objects []
-unfolding script_without_certs
-script_without_certs-Qed objects certs = refl
+pub bare_script-Qed : (objects : List Obj) (certs : List Cert) → bare_script (Qed objects certs) ≡ Qed objects []
+unfolding bare_script
+bare_script-Qed objects certs = refl
 
-pub script_without_certs-Contradiction : (against : Option Against) → script_without_certs (Contradiction against) ≡ Contradiction None
-unfolding script_without_certs
-script_without_certs-Contradiction against = refl
+pub bare_script-Contradiction : (against : Option Against) → bare_script (Contradiction against) ≡ Contradiction None
+unfolding bare_script
+bare_script-Contradiction against = refl
 
-pub script_without_certs-Cases : (lit : Lit) (first : Script) (second : Script) → script_without_certs (Cases lit first second) ≡ Cases lit (script_without_certs first) (script_without_certs second)
-unfolding script_without_certs
-script_without_certs-Cases lit first second = refl
+pub bare_script-Cases : (lit : Lit) (first : Script) (second : Script) → bare_script (Cases lit first second) ≡ Cases lit (bare_script first) (bare_script second)
+unfolding bare_script
+bare_script-Cases lit first second = refl
 
 pub steps_script-append : (xs ys : List Step) (rest : Script) → steps_script (xs ++ ys) rest ≡ steps_script xs (steps_script ys rest)
 steps_script-append [] ys rest = refl
 steps_script-append (x ∷ xs) ys rest = ap (step_script x) (steps_script-append xs ys rest)
 
-pub ruleset erasing = (common_steps, scripts, script_without_certs-Cite, script_without_certs-Hence, script_without_certs-Make, script_without_certs-Apply, script_without_certs-Claim, script_without_certs-Superposed, script_without_certs-Qed, script_without_certs-Contradiction, script_without_certs-Cases, steps_script-append)
+pub ruleset erasing = (common_steps, scripts, bare_script-Cite, bare_script-Hence, bare_script-Make, bare_script-Apply, bare_script-Claim, bare_script-Superposed, bare_script-Qed, bare_script-Contradiction, bare_script-Cases, steps_script-append)
 
 -- the step at this place, and what comes after it; the loop goes over `seen`
 pub steps_at : (items seen : List Step) (rest : Script) (i : ℕ) (s : Step) → seen ≡ items → i < length seen → s ≡ get_or seen i s →

@@ -89,18 +89,14 @@ depth (Contradiction against) = 1
 depth (Cases lit first second) = 1 + max (depth first) (depth second)
 
 -- without its certificates
-unfoldable pub script_without_certs : Script → Script
-script_without_certs (Cite by rest) = Cite by (script_without_certs rest)
-script_without_certs (Hence lit cert rest) = Hence lit None (script_without_certs rest)
-script_without_certs (Make construction names certs rest) =
-    Make construction names [] (script_without_certs rest)
-script_without_certs (Apply theorem args names certs rest) =
-    Apply theorem args names [] (script_without_certs rest)
-script_without_certs (Claim shown inner rest) =
-    Claim shown (script_without_certs inner) (script_without_certs rest)
-script_without_certs (Superposed superposition names shown certs inner rest) =
-    Superposed superposition names shown [] (script_without_certs inner) (script_without_certs rest)
-script_without_certs (Qed objects certs) = Qed objects []
-script_without_certs (Contradiction against) = Contradiction None
-script_without_certs (Cases lit first second) =
-    Cases lit (script_without_certs first) (script_without_certs second)
+unfoldable pub bare_script : Script → Script
+bare_script (Cite by rest) = Cite by (bare_script rest)
+bare_script (Hence lit cert rest) = Hence lit None (bare_script rest)
+bare_script (Make construction names certs rest) = Make construction names [] (bare_script rest)
+bare_script (Apply theorem args names certs rest) = Apply theorem args names [] (bare_script rest)
+bare_script (Claim shown inner rest) = Claim shown (bare_script inner) (bare_script rest)
+bare_script (Superposed superposition names shown certs inner rest) =
+    Superposed superposition names shown [] (bare_script inner) (bare_script rest)
+bare_script (Qed objects certs) = Qed objects []
+bare_script (Contradiction against) = Contradiction None
+bare_script (Cases lit first second) = Cases lit (bare_script first) (bare_script second)

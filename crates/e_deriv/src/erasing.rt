@@ -3,10 +3,10 @@ ghost use Rattle.std.specs.Prelude.{◌≡◌, [], IfOk};
 ghost use Rattle.e_deriv.specs.declared.block.Step.TheVariants.{Make as MakeStep};
 ghost use Rattle.e_deriv.specs.declared.block.Step.TheVariants.{Apply as ApplyStep};
 ghost use Rattle.e_deriv.specs.Script.{Script, script_of, step_script};
-ghost use Rattle.e_deriv.specs.Script.{close_script, script_without_certs};
+ghost use Rattle.e_deriv.specs.Script.{close_script, bare_script};
 
 use crate::block::{Block, Close, Step};
-use crate::inner::{claim, cases, superpose};
+use crate::inner::{cases, claim, superpose};
 use e_clause::By;
 use e_construct::Construction;
 use e_literal::{Items, Lit, Obj, copy};
@@ -18,7 +18,7 @@ use std::mem;
 #[cycle(erase)]
 #[tactic(auto, using(crate::proofs::Scripts::erasing))]
 pub fn erase(alloc: Global, block: &Block) -> Result<Block, AllocError>
-    ensures { IfOk result (λ b. script_of b ≡ script_without_certs (script_of block.now)) }
+    ensures { IfOk result (λ b. script_of b ≡ bare_script (script_of block.now)) }
 {
     let mut steps = Vec::new(alloc);
     for step in &block.steps {
@@ -43,8 +43,8 @@ pub fn erase(alloc: Global, block: &Block) -> Result<Block, AllocError>
 #[cycle(erase)]
 #[tactic(auto, using(crate::proofs::Scripts::erasing))]
 fn erase_step(alloc: Global, step: &Step) -> Result<Step, AllocError>
-    ensures { IfOk result (λ s. (rest : Script) → step_script s (script_without_certs rest)
-        ≡ script_without_certs (step_script step.now rest)) }
+    ensures { IfOk result (λ s. (rest : Script) → step_script s (bare_script rest)
+        ≡ bare_script (step_script step.now rest)) }
 {
     match step {
         Step::Cite(by) => Ok(Step::Cite(copy_by(alloc, by)?)),
@@ -91,7 +91,7 @@ fn erase_step(alloc: Global, step: &Step) -> Result<Step, AllocError>
 #[cycle(erase)]
 #[tactic(auto, using(crate::proofs::Scripts::erasing))]
 fn erase_close(alloc: Global, close: &Close) -> Result<Close, AllocError>
-    ensures { IfOk result (λ c. close_script c ≡ script_without_certs (close_script close.now)) }
+    ensures { IfOk result (λ c. close_script c ≡ bare_script (close_script close.now)) }
 {
     match close {
         Close::Qed { objects, .. } => {

@@ -6,7 +6,7 @@ use Rattle.e_text.specs.declared.line.LineFault.{LineFault}
 use Rattle.e_literal.specs.Use.{scope_of}
 use Rattle.e_clause.specs.declared.cert.Version.{Version}
 use Rattle.e_theorem.specs.Statements.{stated}
-use Rattle.e_deriv.specs.Script.{script_without_certs}
+use Rattle.e_deriv.specs.Script.{bare_script}
 use Rattle.e_deriv.specs.Goal.{facts_of_statement, goal_of_statement}
 use Rattle.e_deriv.specs.Fitting.{is_small_statement, IsFitting}
 use Rattle.e_names.specs.TitledStatements.{TitledStatement, stated_by}
@@ -25,11 +25,11 @@ pub verifiable : (v : Version) (known : List TitledStatement) (last : ℕ) (line
 verifiable v known last lines rest t states small spelled e =
     let bs = stated_by known in
     let st = stated t.statement in
-    let fit : IsFitting bs st (script_without_certs t.script) = fitting known (without_certs t) states spelled.fits in
+    let fit : IsFitting bs st (bare_script t.script) = fitting known (without_certs t) states spelled.fits in
     record {
       statements = states;
       statement = small;
       short = omega (arith, fit.short, size_erased t.script);
-      scopes = small_with bs t.script (script_without_certs t.script) t.script (scope_of st) (facts_of_statement st) (facts_of_statement st) (goal_of_statement st) (goal_of_statement st) fit.scopes;
+      scopes = small_with bs t.script (bare_script t.script) t.script (scope_of st) (facts_of_statement st) (facts_of_statement st) (goal_of_statement st) (goal_of_statement st) fit.scopes;
       written = written_well t.script (sym (erased_literals t.script) ∙ spelled.fits.good_script) (good_certs_read v known last lines rest t e);
     }

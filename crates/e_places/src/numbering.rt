@@ -15,7 +15,7 @@ ghost use Rattle.e_deriv.specs.declared.block.Close.TheVariants.{
 };
 ghost use Rattle.e_deriv.specs.declared.block.Step.TheVariants.{Apply as ApplyStep};
 ghost use Rattle.e_deriv.specs.Script.{Cite, Hence, Make, Apply, Claim, Superposed, Qed};
-ghost use Rattle.e_deriv.specs.Script.{script_of, step_script, close_script, script_without_certs};
+ghost use Rattle.e_deriv.specs.Script.{script_of, step_script, close_script, bare_script};
 ghost use Rattle.e_deriv.specs.Versions.{has_certs_of};
 ghost use Rattle.e_places.specs.Numbered;
 ghost use Rattle.e_places.specs.Numbered.{derivation_with_places};
@@ -32,8 +32,8 @@ use crate::ending::{Head, end_claim, end_superposition};
 use crate::places::{placed_against, placed_cert, placed_certs};
 use e_clause::{Against, By, Cert};
 use e_construct::{Construction, Superpose};
-use e_deriv::{Block, Close, Goal, Step, copy_by, copy_construction, cases};
-use e_literal::{Items, Lit, NOTHING, Obj, Scope, copy, grown, next_objects};
+use e_deriv::{Block, Close, Goal, Step, cases, copy_by, copy_construction};
+use e_literal::{Items, Lit, NOTHING, Obj, Scope, copy, next_objects, with_sorts};
 use e_text::Name;
 use e_theorem::{Applied, Statement, UseFault, use_of};
 use e_verify::{Facts, StepState, goal_with, state_at_start, written_args};
@@ -61,12 +61,12 @@ pub fn numbered(
     ensures numbered { IfOk result (λ d. script_of d ≡ derivation_with_places
         (all_stated before.now) (stated statement.now) (script_of deriv.now)) }
     ensures script { IfOk result
-        (λ d. script_without_certs (script_of d) ≡ script_without_certs (script_of deriv.now)) }
+        (λ d. bare_script (script_of d) ≡ bare_script (script_of deriv.now)) }
     ensures certified { IfOk result
         (λ d. Certified (all_stated before.now) (stated statement.now) (script_of d)) }
     ensures version { IfOk result (λ d. IsTrue (has_certs_of version.Two (script_of d))) }
 {
-    let scope = grown(NOTHING, statement.declared.items());
+    let scope = with_sorts(NOTHING, statement.declared.items());
     let made = next_objects(alloc, scope, statement.made.items())?;
     let mut state = state_at_start(alloc, scope, statement)?;
     let goal = Goal {

@@ -21,8 +21,8 @@ use Rattle.e_licence.specs.declared.contradiction.Refuted.TheVariants as refuted
 use Rattle.e_licence.specs.Licences.{IsCertifiedAgainst, IsConsistentBy, IsAnswerAgainst}
 use Rattle.e_deriv.specs.declared.block.Close.TheVariants.{Qed as QedClose, Contradiction as ContradictionClose}
 use Rattle.e_deriv.specs.declared.stop.Wanted.TheVariants.{Literal, Match, Contradiction as AContradiction}
-use Rattle.e_deriv.specs.Script.{Qed, close_script, script_without_certs}
-use Rattle.e_prove.specs.declared.step_state.StepState.{StepState}
+use Rattle.e_deriv.specs.Script.{Qed, close_script, bare_script}
+use Rattle.e_prove.specs.declared.place.Place.{Place}
 use Rattle.e_prove.specs.inner.PassedSteps.{IsReadyFor}
 use Rattle.e_deriv.specs.Goal.{Goal, are_for, goal_with}
 use Rattle.e_deriv.specs.Parts.{filled_by}
@@ -39,19 +39,19 @@ pub record QedFits (objects : List Obj) (x : Basis) (goal : Goal) : Type 0 where
   pub form : are_for goal x.scope objects ≡ true
   pub lits : are_well_formed_in x.scope (goal_with goal objects) ≡ true
 
-qed_lines : (before : List StatementView) (objects : List Obj) (certs : List Cert) (x : StepState) (goal : Goal) → IsReadyFor before (Qed objects certs) x goal → QedFits objects x.context goal
+qed_lines : (before : List StatementView) (objects : List Obj) (certs : List Cert) (x : Place) (goal : Goal) → IsReadyFor before (Qed objects certs) x goal → QedFits objects x.context goal
 unfolding placed_steps
 qed_lines before objects certs x goal r =
     let form = and_left (are_for goal x.context.scope objects) true r.forms in
     record { form = form; lits = ((r.lits (Qed objects certs)).1 form).0 }
 
-pub qed_fits : (before : List StatementView) (objects : List Obj) (certs : List Cert) (x : StepState) (goal : Goal) → IsReadyFor before (close_script (QedClose objects certs)) x goal → QedFits objects x.context goal
+pub qed_fits : (before : List StatementView) (objects : List Obj) (certs : List Cert) (x : Place) (goal : Goal) → IsReadyFor before (close_script (QedClose objects certs)) x goal → QedFits objects x.context goal
 unfolding close_script
 qed_fits before objects certs x goal r = qed_lines before objects certs x goal r
 
 closed_by : (before : List StatementView) (objects : List Obj) (written certs : List Cert) (x : Basis) (goal : Goal) → are_for goal x.scope objects ≡ true →
     IsTrue (certify_all x.scope x.facts (goal_with goal objects) certs) → IsTrue (list_all (is_cert_of version.One) certs) → IsLicensedClose before (QedClose objects written) x goal (QedClose objects certs)
-unfolding placed_steps script_without_certs filled_by close_script has_certs_of
+unfolding placed_steps bare_script filled_by close_script has_certs_of
 closed_by before objects written certs x goal form h g =
     record {
       licensed = (record { fits = form; allowed = all_allowed_of_certified x.scope x.facts (goal_with goal objects) certs h; others = tt }, tt);
@@ -86,7 +86,7 @@ qed_stops before objects written wanted x goal h all k = qed_stops_by before obj
 -- a contradiction with its certificate
 closed_by_against : (before : List StatementView) (written : Option Against) (a : Against) (x : Basis) (goal : Goal) → IsCertifiedAgainst x a →
     IsLicensedClose before (ContradictionClose written) x goal (ContradictionClose (Some a))
-unfolding placed_steps script_without_certs filled_by close_script has_certs_of
+unfolding placed_steps bare_script filled_by close_script has_certs_of
 closed_by_against before written a x goal h =
     record {
       licensed = (record { fits = refl; allowed = tt; others = contradictory_of_certified x.scope x.facts a h.certifies }, tt);

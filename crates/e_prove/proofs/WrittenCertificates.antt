@@ -6,7 +6,7 @@ use Rattle.e_literal.proofs.Booleans.{and_left, and_right}
 use Rattle.e_clause.specs.declared.cert.Cert.{Cert}
 use Rattle.e_book.specs.Fits.{has_well_formed_literals}
 use Rattle.e_book.proofs.fit_theorems.WrittenScripts.{erased_literals, filled_literals, written_well}
-use Rattle.e_deriv.specs.Script.{Script, script_without_certs}
+use Rattle.e_deriv.specs.Script.{Script, bare_script}
 use Rattle.e_deriv.specs.Parts.{filled_by}
 use Rattle.e_clause.specs.declared.cert.Version.TheVariants as version
 use Rattle.e_clause.specs.Versions.{is_cert_of}
@@ -16,14 +16,14 @@ use Rattle.e_deriv.proofs.Versions.{good_of_version}
 
 -- ---- certificates and blanks are no part of the literals
 
-same_literals : (script derived : Script) → script_without_certs derived ≡ filled_by (script_without_certs script) derived → has_well_formed_literals derived ≡ has_well_formed_literals script
+same_literals : (script derived : Script) → bare_script derived ≡ filled_by (bare_script script) derived → has_well_formed_literals derived ≡ has_well_formed_literals script
 same_literals script derived e =
-    sym (erased_literals derived) ∙ ap has_well_formed_literals e ∙ filled_literals (script_without_certs script) derived ∙ erased_literals script
+    sym (erased_literals derived) ∙ ap has_well_formed_literals e ∙ filled_literals (bare_script script) derived ∙ erased_literals script
 
 -- ---- good literals and good certificates
 
 -- what is derived from a script with good literals, with good certificates, is written well
-pub each_written_well : (script d : Script) → script_without_certs d ≡ filled_by (script_without_certs script) d → has_certs_of version.One d ≡ true → has_well_formed_literals script ≡ true → is_written_well d ≡ true
+pub each_written_well : (script d : Script) → bare_script d ≡ filled_by (bare_script script) d → has_certs_of version.One d ≡ true → has_well_formed_literals script ≡ true → is_written_well d ≡ true
 each_written_well script d e k h = written_well d (same_literals script d e ∙ h) (good_of_version version.One d k)
 
 -- ---- certificates one after the other

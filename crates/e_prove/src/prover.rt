@@ -1,7 +1,7 @@
 //! The derivation of a theorem from its script.
 ghost use Rattle.std.specs.Prelude.{◌≡◌, IfOk, IfErr, IsTrue};
 ghost use Rattle.e_theorem.specs.Statements.{stated, all_stated};
-ghost use Rattle.e_deriv.specs.Script.{script_of, script_without_certs};
+ghost use Rattle.e_deriv.specs.Script.{script_of, bare_script};
 ghost use Rattle.e_deriv.specs.Parts.{filled_by};
 ghost use Rattle.e_deriv.specs.PlacedSteps.{proof_steps};
 ghost use Rattle.e_deriv.specs.Licensed.{AllLicensed};
@@ -14,7 +14,7 @@ ghost use Rattle.e_clause.specs.declared.cert.Version.TheVariants as version;
 ghost use Rattle.e_deriv.specs.Versions.{has_certs_of};
 
 use crate::block::prove_block;
-use crate::step_state::StepState;
+use crate::place::Place;
 use e_book::Theorem;
 use e_deriv::{Block, Goal, Stop};
 use e_literal::next_objects;
@@ -38,8 +38,8 @@ pub fn prove(alloc: Global, before: &[Statement], theorem: &Theorem) -> Result<B
         (script_of theorem.now.block) }
     ensures certified { IfOk result
         (λ d. Certified (all_stated before.now) (stated theorem.now.statement) (script_of d)) }
-    ensures script { IfOk result (λ d. script_without_certs (script_of d)
-        ≡ filled_by (script_without_certs (script_of theorem.now.block)) (script_of d)) }
+    ensures script { IfOk result (λ d. bare_script (script_of d)
+        ≡ filled_by (bare_script (script_of theorem.now.block)) (script_of d)) }
     ensures least { IfOk
         result (λ d. AllLicensed (all_stated before.now) (proof_steps (all_stated before.now)
         (stated theorem.now.statement) (script_of theorem.now.block) (script_of d))) }
@@ -53,7 +53,7 @@ pub fn prove(alloc: Global, before: &[Statement], theorem: &Theorem) -> Result<B
         theorem.now.names (script_of theorem.now.block)) }
 {
     let statement = &theorem.statement;
-    let mut state = StepState::first(alloc, statement, &theorem.names)?;
+    let mut state = Place::first(alloc, statement, &theorem.names)?;
     let made = match next_objects(alloc, state.context.scope(), statement.made.items()) {
         Ok(made) => made,
         Err(_) => {

@@ -5,7 +5,7 @@ use Rattle.e_text.specs.Lines.{LineView, Ahead}
 use Rattle.e_text.specs.declared.line.LineFault.{LineFault}
 use Rattle.e_theorem.specs.Statements.{stated}
 use Rattle.e_clause.specs.declared.cert.Version.{Version}
-use Rattle.e_deriv.specs.Script.{Script, script_without_certs, script_of}
+use Rattle.e_deriv.specs.Script.{Script, bare_script, script_of}
 use Rattle.e_deriv.specs.Versions.{has_certs_of}
 use Rattle.e_deriv.specs.Fitting.{is_small_statement}
 use Rattle.e_names.specs.TitledStatements.{TitledStatement}
@@ -38,7 +38,7 @@ bare_is : (v : Version) (known : List TitledStatement) (last : ℕ) (lines rest 
 bare_is v known last lines rest t e =
     let p = plainly known last (at_start v) lines rest t refl e in
     let h = read_is_spelled known last p.entry (filter is_of_theorem p.front ++ rest) rest p.read in
-    let script : script_without_certs (script_with_certs p.entry.script p.kept).0 ≡ p.entry.script = erased_filled p.entry.script p.kept ∙ erased_plain p.entry.script h.script in
+    let script : bare_script (script_with_certs p.entry.script p.kept).0 ≡ p.entry.script = erased_filled p.entry.script p.kept ∙ erased_plain p.entry.script h.script in
     record { plain = p; spelled = h; same = ap without_certs p.same ∙ ap (λ (s : Script). record p.entry { script = s }) script }
 
 pub reads_as_book : (v : Version) (known : List TitledStatement) (last : ℕ) (t : TheoremView) (lines rest : List (Result LineView LineFault)) → text.piece_from known last (text.at_start v) lines ≡ derives t rest → ReadsAsBook known last t lines rest

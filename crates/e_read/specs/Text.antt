@@ -11,7 +11,7 @@ use Rattle.e_text.specs.declared.line.LineEnd.TheVariants as ends
 use Rattle.e_text.specs.declared.line.LineFault.{LineFault}
 use Rattle.e_clause.specs.declared.cert.Version.{Version}
 use Rattle.e_deriv.specs.declared.names.Names.{Names}
-use Rattle.e_deriv.specs.Script.{script_without_certs}
+use Rattle.e_deriv.specs.Script.{bare_script}
 use Rattle.e_line.specs.declared.fault.FaultKind.{FaultKind}
 use Rattle.e_line.specs.declared.fault.FaultKind.TheVariants.{Malformed}
 use Rattle.e_line.specs.declared.raw_line.RawLine.{RawLine}
@@ -158,7 +158,7 @@ TextReads known (Err faults.NoMemory) new from = Unit {0}
 
 -- a theorem without its certificates
 abbrev pub without_certs : TheoremView → TheoremView
-without_certs t = record t { script = script_without_certs t.script }
+without_certs t = record t { script = bare_script t.script }
 
 -- what holds of a theorem, where one was read
 abbrev pub OfTheorem : (Theorem → Type 0) → PieceRead → Type 0

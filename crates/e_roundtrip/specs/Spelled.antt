@@ -5,7 +5,7 @@ use Rattle.e_text.specs.declared.line.LineEnd.TheVariants.{Lf}
 use Rattle.e_text.specs.declared.line.LineFault.{LineFault}
 use Rattle.e_clause.specs.declared.cert.Version.{Version}
 use Rattle.e_theorem.specs.Statements.{stated}
-use Rattle.e_deriv.specs.Script.{Script, script_without_certs}
+use Rattle.e_deriv.specs.Script.{Script, bare_script}
 use Rattle.e_deriv.specs.Versions.{has_certs_of}
 use Rattle.e_names.specs.TitledStatements.{TitledStatement, stated_by}
 use Rattle.e_book.specs.TheoremViews.{TheoremView}
@@ -27,7 +27,7 @@ ShowsEnded (Ok l ∷ lines) (text ∷ texts) rest =
 pub record CanBeSpelled (v : Version) (known : List TitledStatement) (t : TheoremView)
     (d : Script) : Type 0 where
   -- the theorem has a spelling, with the derivation's script for its own
-  pub plain : HasSpelling known (record t { script = script_without_certs d })
+  pub plain : HasSpelling known (record t { script = bare_script d })
   -- each line has as many certificates as it owes, each of the form that lines can have
   pub formed : Formed (stated_by known) (stated t.statement) d
   -- its certificates are of the version

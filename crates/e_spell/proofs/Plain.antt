@@ -9,7 +9,7 @@ use Rattle.e_deriv.specs.declared.names.Names.{Names}
 use Rattle.e_construct.specs.Construct.{sorts_made}
 use Rattle.e_construct.specs.Superposing as superposing
 use Rattle.e_deriv.specs.Naming.{named}
-use Rattle.e_deriv.specs.Script.{Script, Cite, Hence, Make, Apply, Claim, Superposed, Qed, Contradiction, Cases, script_without_certs}
+use Rattle.e_deriv.specs.Script.{Script, Cite, Hence, Make, Apply, Claim, Superposed, Qed, Contradiction, Cases, bare_script}
 use Rattle.e_line.specs.declared.raw_line.RawLine.{RawLine}
 use Rattle.e_line.specs.declared.raw_line.RawLine.TheVariants as rawlines
 use Rattle.e_deriv.specs.Parts.{filled_by}
@@ -64,8 +64,8 @@ both_stay : (xs ys : List (List ℕ)) (fs gs : List RawLine) → filter is_plain
 both_stay xs ys fs gs x y =
     filter-append is_plain_line xs ys ∙ ap (λ (l : List (List ℕ)). l ++ filter is_plain_line ys) x ∙ ap (λ (l : List (List ℕ)). map line_of fs ++ l) y ∙ sym (lines_append fs gs)
 
-script_stays : (known : List TitledStatement) (ns : Names) (d : Script) → filter is_plain_line (script_lines known ns d) ≡ map line_of (script_raw_lines known ns (script_without_certs d))
-unfolding script_lines script_raw_lines script_without_certs
+script_stays : (known : List TitledStatement) (ns : Names) (d : Script) → filter is_plain_line (script_lines known ns d) ≡ map line_of (script_raw_lines known ns (bare_script d))
+unfolding script_lines script_raw_lines bare_script
 script_stays known ns (Cite by rest) = ap (λ (x : List (List ℕ)). line_of (by_raw_line ns by) ∷ x) (script_stays known ns rest)
 script_stays known ns (Hence lit cert rest) =
     ap (λ (x : List (List ℕ)). line_of (hence_raw_line ns lit) ∷ x) (certified_stay ns (option_to_list cert) (script_lines known ns rest) ∙ script_stays known ns rest)
@@ -77,20 +77,20 @@ script_stays known ns (Apply theorem args names cs rest) =
     ap (λ (x : List (List ℕ)). line_of (apply_raw_line known ns theorem args names) ∷ x) (certified_stay ns cs (script_lines known after rest) ∙ script_stays known after rest)
 script_stays known ns (Claim shown inner rest) =
     ap (λ (x : List (List ℕ)). line_of (claim_raw_line ns shown) ∷ x)
-    (both_stay (script_lines known ns inner) (script_lines known ns rest) (script_raw_lines known ns (script_without_certs inner)) (script_raw_lines known ns (script_without_certs rest)) (script_stays known ns inner) (script_stays known ns rest))
+    (both_stay (script_lines known ns inner) (script_lines known ns rest) (script_raw_lines known ns (bare_script inner)) (script_raw_lines known ns (bare_script rest)) (script_stays known ns inner) (script_stays known ns rest))
 script_stays known ns (Superposed superposition names shown cs inner rest) =
     let inside = named ns superposing.sorts_copied names in
     ap (λ (x : List (List ℕ)). line_of (superpose_raw_line ns superposition names shown) ∷ x)
     (certified_stay ns cs (script_lines known inside inner ++ script_lines known ns rest)
-    ∙ both_stay (script_lines known inside inner) (script_lines known ns rest) (script_raw_lines known inside (script_without_certs inner)) (script_raw_lines known ns (script_without_certs rest)) (script_stays known inside inner) (script_stays known ns rest))
+    ∙ both_stay (script_lines known inside inner) (script_lines known ns rest) (script_raw_lines known inside (bare_script inner)) (script_raw_lines known ns (bare_script rest)) (script_stays known inside inner) (script_stays known ns rest))
 script_stays known ns (Qed objects cs) = ap (λ (x : List (List ℕ)). line_of (qed_raw_line ns objects) ∷ x) (certs_go ns cs)
 script_stays known ns (Contradiction a) = ap (λ (x : List (List ℕ)). line_of contradiction_raw_line ∷ x) (contradiction_goes ns a)
 script_stays known ns (Cases lit first second) =
     ap (λ (x : List (List ℕ)). line_of (cases_raw_line ns lit) ∷ x)
-    (both_stay (script_lines known ns first) (line_of else_raw_line ∷ script_lines known ns second) (script_raw_lines known ns (script_without_certs first)) (else_raw_line ∷ script_raw_lines known ns (script_without_certs second)) (script_stays known ns first)
+    (both_stay (script_lines known ns first) (line_of else_raw_line ∷ script_lines known ns second) (script_raw_lines known ns (bare_script first)) (else_raw_line ∷ script_raw_lines known ns (bare_script second)) (script_stays known ns first)
     (ap (λ (x : List (List ℕ)). line_of else_raw_line ∷ x) (script_stays known ns second)))
 
-pub plain_lines : (known : List TitledStatement) (t : TheoremView) (d : Script) → script_without_certs d ≡ filled_by t.script d → filter is_plain_line (spelled_lines known t d) ≡ map line_of (raw_lines_of known (filled_entry t d))
+pub plain_lines : (known : List TitledStatement) (t : TheoremView) (d : Script) → bare_script d ≡ filled_by t.script d → filter is_plain_line (spelled_lines known t d) ≡ map line_of (raw_lines_of known (filled_entry t d))
 plain_lines known t d e =
     let end = line_of end_raw_line ∷ [] in
     let ns = names_of_proof t in

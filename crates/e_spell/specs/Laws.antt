@@ -1,6 +1,6 @@
 -- What a spelling has beside its certificates.
 use Rattle.std.specs.Prelude.{◌≡◌, ℕ, Bool, true, not, ◌==◌, List, [], ◌∷◌, map, filter}
-use Rattle.e_deriv.specs.Script.{Script, script_without_certs}
+use Rattle.e_deriv.specs.Script.{Script, bare_script}
 use Rattle.e_deriv.specs.Parts.{filled_by}
 use Rattle.e_names.specs.TitledStatements.{TitledStatement}
 use Rattle.e_book.specs.TheoremViews.{TheoremView}
@@ -23,6 +23,6 @@ filled_entry t d = record t { script = filled_by t.script d }
 abbrev pub LinesAreTheTheorem : Type 0
 LinesAreTheTheorem =
     (known : List TitledStatement) (t : TheoremView) (d : Script)
-    → script_without_certs d ≡ filled_by t.script d →
+    → bare_script d ≡ filled_by t.script d →
     filter is_plain_line (spelled_lines known t d)
     ≡ map line_of (raw_lines_of known (filled_entry t d))

@@ -5,7 +5,7 @@ use Rattle.std.specs.List.{list_all}
 use Rattle.std.proofs.lemmas.Bool.{and_from, and_parts}
 use Rattle.e_literal.specs.WellFormed.{is_well_formed}
 use Rattle.e_clause.specs.Written.{is_writable_cert}
-use Rattle.e_deriv.specs.Script.{Script, Cite, Hence, Make, Apply, Claim, Superposed, Qed, Contradiction, Cases, script_without_certs}
+use Rattle.e_deriv.specs.Script.{Script, Cite, Hence, Make, Apply, Claim, Superposed, Qed, Contradiction, Cases, bare_script}
 use Rattle.e_deriv.specs.Parts.{filled_by, rest_of, inner_of}
 use Rattle.e_deriv.specs.Written.{has_writable_certs, is_written_well}
 use Rattle.e_names.specs.Fits.{is_diagram_lit}
@@ -14,8 +14,8 @@ use Rattle.e_names.proofs.literals.Diagrams.{good_diagram}
 
 -- ---- certificates and blanks are no part of the literals
 
-pub erased_literals : (d : Script) → has_well_formed_literals (script_without_certs d) ≡ has_well_formed_literals d
-unfolding script_without_certs has_well_formed_literals
+pub erased_literals : (d : Script) → has_well_formed_literals (bare_script d) ≡ has_well_formed_literals d
+unfolding bare_script has_well_formed_literals
 erased_literals (Cite by rest) = ap (λ b. is_diagram_lit by.lit && b) (erased_literals rest)
 erased_literals (Hence lit cert rest) = ap (λ b. is_well_formed lit && b) (erased_literals rest)
 erased_literals (Make construction names certs rest) = erased_literals rest

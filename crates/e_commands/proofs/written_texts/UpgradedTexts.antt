@@ -5,7 +5,7 @@ use Rattle.e_clause.specs.declared.cert.Version.{Version}
 use Rattle.e_clause.specs.declared.cert.Version.TheVariants.{Two}
 use Rattle.e_literal.specs.Use.{scope_of}
 use Rattle.e_theorem.specs.Statements.{stated}
-use Rattle.e_deriv.specs.Script.{Script, script_without_certs}
+use Rattle.e_deriv.specs.Script.{Script, bare_script}
 use Rattle.e_deriv.specs.Goal.{goal_of_statement, facts_of_statement}
 use Rattle.e_deriv.specs.Versions.{has_certs_of}
 use Rattle.e_deriv.proofs.Versions.{good_of_version}
@@ -36,8 +36,8 @@ placed_spelled v known last lines after t read certified second =
     let bs = stated_by known in
     let st = stated t.statement in
     let own = read_is_formed_so v known last t lines after read in
-    let same : script_without_certs (placed known t) ≡ script_without_certs t.script = numbered_erased bs t.script (scope_of st) (facts_of_statement st) (goal_of_statement st) in
-    let plain : HasSpelling known (record t { script = script_without_certs (placed known t) }) = subst (λ (s : Script). HasSpelling known (record t { script = s })) (sym same) own.plain in
+    let same : bare_script (placed known t) ≡ bare_script t.script = numbered_erased bs t.script (scope_of st) (facts_of_statement st) (goal_of_statement st) in
+    let plain : HasSpelling known (record t { script = bare_script (placed known t) }) = subst (λ (s : Script). HasSpelling known (record t { script = s })) (sym same) own.plain in
     let still = numbered_certified bs t.script (scope_of st) (facts_of_statement st) (goal_of_statement st) certified in
     let literals : has_well_formed_literals (placed known t) ≡ true = sym (erased_literals (placed known t)) ∙ plain.fits.good_script in
     record {

@@ -4,7 +4,7 @@ use Rattle.std.specs.List.{list_all}
 use Rattle.e_literal.specs.Use.{StatementView}
 use Rattle.e_deriv.specs.declared.block.Step.{Step}
 use Rattle.e_deriv.specs.declared.block.Close.{Close}
-use Rattle.e_deriv.specs.Script.{Script, step_script, close_script, script_without_certs}
+use Rattle.e_deriv.specs.Script.{Script, step_script, close_script, bare_script}
 use Rattle.e_deriv.specs.Parts.{filled_by}
 use Rattle.e_deriv.specs.Goal.{Goal}
 use Rattle.e_deriv.specs.PlacedSteps.{PlacedStep, placed_step, placed_steps}
@@ -15,7 +15,7 @@ use Rattle.e_deriv.specs.Fitting.{fits_with_blanks}
 use Rattle.e_clause.specs.declared.cert.Version.TheVariants as version
 use Rattle.e_deriv.specs.Versions.{has_certs_of}
 use Rattle.e_licence.specs.Contexts.{Basis}
-use Rattle.e_prove.specs.declared.step_state.StepState.{StepState}
+use Rattle.e_prove.specs.declared.place.Place.{Place}
 use Rattle.e_prove.specs.declared.step_stop.StepStop.{StepStop}
 use Rattle.e_prove.specs.inner.StopsOfSteps.{StepStopsAt}
 
@@ -36,8 +36,8 @@ fits_here before y = fits_with_blanks before y y.here
 -- where the step fits it is licensed, with its blanks filled as in the derived one, and the derived
 -- one is certified; without certificates the derived one is the step with its blanks
 -- filled; its certificates name literals that are well formed; this holds after
-pub record IsLicensedStep (before : List StatementView) (step : Step) (x : StepState)
-    (derived : Step) (after : StepState) : Type 0 where
+pub record IsLicensedStep (before : List StatementView) (step : Step) (x : Place)
+    (derived : Step) (after : Place) : Type 0 where
   pub licensed : (rest more : Script) (goal : Goal) →
       IsTrue (fits_here before
       (step_from_basis (step_script step rest) (step_script derived more) x.context goal)) →
@@ -49,9 +49,9 @@ pub record IsLicensedStep (before : List StatementView) (step : Step) (x : StepS
       IsTrue (is_certified before
       (step_from_basis (step_script derived more) (step_script derived more) x.context goal))
   pub erased : (rest more : Script)
-      → script_without_certs more ≡ filled_by (script_without_certs rest) more →
-      script_without_certs (step_script derived more)
-      ≡ filled_by (script_without_certs (step_script step rest)) (step_script derived more)
+      → bare_script more ≡ filled_by (bare_script rest) more →
+      bare_script (step_script derived more)
+      ≡ filled_by (bare_script (step_script step rest)) (step_script derived more)
   pub written : (more : Script) → IsTrue (has_certs_of version.One more)
       → IsTrue (has_certs_of version.One (step_script derived more))
   pub next : (rest more : Script) (goal : Goal) →
@@ -67,7 +67,7 @@ pub record IsLicensedStep (before : List StatementView) (step : Step) (x : StepS
   pub kept : after.context.held ≡ x.context.held
 
 -- where this holds licensing stops so at the step, however its blanks are filled
-abbrev pub IsStopOfStep : List StatementView → Step → StepState → StepStop → Type 0
+abbrev pub IsStopOfStep : List StatementView → Step → Place → StepStop → Type 0
 IsStopOfStep before step x h =
     (rest filled : Script) (goal : Goal)
     → StepStopsAt before (step_from_basis (step_script step rest) filled x.context goal) h
@@ -80,8 +80,8 @@ pub record IsLicensedClose (before : List StatementView) (close : Close) (x : Ba
       (steps_from_basis before (close_script close) (close_script derived) x goal)
   pub certified : IsTrue (list_all (is_certified before)
       (steps_from_basis before (close_script derived) (close_script derived) x goal))
-  pub erased : script_without_certs (close_script derived)
-      ≡ filled_by (script_without_certs (close_script close)) (close_script derived)
+  pub erased : bare_script (close_script derived)
+      ≡ filled_by (bare_script (close_script close)) (close_script derived)
   pub written : IsTrue (has_certs_of version.One (close_script derived))
 
 -- where this holds licensing stops so at the close

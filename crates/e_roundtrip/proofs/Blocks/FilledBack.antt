@@ -2,7 +2,7 @@
 use Rattle.std.proofs.Common.{◌≡◌, List, [], ◌∷◌, ◌++◌, Option, Some, None, refl, append_assoc}
 use Rattle.std.specs.Option.{option_to_list}
 use Rattle.e_clause.specs.declared.cert.Against.{Against}
-use Rattle.e_deriv.specs.Script.{Script, Cite, Hence, Make, Apply, Claim, Superposed, Qed, Contradiction, Cases, script_without_certs}
+use Rattle.e_deriv.specs.Script.{Script, Cite, Hence, Make, Apply, Claim, Superposed, Qed, Contradiction, Cases, bare_script}
 use Rattle.e_cert.specs.declared.kept.StepCerts.{StepCerts}
 use Rattle.e_cert.specs.declared.kept.StepCerts.TheVariants.{Certs, Against as OfContradiction}
 use Rattle.e_read.specs.Filled.{script_with_certs}
@@ -24,8 +24,8 @@ kepts (Qed objects certs) = Certs certs ∷ []
 kepts (Contradiction against) = kept_against against ∷ []
 kepts (Cases lit first second) = kepts first ++ kepts second
 
-pub filled_back : (d : Script) (ks : List StepCerts) → script_with_certs (script_without_certs d) (kepts d ++ ks) ≡ (d, ks)
-unfolding script_without_certs script_with_certs kepts
+pub filled_back : (d : Script) (ks : List StepCerts) → script_with_certs (bare_script d) (kepts d ++ ks) ≡ (d, ks)
+unfolding bare_script script_with_certs kepts
 filled_back (Cite by rest) ks = rw (filled_back rest ks) refl
 filled_back (Hence lit None rest) ks = rw (filled_back rest ks) refl
 filled_back (Hence lit (Some cert) rest) ks = rw (filled_back rest ks) refl

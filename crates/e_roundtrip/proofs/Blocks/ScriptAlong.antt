@@ -8,7 +8,7 @@ use Rattle.e_literal.specs.declared.object.Scope.{Scope}
 use Rattle.e_literal.specs.declared.literal.Lit.{Lit}
 use Rattle.e_literal.specs.Literal.{negation}
 use Rattle.e_literal.specs.WellFormed.{is_well_formed}
-use Rattle.e_literal.specs.Scopes.{grown, are_of_sorts}
+use Rattle.e_literal.specs.Scopes.{with_sorts, are_of_sorts}
 use Rattle.e_literal.specs.Facts.{with_fact, with_facts}
 use Rattle.e_literal.specs.Use.{are_arguments, gives_of_use, needs_of_use}
 use Rattle.e_theorem.specs.Choice.{fills, is_choice}
@@ -21,7 +21,7 @@ use Rattle.e_construct.specs.Construct.{sorts_made, gives_of_construction, needs
 use Rattle.e_construct.specs.Superposing as superposing
 use Rattle.e_deriv.specs.PlainStep.{Cited, Inferred, Made, Applied, Claimed, Copied}
 use Rattle.e_deriv.specs.Naming.{named}
-use Rattle.e_deriv.specs.Script.{Script, Cite, Hence, Make, Apply, Claim, Superposed, Qed, Contradiction, Cases, size, depth, script_without_certs}
+use Rattle.e_deriv.specs.Script.{Script, Cite, Hence, Make, Apply, Claim, Superposed, Qed, Contradiction, Cases, size, depth, bare_script}
 use Rattle.e_deriv.specs.Goal.{Goal, goal_of, goal_with}
 use Rattle.e_deriv.specs.PlacedSteps.{placed_step, placed_steps}
 use Rattle.e_deriv.specs.Parts.{written as written_args}
@@ -67,24 +67,24 @@ use Rattle.e_roundtrip.proofs.Formed.PlacedScripts.{Stood, first_of, both_of, on
 -- ---- citations
 
 pub cite_next : (known : List TitledStatement) (d : TheoremParser) (i : Inside) (b : By) (rest : Script) (given : List Lit) (goal : Goal) → Stood known d i (Cite b rest) given goal → Stood known d (after_step i (Cited b) 1) rest (with_fact given b.lit) goal
-unfolding script_without_certs placed_steps
+unfolding bare_script placed_steps
 cite_next known d i b rest given goal s =
     let before = stated_by known in
     let sc = scope_of_names i.in_scope in
     record {
-      ready = cite_ready known d i b (script_without_certs rest) given goal s.ready;
+      ready = cite_ready known d i b (bare_script rest) given goal s.ready;
       goal_is = s.goal_is;
       formed = (first_of (is_formed before) (placed_step (Cite b rest) (Cite b rest) sc given goal) (placed_steps before rest rest sc (with_fact given b.lit) goal) s.formed).1;
     }
 
 cite_along : (known : List TitledStatement) (d : TheoremParser) (i : Inside) (b : By) (rest : Script) (given : List Lit) (goal : Goal) → Stood known d i (Cite b rest) given goal → Spelled known d (after_step i (Cited b) 1) rest → Spelled known d i (Cite b rest)
-unfolding script_without_certs script_lines kepts placed_steps size has_well_formed_literals few_facts due_of
+unfolding bare_script script_lines kepts placed_steps size has_well_formed_literals few_facts due_of
 cite_along known d i b rest given goal s t =
     let r = s.ready in
     let sc = scope_of_names i.in_scope in
-    let fit = (and_parts (is_citation sc b) (list_all (line_fits (stated_by known)) (placed_steps (stated_by known) (script_without_certs rest) (script_without_certs rest) sc (with_fact given b.lit) goal)) r.fitting).0 in
-    let good = (and_parts (is_diagram_lit b.lit) (has_well_formed_literals (script_without_certs rest)) r.good).0 in
-    let most = leb-true _ _ (and_parts (leb (i.facts + 1) most_facts) (few_facts (stated_by known) (i.facts + 1) sc (script_without_certs rest)) r.facts).0 in
+    let fit = (and_parts (is_citation sc b) (list_all (line_fits (stated_by known)) (placed_steps (stated_by known) (bare_script rest) (bare_script rest) sc (with_fact given b.lit) goal)) r.fitting).0 in
+    let good = (and_parts (is_diagram_lit b.lit) (has_well_formed_literals (bare_script rest)) r.good).0 in
+    let most = leb-true _ _ (and_parts (leb (i.facts + 1) most_facts) (few_facts (stated_by known) (i.facts + 1) sc (bare_script rest)) r.facts).0 in
     record {
       last = t.last;
       lines = omega (arith, t.lines);
@@ -97,25 +97,25 @@ cite_along known d i b rest given goal s t =
             steps = step_cite known d i b r.order fit good (omega (arith, r.few)) most;
             going = refl;
             keeps = nothing_kept i.in_scope;
-          }) (t.along e (one_more d t.last i (Cited b) (script_without_certs rest) e h) done);
+          }) (t.along e (one_more d t.last i (Cited b) (bare_script rest) e h) done);
     }
 
 -- ---- inferences
 
 pub hence_next : (known : List TitledStatement) (d : TheoremParser) (i : Inside) (l : Lit) (c : Cert) (rest : Script) (given : List Lit) (goal : Goal) → Stood known d i (Hence l (Some c) rest) given goal → Stood known d (inferred i l) rest (with_fact given l) goal
-unfolding script_without_certs placed_steps
+unfolding bare_script placed_steps
 hence_next known d i l c rest given goal s =
     let before = stated_by known in
     let sc = scope_of_names i.in_scope in
     record {
-      ready = hence_ready known d i l (script_without_certs rest) given goal s.ready;
+      ready = hence_ready known d i l (bare_script rest) given goal s.ready;
       goal_is = s.goal_is;
       formed = (first_of (is_formed before) (placed_step (Hence l (Some c) rest) (Hence l (Some c) rest) sc given goal) (placed_steps before rest rest sc (with_fact given l) goal) s.formed).1;
     }
 
 hence_along : (known : List TitledStatement) (d : TheoremParser) (i : Inside) (l : Lit) (c : Cert) (rest : Script) (given : List Lit) (goal : Goal) → Stood known d i (Hence l (Some c) rest) given goal → Spelled known d (inferred i l) rest
     → Spelled known d i (Hence l (Some c) rest)
-unfolding script_without_certs script_lines kepts placed_steps size has_well_formed_literals few_facts few_terms
+unfolding bare_script script_lines kepts placed_steps size has_well_formed_literals few_facts few_terms
 hence_along known d i l c rest given goal s t =
     let before = stated_by known in
     let r = s.ready in
@@ -123,10 +123,10 @@ hence_along known d i l c rest given goal s t =
     let n = i.terms + monomials l.atom in
     let here = placed_step (Hence l (Some c) rest) (Hence l (Some c) rest) sc given goal in
     let one = one_formed before here (first_of (is_formed before) here (placed_steps before rest rest sc (with_fact given l) goal) s.formed).0 in
-    let good = (and_parts (is_well_formed l) (has_well_formed_literals (script_without_certs rest)) r.good).0 in
+    let good = (and_parts (is_well_formed l) (has_well_formed_literals (bare_script rest)) r.good).0 in
     let plain : PlainLit i.in_scope l = record { within = one.fitting; good = good } in
-    let most = leb-true _ _ (and_parts (leb (i.facts + 1) most_facts) (few_facts before (i.facts + 1) sc (script_without_certs rest)) r.facts).0 in
-    let short = leb-true _ _ (and_parts (leb n most_terms) (few_terms before n sc (script_without_certs rest)) r.terms).0 in
+    let most = leb-true _ _ (and_parts (leb (i.facts + 1) most_facts) (few_facts before (i.facts + 1) sc (bare_script rest)) r.facts).0 in
+    let short = leb-true _ _ (and_parts (leb n most_terms) (few_terms before n sc (bare_script rest)) r.terms).0 in
     record {
       last = t.last;
       lines = omega (arith, t.lines);
@@ -139,52 +139,52 @@ hence_along known d i l c rest given goal s t =
             steps = step_hence known d i l r.order plain (omega (arith, r.few)) most short;
             going = refl;
             keeps = certs_kept i.in_scope (l ∷ []) (c ∷ []) r.order (good_certs i.in_scope (l ∷ []) (c ∷ []) one.certs);
-          }) (t.along e (one_more d t.last i (Inferred l None) (script_without_certs rest) e h) done);
+          }) (t.along e (one_more d t.last i (Inferred l None) (bare_script rest) e h) done);
     }
 
 -- ---- constructions
 
 pub make_next : (known : List TitledStatement) (d : TheoremParser) (i : Inside) (construction : Construction) (names : List (List ℕ)) (certs : List Cert) (rest : Script) (given : List Lit) (goal : Goal) → Stood known d i (Make construction names certs rest) given goal
     → Stood known d (constructed i construction names) rest (with_facts given (gives_of_construction construction (scope_of_names i.in_scope))) goal
-unfolding script_without_certs placed_steps NewNamesFit
+unfolding bare_script placed_steps NewNamesFit
 make_next known d i construction names certs rest given goal s =
     let before = stated_by known in
     let sc = scope_of_names i.in_scope in
     let facts = with_facts given (gives_of_construction construction sc) in
-    let scope : grown sc (sorts_made construction) ≡ scope_of_names (named i.in_scope (sorts_made construction) names) = named_scope i.in_scope (sorts_made construction) names s.ready.new_names.1 in
+    let scope : with_sorts sc (sorts_made construction) ≡ scope_of_names (named i.in_scope (sorts_made construction) names) = named_scope i.in_scope (sorts_made construction) names s.ready.new_names.1 in
     let here = placed_step (Make construction names certs rest) (Make construction names certs rest) sc given goal in
     record {
-      ready = make_ready known d i construction names (script_without_certs rest) given goal s.ready;
+      ready = make_ready known d i construction names (bare_script rest) given goal s.ready;
       goal_is = s.goal_is;
-      formed = subst (λ (z : Scope). list_all (is_formed before) (placed_steps before rest rest z facts goal) ≡ true) scope (first_of (is_formed before) here (placed_steps before rest rest (grown sc (sorts_made construction)) facts goal) s.formed).1;
+      formed = subst (λ (z : Scope). list_all (is_formed before) (placed_steps before rest rest z facts goal) ≡ true) scope (first_of (is_formed before) here (placed_steps before rest rest (with_sorts sc (sorts_made construction)) facts goal) s.formed).1;
     }
 
 make_along : (known : List TitledStatement) (d : TheoremParser) (i : Inside) (construction : Construction) (names : List (List ℕ)) (certs : List Cert) (rest : Script) (given : List Lit) (goal : Goal) → Stood known d i (Make construction names certs rest) given goal
     → Spelled known d (constructed i construction names) rest → Spelled known d i (Make construction names certs rest)
-unfolding script_without_certs script_lines kepts placed_steps is_plain NewNamesFit size few_facts
+unfolding bare_script script_lines kepts placed_steps is_plain NewNamesFit size few_facts
 make_along known d i construction names certs rest given goal s t =
     let before = stated_by known in
     let r = s.ready in
     let sc = scope_of_names i.in_scope in
     let n = i.facts + gifts i construction in
     let here = placed_step (Make construction names certs rest) (Make construction names certs rest) sc given goal in
-    let one = one_formed before here (first_of (is_formed before) here (placed_steps before rest rest (grown sc (sorts_made construction)) (with_facts given (gives_of_construction construction sc)) goal) s.formed).0 in
-    let good = make_good known d i construction names (script_without_certs rest) given goal r in
-    let most = leb-true _ _ (and_parts (leb n most_facts) (few_facts before n (grown sc (sorts_made construction)) (script_without_certs rest)) r.facts).0 in
+    let one = one_formed before here (first_of (is_formed before) here (placed_steps before rest rest (with_sorts sc (sorts_made construction)) (with_facts given (gives_of_construction construction sc)) goal) s.formed).0 in
+    let good = make_good known d i construction names (bare_script rest) given goal r in
+    let most = leb-true _ _ (and_parts (leb n most_facts) (few_facts before n (with_sorts sc (sorts_made construction)) (bare_script rest)) r.facts).0 in
     record {
       last = t.last;
       lines = omega (arith, t.lines);
       along = λ e h done.
           then_along known (proving d i) (proving d (constructed i construction names)) e (let_raw_line i.in_scope construction names) (one_each (needs_of_construction construction)) (flat_map (cert_lines i.in_scope) certs) (Some (kept.Certs certs))
           (script_lines known (named i.in_scope (sorts_made construction) names) rest) (kepts rest) (record {
-            good = let_named i.in_scope construction names r.order good (list_names names (and_parts (list_all _ names) (is_plain (script_without_certs rest)) r.plain).0);
+            good = let_named i.in_scope construction names r.order good (list_names names (and_parts (list_all _ names) (is_plain (bare_script rest)) r.plain).0);
             strict = refl;
             apart = refl;
             owes = let_due known (proving d i) construction names r.order good;
-            steps = step_let known d i construction names r.order good r.new_names.2 (omega (arith, r.few, at_least (script_without_certs rest))) most;
+            steps = step_let known d i construction names r.order good r.new_names.2 (omega (arith, r.few, at_least (bare_script rest))) most;
             going = refl;
             keeps = certs_kept i.in_scope (needs_of_construction construction) certs r.order (good_certs i.in_scope (needs_of_construction construction) certs one.certs);
-          }) (t.along e (one_more d t.last i (Made construction names []) (script_without_certs rest) e h) done);
+          }) (t.along e (one_more d t.last i (Made construction names []) (bare_script rest) e h) done);
     }
 
 -- ---- uses of earlier theorems
@@ -192,32 +192,32 @@ make_along known d i construction names certs rest given goal s t =
 pub apply_next : (known : List TitledStatement) (d : TheoremParser) (i : Inside) (theorem : ℕ) (args : List (Option Obj)) (names : List (List ℕ)) (certs : List Cert) (rest : Script) (given : List Lit) (goal : Goal)
     → Stood known d i (Apply theorem args names certs rest) given goal
     → Stood known d (applied_after i (theorem_of known theorem) theorem args names) rest (with_facts given (gives_of_use (theorem_of known theorem) (written_args args) (scope_of_names i.in_scope))) goal
-unfolding script_without_certs placed_steps NewNamesFit
+unfolding bare_script placed_steps NewNamesFit
 apply_next known d i theorem args names certs rest given goal s =
     let before = stated_by known in
     let sc = scope_of_names i.in_scope in
     let t = theorem_of known theorem in
     let facts = with_facts given (gives_of_use t (written_args args) sc) in
-    let scope : grown sc t.made ≡ scope_of_names (named i.in_scope t.made names) = named_scope i.in_scope t.made names s.ready.new_names.1 in
+    let scope : with_sorts sc t.made ≡ scope_of_names (named i.in_scope t.made names) = named_scope i.in_scope t.made names s.ready.new_names.1 in
     let here = placed_step (Apply theorem args names certs rest) (Apply theorem args names certs rest) sc given goal in
     record {
-      ready = (apply_parts known d i theorem args names (script_without_certs rest) given goal s.ready).next;
+      ready = (apply_parts known d i theorem args names (bare_script rest) given goal s.ready).next;
       goal_is = s.goal_is;
-      formed = subst (λ (z : Scope). list_all (is_formed before) (placed_steps before rest rest z facts goal) ≡ true) scope (first_of (is_formed before) here (placed_steps before rest rest (grown sc t.made) facts goal) s.formed).1;
+      formed = subst (λ (z : Scope). list_all (is_formed before) (placed_steps before rest rest z facts goal) ≡ true) scope (first_of (is_formed before) here (placed_steps before rest rest (with_sorts sc t.made) facts goal) s.formed).1;
     }
 
 apply_along : (known : List TitledStatement) (d : TheoremParser) (i : Inside) (theorem : ℕ) (args : List (Option Obj)) (names : List (List ℕ)) (certs : List Cert) (rest : Script) (given : List Lit) (goal : Goal)
     → Stood known d i (Apply theorem args names certs rest) given goal → Spelled known d (applied_after i (theorem_of known theorem) theorem args names) rest → Spelled known d i (Apply theorem args names certs rest)
-unfolding script_without_certs script_lines kepts placed_steps size
+unfolding bare_script script_lines kepts placed_steps size
 apply_along known d i theorem args names certs rest given goal s u =
     let before = stated_by known in
     let r = s.ready in
     let sc = scope_of_names i.in_scope in
     let t = theorem_of known theorem in
-    let p = apply_parts known d i theorem args names (script_without_certs rest) given goal r in
+    let p = apply_parts known d i theorem args names (bare_script rest) given goal r in
     let after = applied_after i t theorem args names in
     let here = placed_step (Apply theorem args names certs rest) (Apply theorem args names certs rest) sc given goal in
-    let one = one_formed before here (first_of (is_formed before) here (placed_steps before rest rest (grown sc t.made) (with_facts given (gives_of_use t (written_args args) sc)) goal) s.formed).0 in
+    let one = one_formed before here (first_of (is_formed before) here (placed_steps before rest rest (with_sorts sc t.made) (with_facts given (gives_of_use t (written_args args) sc)) goal) s.formed).0 in
     let choice = (and_parts _ (is_choice t sc args (written_args args)) one.fitting).1 in
     let fit = (and_parts (fills args (written_args args)) (are_arguments t sc (written_args args)) choice).1 in
     let wanted = needs_of_use t (written_args args) sc in
@@ -230,10 +230,10 @@ apply_along known d i theorem args names certs rest given goal s u =
             strict = all_written i.in_scope args one.beside;
             apart = refl;
             owes = apply_due known (proving d i) theorem args names r.order p.good one.beside fit;
-            steps = step_apply known d i theorem args names r.order p.good p.few (omega (arith, r.few, at_least (script_without_certs rest))) p.facts p.terms p.blanks;
+            steps = step_apply known d i theorem args names r.order p.good p.few (omega (arith, r.few, at_least (bare_script rest))) p.facts p.terms p.blanks;
             going = refl;
             keeps = certs_kept i.in_scope wanted certs r.order (good_certs i.in_scope wanted certs one.certs);
-          }) (u.along e (one_more d u.last i (Applied theorem args names []) (script_without_certs rest) e h) done);
+          }) (u.along e (one_more d u.last i (Applied theorem args names []) (bare_script rest) e h) done);
     }
 
 -- ---- claims
@@ -251,30 +251,30 @@ claim_formed known d i shown inner rest given goal s =
 
 pub claim_inside : (known : List TitledStatement) (d : TheoremParser) (i : Inside) (shown : List Lit) (inner rest : Script) (given : List Lit) (goal : Goal) → Stood known d i (Claim shown inner rest) given goal
     → Stood known d (deep i (kind.Claim shown) 0) inner given (goal_of shown)
-unfolding script_without_certs
+unfolding bare_script
 claim_inside known d i shown inner rest given goal s = record {
-  ready = claim_inner known d i shown (script_without_certs inner) (script_without_certs rest) given goal s.ready;
+  ready = claim_inner known d i shown (bare_script inner) (bare_script rest) given goal s.ready;
   goal_is = refl;
   formed = (claim_formed known d i shown inner rest given goal s).0;
 }
 
-pub claim_next : (known : List TitledStatement) (d : TheoremParser) (i : Inside) (n : ℕ) (shown : List Lit) (inner rest : Script) (given : List Lit) (goal : Goal) → n ≡ i.lines + 1 + size (script_without_certs inner) → Stood known d i (Claim shown inner rest) given goal
-    → Stood known d (resume i n (Claimed shown (script_without_certs inner)) shown) rest (with_facts given shown) goal
-unfolding script_without_certs
+pub claim_next : (known : List TitledStatement) (d : TheoremParser) (i : Inside) (n : ℕ) (shown : List Lit) (inner rest : Script) (given : List Lit) (goal : Goal) → n ≡ i.lines + 1 + size (bare_script inner) → Stood known d i (Claim shown inner rest) given goal
+    → Stood known d (resume i n (Claimed shown (bare_script inner)) shown) rest (with_facts given shown) goal
+unfolding bare_script
 claim_next known d i n shown inner rest given goal count s = record {
-  ready = claim_rest known d i n shown (script_without_certs inner) (script_without_certs rest) given goal count s.ready;
+  ready = claim_rest known d i n shown (bare_script inner) (bare_script rest) given goal count s.ready;
   goal_is = s.goal_is;
   formed = (claim_formed known d i shown inner rest given goal s).1;
 }
 
 claim_along : (known : List TitledStatement) (d : TheoremParser) (i : Inside) (shown : List Lit) (inner rest : Script) (given : List Lit) (goal : Goal) → Stood known d i (Claim shown inner rest) given goal
-    → (t : Spelled known d (deep i (kind.Claim shown) 0) inner) → Spelled known d (resume i t.last.lines (Claimed shown (script_without_certs inner)) shown) rest → Spelled known d i (Claim shown inner rest)
-unfolding script_without_certs script_lines kepts size depth due_of
+    → (t : Spelled known d (deep i (kind.Claim shown) 0) inner) → Spelled known d (resume i t.last.lines (Claimed shown (bare_script inner)) shown) rest → Spelled known d i (Claim shown inner rest)
+unfolding bare_script script_lines kepts size depth due_of
 claim_along known d i shown inner rest given goal s t u =
     let r = s.ready in
-    let p = claim_parts known d i shown (script_without_certs inner) (script_without_certs rest) given goal r in
+    let p = claim_parts known d i shown (bare_script inner) (bare_script rest) given goal r in
     let begins = deep i (kind.Claim shown) 0 in
-    let after = resume i t.last.lines (Claimed shown (script_without_certs inner)) shown in
+    let after = resume i t.last.lines (Claimed shown (bare_script inner)) shown in
     let few : i.facts + 0 ≤ most_facts = omega (arith, p.facts) in
     record {
       last = u.last;
@@ -285,19 +285,19 @@ claim_along known d i shown inner rest given goal s t u =
             strict = all_direct i.in_scope shown;
             apart = refl;
             owes = refl;
-            steps = step_claim known d i shown r.order p.plain (omega (arith, r.few, at_least (script_without_certs rest))) (omega (arith, r.shallow, deep_at_least (script_without_certs inner))) few;
+            steps = step_claim known d i shown r.order p.plain (omega (arith, r.few, at_least (bare_script rest))) (omega (arith, r.shallow, deep_at_least (bare_script inner))) few;
             going = refl;
             keeps = nothing_kept i.in_scope;
           }) (along_append known (proving d begins) (proving d after) e (script_lines known i.in_scope inner) (script_lines known i.in_scope rest) (kepts inner) (kepts rest)
-          (t.along (proving d after) (claim_closed d i t.last shown (steps_of (script_without_certs inner)) (close_of (script_without_certs inner)) (script_without_certs inner) (same_script (script_without_certs inner) p.plain_inner) p.facts p.terms) refl)
-          (u.along e (one_more d u.last i (Claimed shown (script_without_certs inner)) (script_without_certs rest) e h) done));
+          (t.along (proving d after) (claim_closed d i t.last shown (steps_of (bare_script inner)) (close_of (bare_script inner)) (bare_script inner) (same_script (bare_script inner) p.plain_inner) p.facts p.terms) refl)
+          (u.along e (one_more d u.last i (Claimed shown (bare_script inner)) (bare_script rest) e h) done));
     }
 
 -- ---- superpositions
 
 pub copy_formed : (known : List TitledStatement) (d : TheoremParser) (i : Inside) (superposition : Superpose) (names : List (List ℕ)) (shown : List Lit) (certs : List Cert) (inner rest : Script) (given : List Lit) (goal : Goal)
     → Stood known d i (Superposed superposition names shown certs inner rest) given goal
-    → (list_all (is_formed (stated_by known)) (placed_steps (stated_by known) inner inner (grown (scope_of_names i.in_scope) superposing.sorts_copied) (with_facts given (superposing.gives_of_superposition superposition (scope_of_names i.in_scope))) (goal_of shown)) ≡ true)
+    → (list_all (is_formed (stated_by known)) (placed_steps (stated_by known) inner inner (with_sorts (scope_of_names i.in_scope) superposing.sorts_copied) (with_facts given (superposing.gives_of_superposition superposition (scope_of_names i.in_scope))) (goal_of shown)) ≡ true)
     × (list_all (is_formed (stated_by known)) (placed_steps (stated_by known) rest rest (scope_of_names i.in_scope) (with_facts given shown) goal) ≡ true)
     × (certs_formed (scope_of_names i.in_scope) (superposing.needs_of_superposition superposition) certs ≡ true)
 unfolding placed_steps
@@ -305,7 +305,7 @@ copy_formed known d i superposition names shown certs inner rest given goal s =
     let before = stated_by known in
     let sc = scope_of_names i.in_scope in
     let here = placed_step (Superposed superposition names shown certs inner rest) (Superposed superposition names shown certs inner rest) sc given goal in
-    let inside = placed_steps before inner inner (grown sc superposing.sorts_copied) (with_facts given (superposing.gives_of_superposition superposition sc)) (goal_of shown) in
+    let inside = placed_steps before inner inner (with_sorts sc superposing.sorts_copied) (with_facts given (superposing.gives_of_superposition superposition sc)) (goal_of shown) in
     let after = placed_steps before rest rest sc (with_facts given shown) goal in
     let a = first_of (is_formed before) here (inside ++ after) s.formed in
     let b = both_of (is_formed before) inside after a.1 in
@@ -314,35 +314,35 @@ copy_formed known d i superposition names shown certs inner rest given goal s =
 pub copy_inside : (known : List TitledStatement) (d : TheoremParser) (i : Inside) (superposition : Superpose) (names : List (List ℕ)) (shown : List Lit) (certs : List Cert) (inner rest : Script) (given : List Lit) (goal : Goal)
     → Stood known d i (Superposed superposition names shown certs inner rest) given goal
     → Stood known d (copied i superposition names shown) inner (with_facts given (superposing.gives_of_superposition superposition (scope_of_names i.in_scope))) (goal_of shown)
-unfolding script_without_certs NewNamesFit
+unfolding bare_script NewNamesFit
 copy_inside known d i superposition names shown certs inner rest given goal s =
     let before = stated_by known in
     let sc = scope_of_names i.in_scope in
-    let scope : grown sc superposing.sorts_copied ≡ scope_of_names (named i.in_scope superposing.sorts_copied names) = named_scope i.in_scope superposing.sorts_copied names s.ready.new_names.1 in
+    let scope : with_sorts sc superposing.sorts_copied ≡ scope_of_names (named i.in_scope superposing.sorts_copied names) = named_scope i.in_scope superposing.sorts_copied names s.ready.new_names.1 in
     record {
-      ready = copy_inner known d i superposition names shown (script_without_certs inner) (script_without_certs rest) given goal s.ready;
+      ready = copy_inner known d i superposition names shown (bare_script inner) (bare_script rest) given goal s.ready;
       goal_is = refl;
       formed = subst (λ (z : Scope). list_all (is_formed before) (placed_steps before inner inner z (with_facts given (superposing.gives_of_superposition superposition sc)) (goal_of shown)) ≡ true) scope (copy_formed known d i superposition names shown certs inner rest given goal s).0;
     }
 
-pub copy_next : (known : List TitledStatement) (d : TheoremParser) (i : Inside) (n : ℕ) (superposition : Superpose) (names : List (List ℕ)) (shown : List Lit) (certs : List Cert) (inner rest : Script) (given : List Lit) (goal : Goal) → n ≡ i.lines + 1 + size (script_without_certs inner)
-    → Stood known d i (Superposed superposition names shown certs inner rest) given goal → Stood known d (resume i n (Copied superposition names shown [] (script_without_certs inner)) shown) rest (with_facts given shown) goal
-unfolding script_without_certs
+pub copy_next : (known : List TitledStatement) (d : TheoremParser) (i : Inside) (n : ℕ) (superposition : Superpose) (names : List (List ℕ)) (shown : List Lit) (certs : List Cert) (inner rest : Script) (given : List Lit) (goal : Goal) → n ≡ i.lines + 1 + size (bare_script inner)
+    → Stood known d i (Superposed superposition names shown certs inner rest) given goal → Stood known d (resume i n (Copied superposition names shown [] (bare_script inner)) shown) rest (with_facts given shown) goal
+unfolding bare_script
 copy_next known d i n superposition names shown certs inner rest given goal count s = record {
-  ready = copy_rest known d i n superposition names shown (script_without_certs inner) (script_without_certs rest) given goal count s.ready;
+  ready = copy_rest known d i n superposition names shown (bare_script inner) (bare_script rest) given goal count s.ready;
   goal_is = s.goal_is;
   formed = (copy_formed known d i superposition names shown certs inner rest given goal s).1;
 }
 
 copy_along : (known : List TitledStatement) (d : TheoremParser) (i : Inside) (superposition : Superpose) (names : List (List ℕ)) (shown : List Lit) (certs : List Cert) (inner rest : Script) (given : List Lit) (goal : Goal)
     → Stood known d i (Superposed superposition names shown certs inner rest) given goal
-    → (t : Spelled known d (copied i superposition names shown) inner) → Spelled known d (resume i t.last.lines (Copied superposition names shown [] (script_without_certs inner)) shown) rest → Spelled known d i (Superposed superposition names shown certs inner rest)
-unfolding script_without_certs script_lines kepts size depth
+    → (t : Spelled known d (copied i superposition names shown) inner) → Spelled known d (resume i t.last.lines (Copied superposition names shown [] (bare_script inner)) shown) rest → Spelled known d i (Superposed superposition names shown certs inner rest)
+unfolding bare_script script_lines kepts size depth
 copy_along known d i superposition names shown certs inner rest given goal s t u =
     let r = s.ready in
-    let p = copy_parts known d i superposition names shown (script_without_certs inner) (script_without_certs rest) given goal r in
+    let p = copy_parts known d i superposition names shown (bare_script inner) (bare_script rest) given goal r in
     let begins = copied i superposition names shown in
-    let after = resume i t.last.lines (Copied superposition names shown [] (script_without_certs inner)) shown in
+    let after = resume i t.last.lines (Copied superposition names shown [] (bare_script inner)) shown in
     let wanted = superposing.needs_of_superposition superposition in
     let c = (copy_formed known d i superposition names shown certs inner rest given goal s).2 in
     record {
@@ -355,12 +355,12 @@ copy_along known d i superposition names shown certs inner rest given goal s t u
             strict = all_direct i.in_scope shown;
             apart = refl;
             owes = superpose_due known (proving d i) superposition names shown p.good;
-            steps = step_superpose known d i superposition names shown p.good p.few (omega (arith, r.few, at_least (script_without_certs rest))) (omega (arith, r.shallow, deep_at_least (script_without_certs inner))) p.facts_first p.terms_first;
+            steps = step_superpose known d i superposition names shown p.good p.few (omega (arith, r.few, at_least (bare_script rest))) (omega (arith, r.shallow, deep_at_least (bare_script inner))) p.facts_first p.terms_first;
             going = refl;
             keeps = certs_kept i.in_scope wanted certs r.order (good_certs i.in_scope wanted certs c);
           }) (along_append known (proving d begins) (proving d after) e (script_lines known begins.in_scope inner) (script_lines known i.in_scope rest) (kepts inner) (kepts rest)
-          (t.along (proving d after) (superpose_closed d i t.last superposition names shown (steps_of (script_without_certs inner)) (close_of (script_without_certs inner)) (script_without_certs inner) (same_script (script_without_certs inner) p.plain_inner) p.facts p.terms) refl)
-          (u.along e (one_more d u.last i (Copied superposition names shown [] (script_without_certs inner)) (script_without_certs rest) e h) done));
+          (t.along (proving d after) (superpose_closed d i t.last superposition names shown (steps_of (bare_script inner)) (close_of (bare_script inner)) (bare_script inner) (same_script (bare_script inner) p.plain_inner) p.facts p.terms) refl)
+          (u.along e (one_more d u.last i (Copied superposition names shown [] (bare_script inner)) (bare_script rest) e h) done));
     }
 
 -- ---- splits
@@ -377,35 +377,35 @@ cases_formed known d i l one two given goal s =
     both_of (is_formed before) in_one in_two (first_of (is_formed before) (placed_step (Cases l one two) (Cases l one two) sc given goal) (in_one ++ in_two) s.formed).1
 
 pub cases_one : (known : List TitledStatement) (d : TheoremParser) (i : Inside) (l : Lit) (one two : Script) (given : List Lit) (goal : Goal) → Stood known d i (Cases l one two) given goal → Stood known d (opens i l) one (with_fact given l) goal
-unfolding script_without_certs
+unfolding bare_script
 cases_one known d i l one two given goal s = record {
-  ready = cases_first known d i l (script_without_certs one) (script_without_certs two) given goal s.ready;
+  ready = cases_first known d i l (bare_script one) (bare_script two) given goal s.ready;
   goal_is = s.goal_is;
   formed = (cases_formed known d i l one two given goal s).0;
 }
 
-pub cases_two : (known : List TitledStatement) (d : TheoremParser) (i : Inside) (n : ℕ) (l : Lit) (one two : Script) (given : List Lit) (goal : Goal) → n ≡ i.lines + 1 + size (script_without_certs one) → Stood known d i (Cases l one two) given goal
-    → Stood known d (second i n l (script_without_certs one)) two (with_fact given (negation l)) goal
-unfolding script_without_certs
+pub cases_two : (known : List TitledStatement) (d : TheoremParser) (i : Inside) (n : ℕ) (l : Lit) (one two : Script) (given : List Lit) (goal : Goal) → n ≡ i.lines + 1 + size (bare_script one) → Stood known d i (Cases l one two) given goal
+    → Stood known d (second i n l (bare_script one)) two (with_fact given (negation l)) goal
+unfolding bare_script
 cases_two known d i n l one two given goal count s = record {
-  ready = cases_second known d i n l (script_without_certs one) (script_without_certs two) given goal count s.ready;
+  ready = cases_second known d i n l (bare_script one) (bare_script two) given goal count s.ready;
   goal_is = s.goal_is;
   formed = (cases_formed known d i l one two given goal s).1;
 }
 
 cases_along : (known : List TitledStatement) (d : TheoremParser) (i : Inside) (l : Lit) (one two : Script) (given : List Lit) (goal : Goal) → Stood known d i (Cases l one two) given goal
-    → (t : Spelled known d (opens i l) one) → Spelled known d (second i t.last.lines l (script_without_certs one)) two → Spelled known d i (Cases l one two)
-unfolding script_without_certs script_lines kepts size depth due_of
+    → (t : Spelled known d (opens i l) one) → Spelled known d (second i t.last.lines l (bare_script one)) two → Spelled known d i (Cases l one two)
+unfolding bare_script script_lines kepts size depth due_of
 cases_along known d i l one two given goal s t u =
     let r = s.ready in
-    let p = cases_parts known d i l (script_without_certs one) (script_without_certs two) given goal r in
-    let between = second i t.last.lines l (script_without_certs one) in
+    let p = cases_parts known d i l (bare_script one) (bare_script two) given goal r in
+    let between = second i t.last.lines l (bare_script one) in
     let ns = i.in_scope in
     record {
       last = u.last;
       lines = omega (arith, t.lines, u.lines);
       along = λ e h done.
-          let last = second_closed d i u.last l (script_without_certs one) (steps_of (script_without_certs two)) (close_of (script_without_certs two)) (script_without_certs two) (same_script (script_without_certs two) p.plain_second) ∙ no_more d u.last i (closes.Cases l (script_without_certs one) (script_without_certs two)) e h in
+          let last = second_closed d i u.last l (bare_script one) (steps_of (bare_script two)) (close_of (bare_script two)) (bare_script two) (same_script (bare_script two) p.plain_second) ∙ no_more d u.last i (closes.Cases l (bare_script one) (bare_script two)) e h in
           let after_else = then_along known (splitting d between) (proving d between) e else_raw_line due.Nothing [] None (script_lines known ns two) (kepts two) (record {
             good = tt;
             strict = refl;
@@ -420,17 +420,17 @@ cases_along known d i l one two given goal s t u =
             strict = lit_direct ns l;
             apart = refl;
             owes = refl;
-            steps = step_cases known d i l r.order p.plain (omega (arith, r.few, at_least (script_without_certs one))) (omega (arith, r.shallow, deep_at_least (script_without_certs one))) p.facts p.terms;
+            steps = step_cases known d i l r.order p.plain (omega (arith, r.few, at_least (bare_script one))) (omega (arith, r.shallow, deep_at_least (bare_script one))) p.facts p.terms;
             going = refl;
             keeps = nothing_kept ns;
           }) (along_append known (proving d (opens i l)) (splitting d between) e (script_lines known ns one) (line_of else_raw_line ∷ script_lines known ns two) (kepts one) (kepts two)
-          (t.along (splitting d between) (first_closed d i t.last l (steps_of (script_without_certs one)) (close_of (script_without_certs one)) (script_without_certs one) (same_script (script_without_certs one) p.plain_first)) refl) after_else);
+          (t.along (splitting d between) (first_closed d i t.last l (steps_of (bare_script one)) (close_of (bare_script one)) (bare_script one) (same_script (bare_script one) p.plain_first)) refl) after_else);
     }
 
 -- ---- other lines that close a block
 
 qed_along : (known : List TitledStatement) (d : TheoremParser) (i : Inside) (os : List Obj) (certs : List Cert) (given : List Lit) (goal : Goal) → Stood known d i (Qed os certs) given goal → Spelled known d i (Qed os certs)
-unfolding script_without_certs script_lines kepts placed_steps size
+unfolding bare_script script_lines kepts placed_steps size
 qed_along known d i os certs given goal s =
     let before = stated_by known in
     let r = s.ready in
@@ -456,7 +456,7 @@ qed_along known d i os certs given goal s =
     }
 
 contradiction_along : (known : List TitledStatement) (d : TheoremParser) (i : Inside) (a : Against) (given : List Lit) (goal : Goal) → Stood known d i (Contradiction (Some a)) given goal → Spelled known d i (Contradiction (Some a))
-unfolding script_without_certs script_lines kepts placed_steps size due_of
+unfolding bare_script script_lines kepts placed_steps size due_of
 contradiction_along known d i a given goal s =
     let before = stated_by known in
     let r = s.ready in
@@ -513,16 +513,16 @@ script_spelled known d i (Apply theorem args names certs rest) given goal s =
     (script_spelled known d (applied_after i t theorem args names) rest (with_facts given (gives_of_use t (written_args args) (scope_of_names i.in_scope))) goal (apply_next known d i theorem args names certs rest given goal s))
 script_spelled known d i (Claim shown inner rest) given goal s =
     let t = script_spelled known d (deep i (kind.Claim shown) 0) inner given (goal_of shown) (claim_inside known d i shown inner rest given goal s) in
-    let u = script_spelled known d (resume i t.last.lines (Claimed shown (script_without_certs inner)) shown) rest (with_facts given shown) goal (claim_next known d i t.last.lines shown inner rest given goal t.lines s) in
+    let u = script_spelled known d (resume i t.last.lines (Claimed shown (bare_script inner)) shown) rest (with_facts given shown) goal (claim_next known d i t.last.lines shown inner rest given goal t.lines s) in
     claim_along known d i shown inner rest given goal s t u
 script_spelled known d i (Superposed superposition names shown certs inner rest) given goal s =
     let t = script_spelled known d (copied i superposition names shown) inner (with_facts given (superposing.gives_of_superposition superposition (scope_of_names i.in_scope))) (goal_of shown) (copy_inside known d i superposition names shown certs inner rest given goal s) in
-    let u = script_spelled known d (resume i t.last.lines (Copied superposition names shown [] (script_without_certs inner)) shown) rest (with_facts given shown) goal (copy_next known d i t.last.lines superposition names shown certs inner rest given goal t.lines s) in
+    let u = script_spelled known d (resume i t.last.lines (Copied superposition names shown [] (bare_script inner)) shown) rest (with_facts given shown) goal (copy_next known d i t.last.lines superposition names shown certs inner rest given goal t.lines s) in
     copy_along known d i superposition names shown certs inner rest given goal s t u
 script_spelled known d i (Qed os certs) given goal s = qed_along known d i os certs given goal s
 script_spelled known d i (Contradiction None) given goal s = absurd (no_contradiction known d i given goal s)
 script_spelled known d i (Contradiction (Some a)) given goal s = contradiction_along known d i a given goal s
 script_spelled known d i (Cases l one two) given goal s =
     let t = script_spelled known d (opens i l) one (with_fact given l) goal (cases_one known d i l one two given goal s) in
-    let u = script_spelled known d (second i t.last.lines l (script_without_certs one)) two (with_fact given (negation l)) goal (cases_two known d i t.last.lines l one two given goal t.lines s) in
+    let u = script_spelled known d (second i t.last.lines l (bare_script one)) two (with_fact given (negation l)) goal (cases_two known d i t.last.lines l one two given goal t.lines s) in
     cases_along known d i l one two given goal s t u

@@ -3,7 +3,7 @@ use Rattle.std.proofs.Common.{◌≡◌, ℕ, ◌≤◌, true, List, length, sym
 use Rattle.e_literal.specs.Use.{scope_of}
 use Rattle.e_theorem.specs.Statements.{stated}
 use Rattle.e_deriv.specs.Naming.{declared_names}
-use Rattle.e_deriv.specs.Script.{Script, size, depth, script_without_certs}
+use Rattle.e_deriv.specs.Script.{Script, size, depth, bare_script}
 use Rattle.e_deriv.specs.Goal.{goal_of_statement, facts_of_statement}
 use Rattle.e_deriv.specs.Parts.{filled_by}
 use Rattle.e_deriv.specs.Certified.{Certified}
@@ -19,10 +19,10 @@ use Rattle.e_roundtrip.proofs.Formed.Filled.{filled_size, filled_depth, filled_f
 use Rattle.e_roundtrip.proofs.Formed.FilledForms.{forms_of_certified}
 
 -- the derivation without its certificates is the theorem's own script, with the arguments of the derivation
-without_certificates : (s d : Script) → is_plain s ≡ true → script_without_certs d ≡ filled_by (script_without_certs s) d → script_without_certs d ≡ filled_by s d
+without_certificates : (s d : Script) → is_plain s ≡ true → bare_script d ≡ filled_by (bare_script s) d → bare_script d ≡ filled_by s d
 without_certificates s d p e = e ∙ ap (λ (x : Script). filled_by x d) (erased_plain s p)
 
-filled_fits : (known : List TitledStatement) (t : TheoremView) (d : Script) → Fits known t → script_without_certs d ≡ filled_by t.script d → Certified (stated_by known) (stated t.statement) d → Fits known (record t { script = script_without_certs d })
+filled_fits : (known : List TitledStatement) (t : TheoremView) (d : Script) → Fits known t → bare_script d ≡ filled_by t.script d → Certified (stated_by known) (stated t.statement) d → Fits known (record t { script = bare_script d })
 filled_fits known t d h e c =
     let before = stated_by known in
     let st = stated t.statement in
@@ -31,7 +31,7 @@ filled_fits known t d h e c =
     let m = count_monomials t.statement.given in
     let sc = scope_of st in
     let ns = declared_names st t.names in
-    let back : filled_by s d ≡ script_without_certs d = sym e in
+    let back : filled_by s d ≡ bare_script d = sym e in
     record {
       new = h.new;
       scope = h.scope;
@@ -44,7 +44,7 @@ filled_fits known t d h e c =
       good_given = h.good_given;
       good_shown = h.good_shown;
       good_script = ap has_well_formed_literals e ∙ filled_literals s d ∙ h.good_script;
-      script = forms_of_certified before d (script_without_certs d) sc (facts_of_statement st) (facts_of_statement st) (goal_of_statement st) c;
+      script = forms_of_certified before d (bare_script d) sc (facts_of_statement st) (facts_of_statement st) (goal_of_statement st) c;
       new_names = subst (λ (x : Script). NewNamesFit before ns x) back (filled_new_names before ns s d h.new_names);
       steps = subst (λ (k : ℕ). k ≤ most_steps) (sym (ap size e ∙ filled_size s d)) h.steps;
       depth = subst (λ (k : ℕ). k ≤ most_depth) (sym (ap depth e ∙ filled_depth s d)) h.depth;
@@ -58,7 +58,7 @@ filled_fits known t d h e c =
 pub filled_has_spelling : FilledHasSpelling
 filled_has_spelling known t d h e c =
     let s = t.script in
-    let own : script_without_certs d ≡ filled_by s d = without_certificates s d h.script e in
+    let own : bare_script d ≡ filled_by s d = without_certificates s d h.script e in
     record {
       fits = filled_fits known t d h.fits own c;
       few_theorems = h.few_theorems;

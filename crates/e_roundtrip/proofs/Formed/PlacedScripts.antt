@@ -8,7 +8,7 @@ use Rattle.e_text.specs.Tokens.{joined_words}
 use Rattle.e_literal.specs.declared.literal.Lit.{Lit}
 use Rattle.e_literal.specs.Use.{StatementView}
 use Rattle.e_clause.specs.Certify.{certify_all}
-use Rattle.e_deriv.specs.Script.{Script, size, script_without_certs}
+use Rattle.e_deriv.specs.Script.{Script, size, bare_script}
 use Rattle.e_deriv.specs.Goal.{Goal}
 use Rattle.e_deriv.specs.PlacedSteps.{PlacedStep, placed_steps}
 use Rattle.e_deriv.specs.Steps.{fits, needs}
@@ -39,7 +39,7 @@ use Rattle.e_roundtrip.proofs.Blocks.LinesTaken.{Along, along_append, step_along
 
 -- its plain script is ready, the goal is that of the open block, and the certificates of each line have their form
 pub record Stood (known : List TitledStatement) (d : TheoremParser) (i : Inside) (script : Script) (given : List Lit) (goal : Goal) : Type 0 where
-  pub ready : Ready known d i (script_without_certs script) given goal
+  pub ready : Ready known d i (bare_script script) given goal
   pub goal_is : open_goal (proving d i) ≡ goal
   pub formed : list_all (is_formed (stated_by known)) (placed_steps (stated_by known) script script (scope_of_names i.in_scope) given goal) ≡ true
 
@@ -78,8 +78,8 @@ one_formed before x h =
 -- its lines with their certificates are taken, up to the line that closes its block, and what closing the block leaves
 pub record Spelled (known : List TitledStatement) (d : TheoremParser) (i : Inside) (script : Script) : Type 0 where
   pub last : Inside
-  pub lines : last.lines ≡ i.lines + size (script_without_certs script)
-  pub along : (e : TheoremParser) → parser_after_close (proving d last) i.blocks (i.steps ++ steps_of (script_without_certs script)) (close_of (script_without_certs script)) ≡ Ok e → is_done e ≡ false
+  pub lines : last.lines ≡ i.lines + size (bare_script script)
+  pub along : (e : TheoremParser) → parser_after_close (proving d last) i.blocks (i.steps ++ steps_of (bare_script script)) (close_of (bare_script script)) ≡ Ok e → is_done e ≡ false
       → Along known (proving d i) (script_lines known i.in_scope script) e (kepts script)
 
 -- ---- one line

@@ -4,7 +4,7 @@ use Rattle.e_text.specs.Lines.{AreShort}
 use Rattle.e_literal.specs.Use.{scope_of}
 use Rattle.e_clause.specs.declared.cert.Version.{Version}
 use Rattle.e_theorem.specs.Statements.{stated}
-use Rattle.e_deriv.specs.Script.{Script, script_without_certs}
+use Rattle.e_deriv.specs.Script.{Script, bare_script}
 use Rattle.e_deriv.specs.Goal.{goal_of_statement, facts_of_statement}
 use Rattle.e_names.specs.TitledStatements.{TitledStatement}
 use Rattle.e_book.specs.TheoremViews.{TheoremView}
@@ -29,10 +29,10 @@ short_block v known t d k c =
     let h = c.plain in
     let st = stated t.statement in
     let o = in_order t.names h.point_names h.line_names h.circle_names h.fits.differ in
-    let few = few_objects known (record t { script = script_without_certs d }) h in
+    let few = few_objects known (record t { script = bare_script d }) h in
     let script = script_lines known (names_of_proof t) d in
     let last = line_of end_raw_line ∷ [] in
-    short_append (map line_of (head_raw_lines t)) (script ++ last) (short_head known (record t { script = script_without_certs d }) h) (short_append script last
+    short_append (map line_of (head_raw_lines t)) (script ++ last) (short_head known (record t { script = bare_script d }) h) (short_append script last
     (short_script known (started t) (begins t) d (facts_of_statement st) (goal_of_statement st) k (omega (arith, few, length_next (scope_of st) st.made)) (stood v known t d c o)) (short_end, tt))
 
 -- one more statement with few objects
@@ -49,5 +49,5 @@ lines_of_blocks known (p ∷ ps) = spelled_lines known p.0 p.1 ++ lines_of_block
 pub short_blocks : (v : Version) (known : List TitledStatement) (ps : List (TheoremView × Script)) → AllFew known → AllCanBeSpelled v known ps → AreShort 262144 (lines_of_blocks known ps)
 short_blocks v known [] k h = tt
 short_blocks v known (p ∷ ps) k h =
-    let few = few_objects known (record p.0 { script = script_without_certs p.1 }) h.0.plain in
+    let few = few_objects known (record p.0 { script = bare_script p.1 }) h.0.plain in
     short_append (spelled_lines known p.0 p.1) (lines_of_blocks (with_theorem known p.0) ps) (short_block v known p.0 p.1 k h.0) (short_blocks v (with_theorem known p.0) ps (one_more known p.0 k few) h.1)

@@ -10,7 +10,7 @@ use Rattle.e_literal.specs.declared.object.Obj.{Obj}
 use Rattle.e_literal.specs.declared.literal.Lit.{Lit}
 use Rattle.e_literal.specs.Literal.{negation, is_in_scope, all_in_scope}
 use Rattle.e_literal.specs.WellFormed.{is_well_formed}
-use Rattle.e_literal.specs.Scopes.{grown}
+use Rattle.e_literal.specs.Scopes.{with_sorts}
 use Rattle.e_literal.specs.Facts.{with_fact, with_facts}
 use Rattle.e_literal.specs.Rename.{same_obj}
 use Rattle.e_literal.specs.Use.{StatementView, are_arguments, gives_of_use, needs_of_use}
@@ -25,7 +25,7 @@ use Rattle.e_construct.specs.Construct.{sorts_made, gives_of_construction, needs
 use Rattle.e_construct.specs.Superposing as superposing
 use Rattle.e_theorem.specs.Choice.{fills, is_choice}
 use Rattle.e_deriv.specs.PlainStep.{Cited, Claimed, Copied}
-use Rattle.e_deriv.specs.Script.{Script, Cite, Hence, Make, Apply, Claim, Superposed, Qed, Contradiction, Cases, size, script_without_certs}
+use Rattle.e_deriv.specs.Script.{Script, Cite, Hence, Make, Apply, Claim, Superposed, Qed, Contradiction, Cases, size, bare_script}
 use Rattle.e_deriv.specs.Goal.{Goal, goal_of, goal_with}
 use Rattle.e_deriv.specs.PlacedSteps.{placed_step, placed_steps}
 use Rattle.e_deriv.specs.Naming.{named}
@@ -91,7 +91,7 @@ as_many (Some x ∷ xs) (o ∷ os) h = ap suc (as_many xs os (and_parts (same_ob
 
 -- a citation
 cite_short : (known : List TitledStatement) (d : TheoremParser) (i : Inside) (b : By) (rest : Script) (given : List Lit) (goal : Goal) → Stood known d i (Cite b rest) given goal → AreShortLines known i rest → AreShortLines known i (Cite b rest)
-unfolding script_without_certs script_lines placed_steps has_well_formed_literals
+unfolding bare_script script_lines placed_steps has_well_formed_literals
 cite_short known d i b rest given goal s more =
     let before = stated_by known in
     let sc = scope_of_names i.in_scope in
@@ -100,26 +100,26 @@ cite_short known d i b rest given goal s more =
     let p = and_parts (is_diagram_rule b.rule) (list_all (is_in_scope sc) b.args && (all_in_scope sc b.lit && is_some (Inst b.rule b.args))) one.fitting in
     let q = and_parts (list_all (is_in_scope sc) b.args) (all_in_scope sc b.lit && is_some (Inst b.rule b.args)) p.1 in
     let r = and_parts (all_in_scope sc b.lit) (is_some (Inst b.rule b.args)) q.1 in
-    let good = (and_parts (is_diagram_lit b.lit) (has_well_formed_literals (script_without_certs rest)) s.ready.good).0 in
+    let good = (and_parts (is_diagram_lit b.lit) (has_well_formed_literals (bare_script rest)) s.ready.good).0 in
     (short_by i.in_scope b s.ready.order (diagram_is_well_formed b.lit good) (few_cited b.rule b.args r.1), more)
 
 -- an inference with its certificate
 hence_short : (known : List TitledStatement) (d : TheoremParser) (i : Inside) (l : Lit) (c : Cert) (rest : Script) (given : List Lit) (goal : Goal) → Stood known d i (Hence l (Some c) rest) given goal → AreShortLines known i rest → AreShortLines known i (Hence l (Some c) rest)
-unfolding script_without_certs script_lines placed_steps has_well_formed_literals
+unfolding bare_script script_lines placed_steps has_well_formed_literals
 hence_short known d i l c rest given goal s more =
     let before = stated_by known in
     let ns = i.in_scope in
     let sc = scope_of_names ns in
     let here = placed_step (Hence l (Some c) rest) (Hence l (Some c) rest) sc given goal in
     let one = one_formed before here (first_of (is_formed before) here (placed_steps before rest rest sc (with_fact given l) goal) s.formed).0 in
-    let good = (and_parts (is_well_formed l) (has_well_formed_literals (script_without_certs rest)) s.ready.good).0 in
+    let good = (and_parts (is_well_formed l) (has_well_formed_literals (bare_script rest)) s.ready.good).0 in
     let certs = short_certs ns (l ∷ []) (c ∷ []) s.ready.order (good_certs ns (l ∷ []) (c ∷ []) one.certs) in
     (short_hence ns l s.ready.order good, short_append (certs_lines ns (c ∷ [])) (script_lines known ns rest) certs more)
 
 -- a construction: what it avoids is bounded by the facts that it gives
 make_short : (known : List TitledStatement) (d : TheoremParser) (i : Inside) (construction : Construction) (names : List (List ℕ)) (certs : List Cert) (rest : Script) (given : List Lit) (goal : Goal) → Stood known d i (Make construction names certs rest) given goal
     → AreShortLines known (constructed i construction names) rest → AreShortLines known i (Make construction names certs rest)
-unfolding script_without_certs script_lines placed_steps is_plain few_facts
+unfolding bare_script script_lines placed_steps is_plain few_facts
 make_short known d i construction names certs rest given goal s more =
     let before = stated_by known in
     let r = s.ready in
@@ -127,30 +127,30 @@ make_short known d i construction names certs rest given goal s more =
     let sc = scope_of_names ns in
     let n = i.facts + length (gives_of_construction construction sc) in
     let here = placed_step (Make construction names certs rest) (Make construction names certs rest) sc given goal in
-    let one = one_formed before here (first_of (is_formed before) here (placed_steps before rest rest (grown sc (sorts_made construction)) (with_facts given (gives_of_construction construction sc)) goal) s.formed).0 in
-    let most = leb-true _ _ (and_parts (leb n most_facts) (few_facts before n (grown sc (sorts_made construction)) (script_without_certs rest)) r.facts).0 in
-    let words = list_names names (and_parts (list_all _ names) (is_plain (script_without_certs rest)) r.plain).0 in
+    let one = one_formed before here (first_of (is_formed before) here (placed_steps before rest rest (with_sorts sc (sorts_made construction)) (with_facts given (gives_of_construction construction sc)) goal) s.formed).0 in
+    let most = leb-true _ _ (and_parts (leb n most_facts) (few_facts before n (with_sorts sc (sorts_made construction)) (bare_script rest)) r.facts).0 in
+    let words = list_names names (and_parts (list_all _ names) (is_plain (bare_script rest)) r.plain).0 in
     let own = short_certs ns (needs_of_construction construction) certs r.order (good_certs ns (needs_of_construction construction) certs one.certs) in
     (short_let ns construction names r.order words (omega (arith, most, avoided_give construction sc)), short_append (certs_lines ns certs) (script_lines known (named ns (sorts_made construction) names) rest) own more)
 
 -- the use of an earlier theorem
 apply_short : (known : List TitledStatement) (d : TheoremParser) (i : Inside) (theorem : ℕ) (args : List (Option Obj)) (names : List (List ℕ)) (certs : List Cert) (rest : Script) (given : List Lit) (goal : Goal) → AllFew known
     → Stood known d i (Apply theorem args names certs rest) given goal → AreShortLines known (applied_after i (theorem_of known theorem) theorem args names) rest → AreShortLines known i (Apply theorem args names certs rest)
-unfolding script_without_certs script_lines placed_steps NewNamesFit names_theorems
+unfolding bare_script script_lines placed_steps NewNamesFit names_theorems
 apply_short known d i theorem args names certs rest given goal k s more =
     let before = stated_by known in
     let r = s.ready in
     let ns = i.in_scope in
     let sc = scope_of_names ns in
     let t = theorem_of known theorem in
-    let p = apply_parts known d i theorem args names (script_without_certs rest) given goal r in
+    let p = apply_parts known d i theorem args names (bare_script rest) given goal r in
     let here = placed_step (Apply theorem args names certs rest) (Apply theorem args names certs rest) sc given goal in
-    let one = one_formed before here (first_of (is_formed before) here (placed_steps before rest rest (grown sc t.made) (with_facts given (gives_of_use t (written_args args) sc)) goal) s.formed).0 in
+    let one = one_formed before here (first_of (is_formed before) here (placed_steps before rest rest (with_sorts sc t.made) (with_facts given (gives_of_use t (written_args args) sc)) goal) s.formed).0 in
     let choice = (and_parts _ (is_choice t sc args (written_args args)) one.fitting).1 in
     let fit = and_parts (fills args (written_args args)) (are_arguments t sc (written_args args)) choice in
     let count = of_sorts_length sc t.declared (written_args args) fit.1 in
     let few = few_at known theorem k in
-    let title = (and_parts (is_title (title_at known theorem)) _ (and_parts (is_named_by_title known theorem) (names_theorems known (script_without_certs rest)) r.theorems).0).0 in
+    let title = (and_parts (is_title (title_at known theorem)) _ (and_parts (is_named_by_title known theorem) (names_theorems known (bare_script rest)) r.theorems).0).0 in
     let wanted = needs_of_use t (written_args args) sc in
     let own = short_certs ns wanted certs r.order (good_certs ns wanted certs one.certs) in (
       short_apply known ns theorem args names r.order title p.named (omega (arith, as_many args (written_args args) fit.0, count, few.declared)) (omega (arith, r.new_names.1, few.made)),
@@ -160,19 +160,19 @@ apply_short known d i theorem args names certs rest given goal k s more =
 -- a claim
 claim_short : (known : List TitledStatement) (d : TheoremParser) (i : Inside) (shown : List Lit) (inner rest : Script) (given : List Lit) (goal : Goal) → Stood known d i (Claim shown inner rest) given goal
     → AreShortLines known i inner → AreShortLines known i rest → AreShortLines known i (Claim shown inner rest)
-unfolding script_without_certs script_lines
+unfolding bare_script script_lines
 claim_short known d i shown inner rest given goal s inside more =
     let ns = i.in_scope in
-    let p = claim_parts known d i shown (script_without_certs inner) (script_without_certs rest) given goal s.ready in
+    let p = claim_parts known d i shown (bare_script inner) (bare_script rest) given goal s.ready in
     (short_claim ns shown s.ready.order p.plain.good (omega (arith, p.facts)) (omega (arith, p.terms)), short_append (script_lines known ns inner) (script_lines known ns rest) inside more)
 
 -- a superposition
 copy_short : (known : List TitledStatement) (d : TheoremParser) (i : Inside) (superposition : Superpose) (names : List (List ℕ)) (shown : List Lit) (certs : List Cert) (inner rest : Script) (given : List Lit) (goal : Goal)
     → Stood known d i (Superposed superposition names shown certs inner rest) given goal → AreShortLines known (copied i superposition names shown) inner → AreShortLines known i rest → AreShortLines known i (Superposed superposition names shown certs inner rest)
-unfolding script_without_certs script_lines
+unfolding bare_script script_lines
 copy_short known d i superposition names shown certs inner rest given goal s inside more =
     let ns = i.in_scope in
-    let p = copy_parts known d i superposition names shown (script_without_certs inner) (script_without_certs rest) given goal s.ready in
+    let p = copy_parts known d i superposition names shown (bare_script inner) (bare_script rest) given goal s.ready in
     let wanted = superposing.needs_of_superposition superposition in
     let c = (copy_formed known d i superposition names shown certs inner rest given goal s).2 in
     let own = short_certs ns wanted certs s.ready.order (good_certs ns wanted certs c) in
@@ -210,10 +210,10 @@ contradiction_short known d i a given goal s =
 -- a split
 cases_short : (known : List TitledStatement) (d : TheoremParser) (i : Inside) (l : Lit) (one two : Script) (given : List Lit) (goal : Goal) → Stood known d i (Cases l one two) given goal → AreShortLines known i one → AreShortLines known i two
     → AreShortLines known i (Cases l one two)
-unfolding script_without_certs script_lines
+unfolding bare_script script_lines
 cases_short known d i l one two given goal s first second =
     let ns = i.in_scope in
-    let p = cases_parts known d i l (script_without_certs one) (script_without_certs two) given goal s.ready in
+    let p = cases_parts known d i l (bare_script one) (bare_script two) given goal s.ready in
     (short_cases ns l s.ready.order p.plain.good, short_append (script_lines known ns one) (line_of else_raw_line ∷ script_lines known ns two) first (short_else, second))
 
 -- ---- all lines
@@ -233,20 +233,20 @@ short_script known d i (Apply theorem args names certs rest) given goal k m s =
     apply_short known d i theorem args names certs rest given goal k s
     (short_script known d (applied_after i t theorem args names) rest (with_facts given (gives_of_use t (written_args args) (scope_of_names i.in_scope))) goal k m (apply_next known d i theorem args names certs rest given goal s))
 short_script known d i (Claim shown inner rest) given goal k m s =
-    let n = i.lines + 1 + size (script_without_certs inner) in
+    let n = i.lines + 1 + size (bare_script inner) in
     claim_short known d i shown inner rest given goal s
     (short_script known d (deep i (kind.Claim shown) 0) inner given (goal_of shown) k (omega arith) (claim_inside known d i shown inner rest given goal s))
-    (short_script known d (resume i n (Claimed shown (script_without_certs inner)) shown) rest (with_facts given shown) goal k m (claim_next known d i n shown inner rest given goal refl s))
+    (short_script known d (resume i n (Claimed shown (bare_script inner)) shown) rest (with_facts given shown) goal k m (claim_next known d i n shown inner rest given goal refl s))
 short_script known d i (Superposed superposition names shown certs inner rest) given goal k m s =
-    let n = i.lines + 1 + size (script_without_certs inner) in
+    let n = i.lines + 1 + size (bare_script inner) in
     copy_short known d i superposition names shown certs inner rest given goal s
     (short_script known d (copied i superposition names shown) inner (with_facts given (superposing.gives_of_superposition superposition (scope_of_names i.in_scope))) (goal_of shown) k (omega arith) (copy_inside known d i superposition names shown certs inner rest given goal s))
-    (short_script known d (resume i n (Copied superposition names shown [] (script_without_certs inner)) shown) rest (with_facts given shown) goal k m (copy_next known d i n superposition names shown certs inner rest given goal refl s))
+    (short_script known d (resume i n (Copied superposition names shown [] (bare_script inner)) shown) rest (with_facts given shown) goal k m (copy_next known d i n superposition names shown certs inner rest given goal refl s))
 short_script known d i (Qed os certs) given goal k m s = qed_short known d i os certs given goal s m
 short_script known d i (Contradiction None) given goal k m s = absurd (no_contradiction known d i given goal s)
 short_script known d i (Contradiction (Some a)) given goal k m s = contradiction_short known d i a given goal s
 short_script known d i (Cases l one two) given goal k m s =
-    let n = i.lines + 1 + size (script_without_certs one) in
+    let n = i.lines + 1 + size (bare_script one) in
     cases_short known d i l one two given goal s
     (short_script known d (opens i l) one (with_fact given l) goal k m (cases_one known d i l one two given goal s))
-    (short_script known d (second i n l (script_without_certs one)) two (with_fact given (negation l)) goal k m (cases_two known d i n l one two given goal refl s))
+    (short_script known d (second i n l (bare_script one)) two (with_fact given (negation l)) goal k m (cases_two known d i n l one two given goal refl s))

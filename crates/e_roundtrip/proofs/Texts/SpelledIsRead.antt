@@ -12,7 +12,7 @@ use Rattle.e_literal.specs.declared.literal.Lit.{Lit}
 use Rattle.e_literal.specs.Use.{scope_of}
 use Rattle.e_literal.proofs.GrownScopes.{sorts_next}
 use Rattle.e_theorem.specs.Statements.{stated}
-use Rattle.e_deriv.specs.Script.{Script, script_without_certs, Cite, Hence, Make, Apply, Claim, Superposed, Qed, Contradiction, Cases}
+use Rattle.e_deriv.specs.Script.{Script, bare_script, Cite, Hence, Make, Apply, Claim, Superposed, Qed, Contradiction, Cases}
 use Rattle.e_deriv.specs.Goal.{Goal, goal_of_statement, facts_of_statement}
 use Rattle.e_deriv.specs.PlacedSteps.{placed_steps}
 use Rattle.e_line.specs.declared.raw_line.RawLine.TheVariants as rawlines
@@ -71,7 +71,7 @@ use Rattle.e_roundtrip.proofs.Heads.HeadAlong.{parser_is, head_along, statement_
 
 -- the entry without certificates
 abbrev plain_entry : TheoremView → Script → TheoremView
-plain_entry t d = record t { script = script_without_certs d }
+plain_entry t d = record t { script = bare_script d }
 
 pub stood : (v : Version) (known : List TitledStatement) (t : TheoremView) (d : Script) → CanBeSpelled v known t d → InOrder t.names → Stood known (started t) (begins t) d (facts_of_statement (stated t.statement)) (goal_of_statement (stated t.statement))
 stood v known t d c o =
@@ -81,19 +81,19 @@ stood v known t d c o =
     let facts : List Lit = facts_of_statement (stated t.statement) in
     let goal : Goal = goal_of_statement (stated t.statement) in
     let scope : s ≡ scope_of_names (names_of_proof t) = sym (declared_scope (stated t.statement) t.names h.fits.scope) in
-    let ready : Ready known (started t) (begins t) (script_without_certs d) facts goal = record {
+    let ready : Ready known (started t) (begins t) (bare_script d) facts goal = record {
       order = first_in_order s t.names o;
       goal_sorts = sorts_next s t.statement.made;
       plain = h.script;
-      fitting = subst (λ (z : Scope). list_all (line_fits before) (placed_steps before (script_without_certs d) (script_without_certs d) z facts goal) ≡ true) scope h.fits.script;
+      fitting = subst (λ (z : Scope). list_all (line_fits before) (placed_steps before (bare_script d) (bare_script d) z facts goal) ≡ true) scope h.fits.script;
       new_names = h.fits.new_names;
       few = omega (arith, h.fits.steps);
       shallow = omega (arith, h.fits.depth);
       good = h.fits.good_script;
       theorems = h.theorems;
       blanks = h.fits.blanks;
-      facts = subst (λ (z : Scope). few_facts before (length t.statement.given) z (script_without_certs d) ≡ true) scope h.fits.facts;
-      terms = subst (λ (z : Scope). few_terms before (count_monomials t.statement.given) z (script_without_certs d) ≡ true) scope h.fits.terms;
+      facts = subst (λ (z : Scope). few_facts before (length t.statement.given) z (bare_script d) ≡ true) scope h.fits.facts;
+      terms = subst (λ (z : Scope). few_terms before (count_monomials t.statement.given) z (bare_script d) ≡ true) scope h.fits.terms;
     } in
     record {
       ready = ready;
@@ -103,9 +103,9 @@ stood v known t d c o =
 
 -- the parser after the last close line
 abbrev shut_parser : TheoremView → Script → Inside → TheoremParser
-shut_parser t d last = record (proving (started t) last) { steps = steps_of (script_without_certs d); blocks = []; close = close_of (script_without_certs d); section = Closed }
+shut_parser t d last = record (proving (started t) last) { steps = steps_of (bare_script d); blocks = []; close = close_of (bare_script d); section = Closed }
 
-closed_last : (t : TheoremView) (d : Script) (last : Inside) → parser_after_close (proving (started t) last) [] (steps_of (script_without_certs d)) (close_of (script_without_certs d)) ≡ Ok (shut_parser t d last)
+closed_last : (t : TheoremView) (d : Script) (last : Inside) → parser_after_close (proving (started t) last) [] (steps_of (bare_script d)) (close_of (bare_script d)) ≡ Ok (shut_parser t d last)
 unfolding parser_after_close
 closed_last t d last = refl
 
@@ -224,8 +224,8 @@ step_end known t d last = refl
 -- the certificates at their lines
 script_whole : (t : TheoremView) (d : Script) (known : List TitledStatement) → HasSpelling known (plain_entry t d) → (last : Inside) → theorem_with_certs (record (shut_parser t d last) { section = Done }) (kepts d) ≡ record t { script = d }
 script_whole t d known h last =
-    let same = same_script (script_without_certs d) h.script in
-    let back : script_with_certs (script_without_certs d) (kepts d) ≡ (d, []) = ap (script_with_certs (script_without_certs d)) (sym (append-nil (kepts d))) ∙ filled_back d [] in
+    let same = same_script (bare_script d) h.script in
+    let back : script_with_certs (bare_script d) (kepts d) ≡ (d, []) = ap (script_with_certs (bare_script d)) (sym (append-nil (kepts d))) ∙ filled_back d [] in
     ap (λ (x : Script). record t { script = (script_with_certs x (kepts d)).0 }) same ∙ ap (λ (x : Script × List StepCerts). record t { script = x.0 }) back
 
 end_leads : (known : List TitledStatement) (t : TheoremView) (d : Script) (last : Inside) (r : BlockParser) → Stands r (shut_parser t d last) (kepts d)

@@ -10,13 +10,13 @@ use Rattle.e_literal.specs.declared.object.Scope.{Scope}
 use Rattle.e_literal.specs.declared.literal.Lit.{Lit}
 use Rattle.e_literal.specs.Literal.{negation}
 use Rattle.e_literal.specs.Facts.{with_fact, with_facts}
-use Rattle.e_literal.specs.Scopes.{grown, next_objects}
+use Rattle.e_literal.specs.Scopes.{with_sorts, next_objects}
 use Rattle.e_literal.specs.Use.{StatementView}
 use Rattle.e_construct.specs.Construct.{sorts_made, gives_of_construction}
 use Rattle.e_construct.specs.Superposing as superposing
 use Rattle.e_deriv.specs.declared.names.Names.{Names}
 use Rattle.e_deriv.specs.Naming.{with_names, named}
-use Rattle.e_deriv.specs.Script.{Script, Cite, Hence, Make, Apply, Claim, Superposed, Qed, Contradiction, Cases, script_without_certs}
+use Rattle.e_deriv.specs.Script.{Script, Cite, Hence, Make, Apply, Claim, Superposed, Qed, Contradiction, Cases, bare_script}
 use Rattle.e_deriv.specs.Goal.{Goal, goal_of}
 use Rattle.e_deriv.specs.PlacedSteps.{theorem_at}
 use Rattle.e_line.specs.declared.fault.FaultKind.{FaultKind}
@@ -121,42 +121,42 @@ either P true x y h k = h
 either P false x y h k = k
 
 pub names_left : (before : List StatementView) (d : Script) (kept : List Obj) (s : Scope) (facts : List Lit) (goal : Goal) (less ns : Names) → Fewer less ns
-    → NewNamesFit before ns (script_without_certs d) → NewNamesFit before less (script_without_certs (trimmed_from before kept d s facts goal))
-unfolding trimmed_from script_without_certs NewNamesFit
+    → NewNamesFit before ns (bare_script d) → NewNamesFit before less (bare_script (trimmed_from before kept d s facts goal))
+unfolding trimmed_from bare_script NewNamesFit
 names_left before (Cite by rest) kept s facts goal less ns f h =
     let r = names_left before rest kept s (with_fact facts by.lit) goal less ns f h in
-    either (λ x. NewNamesFit before less (script_without_certs x)) (is_kept before (Cite by rest) s facts (wants before rest s (with_fact facts by.lit) goal)) _ _ r r
+    either (λ x. NewNamesFit before less (bare_script x)) (is_kept before (Cite by rest) s facts (wants before rest s (with_fact facts by.lit) goal)) _ _ r r
 names_left before (Hence lit cert rest) kept s facts goal less ns f h =
     let r = names_left before rest kept s (with_fact facts lit) goal less ns f h in
-    either (λ x. NewNamesFit before less (script_without_certs x)) (is_kept before (Hence lit cert rest) s facts (wants before rest s (with_fact facts lit) goal)) _ _ r r
+    either (λ x. NewNamesFit before less (bare_script x)) (is_kept before (Hence lit cert rest) s facts (wants before rest s (with_fact facts lit) goal)) _ _ r r
 names_left before (Make construction names certs rest) kept s facts goal less ns f h =
     let after = with_facts facts (gives_of_construction construction s) in
-    let wide = grown s (sorts_made construction) in
+    let wide = with_sorts s (sorts_made construction) in
     let both = both_named less ns (sorts_made construction) names f in
-    either (λ x. NewNamesFit before less (script_without_certs x)) (is_kept before (Make construction names certs rest) s facts (wants before rest wide after goal)) _ _
+    either (λ x. NewNamesFit before less (bare_script x)) (is_kept before (Make construction names certs rest) s facts (wants before rest wide after goal)) _ _
     (still_fresh less ns [] names f h.0, h.1, still_few (named less (sorts_made construction) names) (named ns (sorts_made construction) names) both h.2, names_left before rest (kept ++ next_objects s (sorts_made construction)) wide after goal (named less (sorts_made construction) names) (named ns (sorts_made construction) names) both h.3)
     (names_left before rest kept wide after goal less (named ns (sorts_made construction) names) (wider less ns (sorts_made construction) names f) h.3)
 names_left before (Apply theorem args names certs rest) kept s facts goal less ns f h =
     let here = Apply theorem args names certs rest in
     let new = (theorem_at before theorem).made in
     let after = with_facts facts (joins_at before here s) in
-    let wide = grown s new in
+    let wide = with_sorts s new in
     let both = both_named less ns new names f in
-    either (λ x. NewNamesFit before less (script_without_certs x)) (is_kept before here s facts (wants before rest wide after goal)) _ _
+    either (λ x. NewNamesFit before less (bare_script x)) (is_kept before here s facts (wants before rest wide after goal)) _ _
     (still_fresh less ns [] names f h.0, h.1, still_few (named less new names) (named ns new names) both h.2, names_left before rest (kept ++ next_objects s new) wide after goal (named less new names) (named ns new names) both h.3)
     (names_left before rest kept wide after goal less (named ns new names) (wider less ns new names f) h.3)
 names_left before (Claim shown inner rest) kept s facts goal less ns f h =
     let r = names_left before rest kept s (with_facts facts shown) goal less ns f h.1 in
-    either (λ x. NewNamesFit before less (script_without_certs x)) (is_kept before (Claim shown inner rest) s facts (wants before rest s (with_facts facts shown) goal)) _ _ (names_left before inner kept s facts (goal_of shown) less ns f h.0, r) r
+    either (λ x. NewNamesFit before less (bare_script x)) (is_kept before (Claim shown inner rest) s facts (wants before rest s (with_facts facts shown) goal)) _ _ (names_left before inner kept s facts (goal_of shown) less ns f h.0, r) r
 names_left before (Superposed superposition names shown certs inner rest) kept s facts goal less ns f h =
     let r = names_left before rest kept s (with_facts facts shown) goal less ns f h.4 in
     let kind = with_facts facts (superposing.gives_of_superposition superposition s) in
     let both = both_named less ns superposing.sorts_copied names f in
-    either (λ x. NewNamesFit before less (script_without_certs x)) (is_kept before (Superposed superposition names shown certs inner rest) s facts (wants before rest s (with_facts facts shown) goal)) _ _ (
+    either (λ x. NewNamesFit before less (bare_script x)) (is_kept before (Superposed superposition names shown certs inner rest) s facts (wants before rest s (with_facts facts shown) goal)) _ _ (
       still_fresh less ns [] names f h.0,
       h.1,
       still_few (named less superposing.sorts_copied names) (named ns superposing.sorts_copied names) both h.2,
-      names_left before inner (kept ++ next_objects s superposing.sorts_copied) (grown s superposing.sorts_copied) kind (goal_of shown) (named less superposing.sorts_copied names) (named ns superposing.sorts_copied names) both h.3,
+      names_left before inner (kept ++ next_objects s superposing.sorts_copied) (with_sorts s superposing.sorts_copied) kind (goal_of shown) (named less superposing.sorts_copied names) (named ns superposing.sorts_copied names) both h.3,
       r,
     )
     r

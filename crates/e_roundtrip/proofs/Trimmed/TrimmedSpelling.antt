@@ -12,7 +12,7 @@ use Rattle.e_literal.specs.declared.object.Scope.{Scope}
 use Rattle.e_literal.specs.declared.literal.Lit.{Lit}
 use Rattle.e_literal.specs.Literal.{negation}
 use Rattle.e_literal.specs.Facts.{with_fact, with_facts}
-use Rattle.e_literal.specs.Scopes.{grown, next_objects}
+use Rattle.e_literal.specs.Scopes.{with_sorts, next_objects}
 use Rattle.e_literal.specs.Use.{StatementView, scope_of, is_statement}
 use Rattle.e_clause.specs.declared.cert.Version.TheVariants.{One}
 use Rattle.e_construct.specs.Construct.{sorts_made, gives_of_construction}
@@ -20,7 +20,7 @@ use Rattle.e_construct.specs.Superposing as superposing
 use Rattle.e_construct.proofs.Moving.{every}
 use Rattle.e_theorem.specs.Statements.{stated}
 use Rattle.e_deriv.specs.Naming.{declared_names}
-use Rattle.e_deriv.specs.Script.{Script, Cite, Hence, Make, Apply, Claim, Superposed, Qed, Contradiction, Cases, script_without_certs, depth}
+use Rattle.e_deriv.specs.Script.{Script, Cite, Hence, Make, Apply, Claim, Superposed, Qed, Contradiction, Cases, bare_script, depth}
 use Rattle.e_deriv.specs.Goal.{Goal, goal_of, goal_of_statement, facts_of_statement}
 use Rattle.e_deriv.specs.PlacedSteps.{theorem_at}
 use Rattle.e_deriv.specs.Certified.{Certified}
@@ -37,7 +37,7 @@ use Rattle.e_book.proofs.fit_theorems.Fitting.{small_statement}
 use Rattle.e_book.proofs.fit_theorems.WrittenScripts.{erased_literals, written_well}
 use Rattle.e_read.specs.Text.{at_start, piece_from}
 use Rattle.e_read.proofs.Bridge.{derives}
-use Rattle.e_trim.specs.Trimmed.{declared_of, joins_at, lit_among_kept, is_kept, wants, trimmed_from, trimmed}
+use Rattle.e_trim.specs.Trimmed.{declared_of, joins_at, lit_among_kept, is_kept, wants, trimmed_from, trimmed_script}
 use Rattle.e_trim.proofs.kept_scripts.Shorter.{trimmed_shorter}
 use Rattle.e_trim.proofs.kept_scripts.CertifiedDerivations.{trimmed_certified}
 use Rattle.e_judgement.proofs.WithCertificates.{size_erased}
@@ -52,40 +52,40 @@ use Rattle.e_roundtrip.proofs.Trimmed.TrimmedNames.{fewer_own, names_left}
 
 -- ---- the theorems that it uses have titles
 
-theorems_left : (known : List TitledStatement) (before : List StatementView) (d : Script) (kept : List Obj) (s : Scope) (facts : List Lit) (goal : Goal) → names_theorems known (script_without_certs d) ≡ true → names_theorems known (script_without_certs (trimmed_from before kept d s facts goal)) ≡ true
-unfolding trimmed_from script_without_certs names_theorems
+theorems_left : (known : List TitledStatement) (before : List StatementView) (d : Script) (kept : List Obj) (s : Scope) (facts : List Lit) (goal : Goal) → names_theorems known (bare_script d) ≡ true → names_theorems known (bare_script (trimmed_from before kept d s facts goal)) ≡ true
+unfolding trimmed_from bare_script names_theorems
 theorems_left known before (Cite by rest) kept s facts goal h =
     let r = theorems_left known before rest kept s (with_fact facts by.lit) goal h in
-    either (λ x. names_theorems known (script_without_certs x)) (is_kept before (Cite by rest) s facts (wants before rest s (with_fact facts by.lit) goal)) _ _ r r
+    either (λ x. names_theorems known (bare_script x)) (is_kept before (Cite by rest) s facts (wants before rest s (with_fact facts by.lit) goal)) _ _ r r
 theorems_left known before (Hence lit cert rest) kept s facts goal h =
     let r = theorems_left known before rest kept s (with_fact facts lit) goal h in
-    either (λ x. names_theorems known (script_without_certs x)) (is_kept before (Hence lit cert rest) s facts (wants before rest s (with_fact facts lit) goal)) _ _ r r
+    either (λ x. names_theorems known (bare_script x)) (is_kept before (Hence lit cert rest) s facts (wants before rest s (with_fact facts lit) goal)) _ _ r r
 theorems_left known before (Make construction names certs rest) kept s facts goal h =
-    either (λ x. names_theorems known (script_without_certs x)) (is_kept before (Make construction names certs rest) s facts (wants before rest (grown s (sorts_made construction)) (with_facts facts (gives_of_construction construction s)) goal)) _ _
-    (theorems_left known before rest (kept ++ next_objects s (sorts_made construction)) (grown s (sorts_made construction)) (with_facts facts (gives_of_construction construction s)) goal h)
-    (theorems_left known before rest kept (grown s (sorts_made construction)) (with_facts facts (gives_of_construction construction s)) goal h)
+    either (λ x. names_theorems known (bare_script x)) (is_kept before (Make construction names certs rest) s facts (wants before rest (with_sorts s (sorts_made construction)) (with_facts facts (gives_of_construction construction s)) goal)) _ _
+    (theorems_left known before rest (kept ++ next_objects s (sorts_made construction)) (with_sorts s (sorts_made construction)) (with_facts facts (gives_of_construction construction s)) goal h)
+    (theorems_left known before rest kept (with_sorts s (sorts_made construction)) (with_facts facts (gives_of_construction construction s)) goal h)
 theorems_left known before (Apply theorem args names certs rest) kept s facts goal h =
     let here = Apply theorem args names certs rest in
     let new = (theorem_at before theorem).made in
-    let p = and_parts (is_named_by_title known theorem) (names_theorems known (script_without_certs rest)) h in
+    let p = and_parts (is_named_by_title known theorem) (names_theorems known (bare_script rest)) h in
     let after = with_facts facts (joins_at before here s) in
-    either (λ x. names_theorems known (script_without_certs x)) (is_kept before here s facts (wants before rest (grown s new) after goal)) _ _
-    (and_from (is_named_by_title known theorem) _ p.0 (theorems_left known before rest (kept ++ next_objects s new) (grown s new) after goal p.1))
-    (theorems_left known before rest kept (grown s new) after goal p.1)
+    either (λ x. names_theorems known (bare_script x)) (is_kept before here s facts (wants before rest (with_sorts s new) after goal)) _ _
+    (and_from (is_named_by_title known theorem) _ p.0 (theorems_left known before rest (kept ++ next_objects s new) (with_sorts s new) after goal p.1))
+    (theorems_left known before rest kept (with_sorts s new) after goal p.1)
 theorems_left known before (Claim shown inner rest) kept s facts goal h =
-    let p = and_parts (names_theorems known (script_without_certs inner)) (names_theorems known (script_without_certs rest)) h in
+    let p = and_parts (names_theorems known (bare_script inner)) (names_theorems known (bare_script rest)) h in
     let r = theorems_left known before rest kept s (with_facts facts shown) goal p.1 in
-    either (λ x. names_theorems known (script_without_certs x)) (is_kept before (Claim shown inner rest) s facts (wants before rest s (with_facts facts shown) goal)) _ _
+    either (λ x. names_theorems known (bare_script x)) (is_kept before (Claim shown inner rest) s facts (wants before rest s (with_facts facts shown) goal)) _ _
     (and_from _ _ (theorems_left known before inner kept s facts (goal_of shown) p.0) r) r
 theorems_left known before (Superposed superposition names shown certs inner rest) kept s facts goal h =
-    let p = and_parts (names_theorems known (script_without_certs inner)) (names_theorems known (script_without_certs rest)) h in
+    let p = and_parts (names_theorems known (bare_script inner)) (names_theorems known (bare_script rest)) h in
     let r = theorems_left known before rest kept s (with_facts facts shown) goal p.1 in
-    either (λ x. names_theorems known (script_without_certs x)) (is_kept before (Superposed superposition names shown certs inner rest) s facts (wants before rest s (with_facts facts shown) goal)) _ _
-    (and_from _ _ (theorems_left known before inner (kept ++ next_objects s superposing.sorts_copied) (grown s superposing.sorts_copied) (with_facts facts (superposing.gives_of_superposition superposition s)) (goal_of shown) p.0) r) r
+    either (λ x. names_theorems known (bare_script x)) (is_kept before (Superposed superposition names shown certs inner rest) s facts (wants before rest s (with_facts facts shown) goal)) _ _
+    (and_from _ _ (theorems_left known before inner (kept ++ next_objects s superposing.sorts_copied) (with_sorts s superposing.sorts_copied) (with_facts facts (superposing.gives_of_superposition superposition s)) (goal_of shown) p.0) r) r
 theorems_left known before (Qed objects certs) kept s facts goal h = refl
 theorems_left known before (Contradiction against) kept s facts goal h = refl
 theorems_left known before (Cases lit first second) kept s facts goal h =
-    let p = and_parts (names_theorems known (script_without_certs first)) (names_theorems known (script_without_certs second)) h in
+    let p = and_parts (names_theorems known (bare_script first)) (names_theorems known (bare_script second)) h in
     and_from _ _ (theorems_left known before first kept s (with_fact facts lit) goal p.0) (theorems_left known before second kept s (with_fact facts (negation lit)) goal p.1)
 
 -- ---- its lines are plain, their certificates left out
@@ -94,46 +94,46 @@ theorems_left known before (Cases lit first second) kept s facts goal h =
 some_left : (kept : List Obj) (shown : List Lit) → nat_lt 0 (length shown) ≡ true → nat_lt 0 (length (map (lit_among_kept kept) shown)) ≡ true
 some_left kept shown h = ap (nat_lt 0) (length-map shown (lit_among_kept kept)) ∙ h
 
-plain_left : (before : List StatementView) (d : Script) (kept : List Obj) (s : Scope) (facts : List Lit) (goal : Goal) → is_plain (script_without_certs d) ≡ true → is_plain (script_without_certs (trimmed_from before kept d s facts goal)) ≡ true
-unfolding trimmed_from script_without_certs is_plain
+plain_left : (before : List StatementView) (d : Script) (kept : List Obj) (s : Scope) (facts : List Lit) (goal : Goal) → is_plain (bare_script d) ≡ true → is_plain (bare_script (trimmed_from before kept d s facts goal)) ≡ true
+unfolding trimmed_from bare_script is_plain
 plain_left before (Cite by rest) kept s facts goal h =
     let r = plain_left before rest kept s (with_fact facts by.lit) goal h in
-    either (λ x. is_plain (script_without_certs x)) (is_kept before (Cite by rest) s facts (wants before rest s (with_fact facts by.lit) goal)) _ _ r r
+    either (λ x. is_plain (bare_script x)) (is_kept before (Cite by rest) s facts (wants before rest s (with_fact facts by.lit) goal)) _ _ r r
 plain_left before (Hence lit cert rest) kept s facts goal h =
     let r = plain_left before rest kept s (with_fact facts lit) goal h in
-    either (λ x. is_plain (script_without_certs x)) (is_kept before (Hence lit cert rest) s facts (wants before rest s (with_fact facts lit) goal)) _ _ r r
+    either (λ x. is_plain (bare_script x)) (is_kept before (Hence lit cert rest) s facts (wants before rest s (with_fact facts lit) goal)) _ _ r r
 plain_left before (Make construction names certs rest) kept s facts goal h =
-    let p = and_parts (list_all is_name names) (is_plain (script_without_certs rest)) h in
+    let p = and_parts (list_all is_name names) (is_plain (bare_script rest)) h in
     let after = with_facts facts (gives_of_construction construction s) in
-    either (λ x. is_plain (script_without_certs x)) (is_kept before (Make construction names certs rest) s facts (wants before rest (grown s (sorts_made construction)) after goal)) _ _
-    (and_from (list_all is_name names) _ p.0 (plain_left before rest (kept ++ next_objects s (sorts_made construction)) (grown s (sorts_made construction)) after goal p.1))
-    (plain_left before rest kept (grown s (sorts_made construction)) after goal p.1)
+    either (λ x. is_plain (bare_script x)) (is_kept before (Make construction names certs rest) s facts (wants before rest (with_sorts s (sorts_made construction)) after goal)) _ _
+    (and_from (list_all is_name names) _ p.0 (plain_left before rest (kept ++ next_objects s (sorts_made construction)) (with_sorts s (sorts_made construction)) after goal p.1))
+    (plain_left before rest kept (with_sorts s (sorts_made construction)) after goal p.1)
 plain_left before (Apply theorem args names certs rest) kept s facts goal h =
     let here = Apply theorem args names certs rest in
     let new = (theorem_at before theorem).made in
-    let p = and_parts (list_all is_name names) (is_plain (script_without_certs rest)) h in
+    let p = and_parts (list_all is_name names) (is_plain (bare_script rest)) h in
     let after = with_facts facts (joins_at before here s) in
-    either (λ x. is_plain (script_without_certs x)) (is_kept before here s facts (wants before rest (grown s new) after goal)) _ _
-    (and_from (list_all is_name names) _ p.0 (plain_left before rest (kept ++ next_objects s new) (grown s new) after goal p.1))
-    (plain_left before rest kept (grown s new) after goal p.1)
+    either (λ x. is_plain (bare_script x)) (is_kept before here s facts (wants before rest (with_sorts s new) after goal)) _ _
+    (and_from (list_all is_name names) _ p.0 (plain_left before rest (kept ++ next_objects s new) (with_sorts s new) after goal p.1))
+    (plain_left before rest kept (with_sorts s new) after goal p.1)
 plain_left before (Claim shown inner rest) kept s facts goal h =
-    let p = and_parts (nat_lt 0 (length shown)) (is_plain (script_without_certs inner) && is_plain (script_without_certs rest)) h in
-    let q = and_parts (is_plain (script_without_certs inner)) (is_plain (script_without_certs rest)) p.1 in
+    let p = and_parts (nat_lt 0 (length shown)) (is_plain (bare_script inner) && is_plain (bare_script rest)) h in
+    let q = and_parts (is_plain (bare_script inner)) (is_plain (bare_script rest)) p.1 in
     let r = plain_left before rest kept s (with_facts facts shown) goal q.1 in
-    either (λ x. is_plain (script_without_certs x)) (is_kept before (Claim shown inner rest) s facts (wants before rest s (with_facts facts shown) goal)) _ _
+    either (λ x. is_plain (bare_script x)) (is_kept before (Claim shown inner rest) s facts (wants before rest s (with_facts facts shown) goal)) _ _
     (and_from _ _ (some_left kept shown p.0) (and_from _ _ (plain_left before inner kept s facts (goal_of shown) q.0) r)) r
 plain_left before (Superposed superposition names shown certs inner rest) kept s facts goal h =
-    let o = and_parts (list_all is_name names) (nat_lt 0 (length shown) && (is_plain (script_without_certs inner) && is_plain (script_without_certs rest))) h in
-    let p = and_parts (nat_lt 0 (length shown)) (is_plain (script_without_certs inner) && is_plain (script_without_certs rest)) o.1 in
-    let q = and_parts (is_plain (script_without_certs inner)) (is_plain (script_without_certs rest)) p.1 in
+    let o = and_parts (list_all is_name names) (nat_lt 0 (length shown) && (is_plain (bare_script inner) && is_plain (bare_script rest))) h in
+    let p = and_parts (nat_lt 0 (length shown)) (is_plain (bare_script inner) && is_plain (bare_script rest)) o.1 in
+    let q = and_parts (is_plain (bare_script inner)) (is_plain (bare_script rest)) p.1 in
     let r = plain_left before rest kept s (with_facts facts shown) goal q.1 in
     let kind = with_facts facts (superposing.gives_of_superposition superposition s) in
-    either (λ x. is_plain (script_without_certs x)) (is_kept before (Superposed superposition names shown certs inner rest) s facts (wants before rest s (with_facts facts shown) goal)) _ _
-    (and_from (list_all is_name names) _ o.0 (and_from _ _ (some_left kept shown p.0) (and_from _ _ (plain_left before inner (kept ++ next_objects s superposing.sorts_copied) (grown s superposing.sorts_copied) kind (goal_of shown) q.0) r))) r
+    either (λ x. is_plain (bare_script x)) (is_kept before (Superposed superposition names shown certs inner rest) s facts (wants before rest s (with_facts facts shown) goal)) _ _
+    (and_from (list_all is_name names) _ o.0 (and_from _ _ (some_left kept shown p.0) (and_from _ _ (plain_left before inner (kept ++ next_objects s superposing.sorts_copied) (with_sorts s superposing.sorts_copied) kind (goal_of shown) q.0) r))) r
 plain_left before (Qed objects certs) kept s facts goal h = refl
 plain_left before (Contradiction against) kept s facts goal h = refl
 plain_left before (Cases lit first second) kept s facts goal h =
-    let p = and_parts (is_plain (script_without_certs first)) (is_plain (script_without_certs second)) h in
+    let p = and_parts (is_plain (bare_script first)) (is_plain (bare_script second)) h in
     and_from _ _ (plain_left before first kept s (with_fact facts lit) goal p.0) (plain_left before second kept s (with_fact facts (negation lit)) goal p.1)
 
 -- ---- the whole
@@ -142,13 +142,13 @@ are_statements : (ts : List StatementView) → list_all is_small_statement ts �
 are_statements ts h = every is_small_statement is_statement (λ t k. (and_parts (is_statement t) (is_small (all_objects t)) k).0) ts h
 
 -- a theorem that can be spelled states something small
-states : (known : List TitledStatement) (t : TheoremView) → HasSpelling known (record t { script = script_without_certs t.script }) → is_statement (stated t.statement) ≡ true
-states known t h = (and_parts (is_statement (stated t.statement)) (is_small (all_objects (stated t.statement))) (small_statement known (record t { script = script_without_certs t.script }) h.fits)).0
+states : (known : List TitledStatement) (t : TheoremView) → HasSpelling known (record t { script = bare_script t.script }) → is_statement (stated t.statement) ≡ true
+states known t h = (and_parts (is_statement (stated t.statement)) (is_small (all_objects (stated t.statement))) (small_statement known (record t { script = bare_script t.script }) h.fits)).0
 
 abbrev left_of : List TitledStatement → TheoremView → Script
-left_of known t = trimmed (stated_by known) (stated t.statement) t.script
+left_of known t = trimmed_script (stated_by known) (stated t.statement) t.script
 
-trimmed_fits : (known : List TitledStatement) (t : TheoremView) → Fits known (record t { script = script_without_certs t.script }) → has_well_formed_literals t.script ≡ true → Certified (stated_by known) (stated t.statement) (left_of known t) → Fits known (record t { script = script_without_certs (left_of known t) })
+trimmed_fits : (known : List TitledStatement) (t : TheoremView) → Fits known (record t { script = bare_script t.script }) → has_well_formed_literals t.script ≡ true → Certified (stated_by known) (stated t.statement) (left_of known t) → Fits known (record t { script = bare_script (left_of known t) })
 trimmed_fits known t h good c =
     let before = stated_by known in
     let st = stated t.statement in
@@ -171,7 +171,7 @@ trimmed_fits known t h good c =
       good_given = h.good_given;
       good_shown = h.good_shown;
       good_script = literals_left before d kept s stand goal good;
-      script = forms_of_certified before left (script_without_certs left) s stand stand goal c;
+      script = forms_of_certified before left (bare_script left) s stand stand goal c;
       new_names = names_left before d kept s stand goal (declared_names st t.names) (declared_names st t.names) (fewer_own (declared_names st t.names)) h.new_names;
       steps = omega (arith, size_erased left, short.0, size_erased d, h.steps);
       depth = omega (arith, depth_erased left, short.1, depth_erased d, h.depth);
