@@ -16,7 +16,7 @@ use Rattle.e_cert.specs.declared.cert_line.RawRow.{RawRow}
 use Rattle.e_cert.specs.declared.cert_line.RawRow.TheVariants as rows
 use Rattle.e_cert.specs.declared.cert_line.CertLine.{CertLine}
 use Rattle.e_cert.specs.declared.cert_line.CertLine.TheVariants as certlines
-use Rattle.e_cert.specs.CertLines.{multiplier_of, placed, place_of_digits, fact_row_of, bare_row, raw_row_named, raw_row_of, may_differ, bare_cert_line, differs_of, transfer_of, fact_cert_line_of, row_cert_line_of, cert_line_named, cert_line_of}
+use Rattle.e_cert.specs.CertLines.{multiplier_of, limited_place, place_of_digits, fact_row_of, bare_row, raw_row_named, raw_row_of, may_differ, bare_cert_line, differs_of, transfer_of, fact_cert_line_of, row_cert_line_of, cert_line_named, cert_line_of}
 
 -- what is said of a row's literal, where the row is a fact; a place has 32 bits
 abbrev pub OfRow : (RawLit → Type 0) → RawRow → Type 0
@@ -32,7 +32,7 @@ OfCertLine P Q (certlines.Clash l) = Q l
 OfCertLine P Q (certlines.FactAt k) = ltb k (2 ^ 32) ≡ true
 OfCertLine P Q cert_line = Unit {0}
 
-few_places : (o : Option ℕ) (k : ℕ) → placed o ≡ Ok k → ltb k (2 ^ 32) ≡ true
+few_places : (o : Option ℕ) (k : ℕ) → limited_place o ≡ Ok k → ltb k (2 ^ 32) ≡ true
 few_places None k e = absurd cc
 few_places (Some n) k e = let p = passed (ltb n (2 ^ 32)) (read_ok n) k e in ap (λ m. ltb m (2 ^ 32)) (sym (ok_is n k p.1)) ∙ p.0
 

@@ -42,7 +42,7 @@ use Rattle.e_clause.specs.declared.cert.Against.{Against}
 use Rattle.e_clause.specs.declared.cert.Against.TheVariants as against
 use Rattle.e_cert.specs.Owed.{after_cert_line, with_sums_ended, sums_ended, finish_certs, row_put, sums_after, due_after, part_put, metric_put, takes_metric, clash_put, transfer_begun, kept_of, has_more, certificate, transfer_put, open_transfer_in, transfer_at}
 use Rattle.e_cert.specs.Rows.{most_rows, row_in}
-use Rattle.e_cert.specs.Certificates.{Lack, More, Wrong, Begins, or_wrong, rows_from, sum_from, sums_from, part_from, each_from, instance_in, cert_from, against_from, Due, Nothing, Certificates, OfContradiction, due_from, alone, below}
+use Rattle.e_cert.specs.Certificates.{Lack, More, Wrong, Begins, or_wrong, rows_from, sum_from, sums_from, part_from, each_from, instance_in, cert_from, against_from, Due, Nothing, Certificates, OfContradiction, due_from, if_none_left, below}
 
 -- what is owed after lines, one after another
 abbrev pub fed : Pending → List CertLine → Result Pending FaultKind
@@ -691,7 +691,7 @@ Agrees r (Ok k) = (p : Pending) × (r ≡ Ok p) × (finish_certs p ≡ Ok k)
 Agrees r (Err More) = (p : Pending) × (r ≡ Ok p) × IsFault (finish_certs p)
 Agrees r (Err Wrong) = IsFault r
 
-agrees : (ns : Names) (r : Result Pending FaultKind) (b : Begins (Option StepCerts)) → Goes r b (Done ns) → Agrees r (b >>= λ x. alone x.0 x.1)
+agrees : (ns : Names) (r : Result Pending FaultKind) (b : Begins (Option StepCerts)) → Goes r b (Done ns) → Agrees r (b >>= λ x. if_none_left x.0 x.1)
 agrees ns r (Ok (k, [])) g = (g.0, g.1, finish_clear ns g.2.0 g.0 [] g.2.1 ∙ g.2.2)
 agrees ns r (Ok (k, m ∷ ms)) g = subst IsFault (sym g.1) (past ns g.2.0 g.0 m ms g.2.3 g.2.1)
 agrees ns r (Err More) g = g

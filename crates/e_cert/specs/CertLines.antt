@@ -22,12 +22,12 @@ use Rattle.e_cert.specs.declared.cert_line.CertLine.TheVariants as certlines
 -- ---- multipliers
 
 -- the size of a multiplier: a numeral from 1 to 2 ^ 80
-abbrev pub sized : Option ℕ → Result ℕ FaultKind
-sized None = Err Malformed
-sized (Some n) = if nat_lt 0 n && nat_le n (2 ^ 80) then Ok n else Err Malformed
+abbrev pub limited_size : Option ℕ → Result ℕ FaultKind
+limited_size None = Err Malformed
+limited_size (Some n) = if nat_lt 0 n && nat_le n (2 ^ 80) then Ok n else Err Malformed
 
 abbrev pub size_of : List ℕ → Result ℤ FaultKind
-size_of digits = sized (number_of digits) >>= λ n. Ok (pos n)
+size_of digits = limited_size (number_of digits) >>= λ n. Ok (pos n)
 
 -- a whole number other than 0, with a minus sign where it is negative
 abbrev pub multiplier_of : List ℕ → Result ℤ FaultKind
@@ -38,12 +38,12 @@ multiplier_of (b ∷ bs) =
 -- ---- rows
 
 -- a place among the facts: a numeral below 2 ^ 32
-abbrev pub placed : Option ℕ → Result ℕ FaultKind
-placed None = Err Malformed
-placed (Some n) = if nat_lt n (2 ^ 32) then Ok n else Err Malformed
+abbrev pub limited_place : Option ℕ → Result ℕ FaultKind
+limited_place None = Err Malformed
+limited_place (Some n) = if nat_lt n (2 ^ 32) then Ok n else Err Malformed
 
 abbrev pub place_of_digits : List ℕ → Result ℕ FaultKind
-place_of_digits digits = placed (number_of digits)
+place_of_digits digits = limited_place (number_of digits)
 
 -- the row of a fact: one word is its place, and a literal has more
 unfoldable pub fact_row_of : List (List ℕ) → Result RawRow FaultKind

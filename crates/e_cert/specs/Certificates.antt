@@ -118,13 +118,13 @@ due_from ns OfContradiction ms =
     against_from ns ms >>= λ a. Ok (Some (kept.Against a.0), a.1)
 
 -- no line is left
-abbrev pub alone : {A : Type 0} → A → List CertLine → Result A Lack
-alone x [] = Ok x
-alone x (m ∷ ms) = Err Wrong
+abbrev pub if_none_left : {A : Type 0} → A → List CertLine → Result A Lack
+if_none_left x [] = Ok x
+if_none_left x (m ∷ ms) = Err Wrong
 
 -- the lines below a line: all that it owes, or a front of it, or one is wrong
 abbrev pub below : Names → Due → List CertLine → Result (Option StepCerts) Lack
-below ns due ms = due_from ns due ms >>= λ x. alone x.0 x.1
+below ns due ms = due_from ns due ms >>= λ x. if_none_left x.0 x.1
 
 -- the first of a line's certificates
 abbrev pub first_cert : List Cert → Option Cert

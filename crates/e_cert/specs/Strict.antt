@@ -1,6 +1,7 @@
 -- Lines of certificates that have the one spelling of what they say.
-use Rattle.std.specs.Prelude.{ℕ, Bool, true, ◌&&◌, List, Result, Ok, Err, if◌then◌else◌}
+use Rattle.std.specs.Prelude.{ℕ, Bool, true, ◌&&◌, List, [], ◌∷◌, Result, Ok, Err, if◌then◌else◌, codes}
 use Rattle.std.specs.Str.{bytes_eq}
+use Rattle.e_text.specs.Tokens.{tokens_of}
 use Rattle.e_line.specs.declared.fault.FaultKind.{FaultKind}
 use Rattle.e_line.specs.declared.fault.FaultKind.TheVariants.{Malformed}
 use Rattle.e_line.specs.Reading.{◌>>=◌}
@@ -26,3 +27,12 @@ exact_cert_line line words =
     cert_line_of words
     >>= λ m. if is_strict_cert_line m && bytes_eq line (cert_line_text m) then Ok m else
     Err Malformed
+
+-- the same of the whole line: its first word is the sign
+abbrev pub cert_line_of_words : List ℕ → List (List ℕ) → Result CertLine FaultKind
+cert_line_of_words line [] = Err Malformed
+cert_line_of_words line (w ∷ ws) =
+    if bytes_eq w (codes "|") then exact_cert_line line ws else Err Malformed
+
+abbrev pub cert_line_of_bytes : List ℕ → Result CertLine FaultKind
+cert_line_of_bytes line = cert_line_of_words line (tokens_of line)

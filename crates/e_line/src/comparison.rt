@@ -12,19 +12,11 @@ use itoa::{Buffer, Integer};
 use std::marker::Model;
 
 /// What comes after these bytes.
+#[tactic(auto, using(crate::proofs::base::Past::past_stripped))]
 fn after_bytes<'a>(text: &'a [u8], bytes: &[u8]) -> Option<&'a [u8]>
     ensures { IsAfter result (past_bytes bytes.now text.now) }
 {
-    let [byte, bytes @ ..] = bytes else {
-        return Some(text);
-    };
-    let [first, rest @ ..] = text else {
-        return None;
-    };
-    if *first != *byte {
-        return None;
-    }
-    after_bytes(rest, bytes)
+    text.strip_prefix(bytes)
 }
 
 /// What comes after a space and a word.

@@ -14,3 +14,4 @@ pub mod Ends
 pub mod Pieces
 pub mod Settled
 pub mod FirstGarbled
+pub mod SeenAgain

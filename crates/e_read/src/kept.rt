@@ -1,17 +1,21 @@
 //! What was read below the lines of a block.
-ghost use Rattle.std.specs.Prelude.{◌≡◌, ◌++◌, [], OnOk};
+ghost use Rattle.std.specs.Prelude.{◌≡◌, ◌++◌, [], OnOk, IfSome, Ok};
 ghost use Rattle.std.specs.Option.{option_to_list};
+ghost use Rattle.e_cert.specs.Strict.{cert_line_of_bytes};
 ghost use Rattle.e_read.specs.Filled.{NextCerts};
 
-use e_cert::StepCerts;
+use e_cert::{CertLine, SeenLines, StepCerts};
 use std::alloc::{AllocError, Global};
 use std::marker::Model;
+use std::mem;
 use std::vec::IntoIter;
 
-/// What was read below the lines of a block, in their order, seen as its list.
+/// What was read below the lines of a block, in their order, seen as its list. The lines of
+/// certificates are kept too, so that one that comes again is not read again.
 #[derive(Drop)]
 pub struct AllCerts {
     lines: Vec<StepCerts>,
+    seen: SeenLines,
 }
 
 impl Model for AllCerts {
@@ -30,7 +34,28 @@ impl AllCerts {
     {
         AllCerts {
             lines: Vec::new(alloc),
+            seen: SeenLines::new(alloc),
         }
+    }
+
+    /// What a line of a certificate says, where an equal one is kept.
+    pub(crate) fn find(&self, line: &[u8]) -> Option<&CertLine>
+        ensures { IfSome result (λ m. cert_line_of_bytes line.now ≡ Ok m.now) }
+    {
+        self.seen.find(line)
+    }
+
+    /// Keeps what a line of a certificate says.
+    pub(crate) fn put(
+        &mut self,
+        alloc: Global,
+        line: &[u8],
+        cert_line: CertLine,
+    ) -> Result<(), AllocError>
+        requires { cert_line_of_bytes line.now ≡ Ok cert_line }
+        ensures { self.new ≡ self.old }
+    {
+        self.seen.put(alloc, line, cert_line)
     }
 
     /// What was read below the next line, if that has certificates.
@@ -47,7 +72,8 @@ impl AllCerts {
     pub(crate) fn into_queue(self) -> CertQueue
         ensures { result ≡ self }
     {
-        let AllCerts { lines } = self;
+        let AllCerts { lines, seen } = self;
+        mem::drop(seen);
         CertQueue {
             rest: lines.into_iter(),
         }

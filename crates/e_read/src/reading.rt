@@ -1,15 +1,20 @@
 //! A block of a derivation text while its lines come.
-ghost use Rattle.std.specs.Prelude.{◌≡◌, ◌≤◌, length, IfOk, OnOk, OnSome, IsTrue, None, Some};
+ghost use Rattle.std.specs.Prelude.{◌≡◌, ◌≤◌, length, IfOk, OnOk, OnSome, IsTrue, None, Some, Err};
+ghost use Rattle.std.specs.Prelude.{if◌then◌else◌};
 ghost use Rattle.std.specs.List.{list_all};
 ghost use Rattle.e_text.specs.Lines.{view_of_line};
 ghost use Rattle.e_text.specs.Tokens.{tokens_of};
 ghost use Rattle.e_deriv.specs.Fitting.{is_small_statement};
 ghost use Rattle.e_line.specs.Limits.{most_theorems};
+ghost use Rattle.e_line.specs.declared.fault.FaultKind.TheVariants.{Malformed};
 ghost use Rattle.e_names.specs.TitledStatements.{stated_by};
 ghost use Rattle.e_book.specs.TheoremViews.{entry_of};
 ghost use Rattle.e_line.specs.Reading.{texts, Gives, Moves};
 ghost use Rattle.e_names.specs.Scope.{FewNames};
 ghost use Rattle.e_book.specs.Steps.{no_names};
+ghost use Rattle.e_cert.specs.CertLines.{cert_line_is_of};
+ghost use Rattle.e_cert.specs.Owed.{after_cert_line};
+ghost use Rattle.e_cert.specs.Strict.{exact_cert_line, cert_line_of_bytes};
 ghost use Rattle.e_read.specs.inner.Machine.{owes_nothing, is_settled, at_start, with_cert_line};
 ghost use Rattle.e_read.specs.inner.Machine.{parser_after_certificate, owed_by, parser_and_owed};
 ghost use Rattle.e_read.specs.inner.Machine.{finish_line, with_raw_line, parser_after_exact_line};
@@ -25,7 +30,7 @@ use crate::kept::AllCerts;
 use crate::needs::due_of;
 use crate::strict::is_apart;
 use e_book::{Section, Theorem, TheoremParser, no_names};
-use e_cert::{Obligation, Pending, cert_line_is_of, exact_cert_line};
+use e_cert::{CertLine, Obligation, Pending, cert_line_is_of, exact_cert_line};
 use e_clause::Version;
 use e_line::{LineError, RawLine, exact_line_of, words_of_line};
 use e_names::Theorems;
@@ -128,6 +133,24 @@ fn take_next(
     Ok(())
 }
 
+/// Takes what a line of a certificate says, which may come in the version of the text.
+fn take_cert_line(
+    alloc: Global,
+    version: Version,
+    owed: &mut Pending,
+    cert_line: &CertLine,
+) -> Result<(), LineError>
+    requires { FewNames owed.old.names }
+    ensures value { Moves result owed.new (if cert_line_is_of version cert_line.now
+        then after_cert_line owed.old cert_line.now else Err Malformed) }
+    ensures names { OnOk result (owed.new.names ≡ owed.old.names) }
+{
+    if !cert_line_is_of(version, cert_line) {
+        return Err(LineError::MALFORMED);
+    }
+    owed.after_cert_line(alloc, cert_line)
+}
+
 impl BlockParser {
     /// Before the first line, in a text of this version.
     pub(crate) fn new(alloc: Global, version: Version) -> BlockParser
@@ -143,27 +166,27 @@ impl BlockParser {
     }
 
     /// Takes a line of a certificate.
-    #[tactic(auto, unfolding(crate::specs::inner::Machine::parser_after_certificate, crate::specs::inner::Machine::with_cert_line))]
+    #[tactic(auto, unfolding(crate::specs::inner::Machine::parser_after_certificate))]
     fn take_certificate(
         &mut self,
         alloc: Global,
         line: &[u8],
         words: &[&[u8]],
     ) -> Result<(), LineError>
-        requires { FewNames self.old.owed.names }
+        requires names { FewNames self.old.owed.names }
+        requires words { cert_line_of_bytes line.now ≡ exact_cert_line line.now (texts words.now) }
         ensures value { Moves result self.new
             (parser_after_certificate self.old line.now (texts words.now)) }
         ensures parser { OnOk result (self.new.parser ≡ self.old.parser) }
         ensures names { OnOk result (self.new.owed.names ≡ self.old.owed.names) }
     {
         let cert_line = exact_cert_line(alloc, line, words)?;
-        if !cert_line_is_of(self.version, &cert_line) {
+        if let Err(error) = take_cert_line(alloc, self.version, &mut self.owed, &cert_line) {
             mem::drop(cert_line);
-            return Err(LineError::MALFORMED);
+            return Err(error);
         }
-        let taken = self.owed.after_cert_line(alloc, &cert_line);
-        mem::drop(cert_line);
-        taken
+        self.kept.put(alloc, line, cert_line)?;
+        Ok(())
     }
 
     /// Takes any other line: nothing is owed any more.
@@ -275,6 +298,9 @@ impl BlockParser {
         ensures fits { OnOk result (FitsReading self.new) }
         ensures few { OnOk result (OnSome self.new.parser (length known.now ≤ most_theorems)) }
     {
+        if let Some(cert_line) = self.kept.find(line) {
+            return take_cert_line(alloc, self.version, &mut self.owed, cert_line);
+        }
         let words = words_of_line(alloc, line)?;
         self.take_words(alloc, known, line, &words)
     }

@@ -1,9 +1,10 @@
 -- A text compared with words, and whether it is they.
-use Rattle.std.proofs.Common.{◌≡◌, ℕ, Bool, true, false, List, [], ◌∷◌, ◌++◌, Option, Some, None, refl, sym, ap, ◌∙◌}
-use Rattle.std.specs.Prelude.{◌==◌, ◌&&◌, if◌then◌else◌}
+use Rattle.std.proofs.Common.{◌≡◌, ℕ, Bool, true, false, cond, List, [], ◌∷◌, ◌++◌, length, Option, Some, None, refl, sym, ap, ◌∙◌}
+use Rattle.std.specs.Prelude.{◌==◌, ◌&&◌, ◌+◌, take, drop, MatchOption, if◌then◌else◌}
+use Rattle.std.specs.Borrow.{Bor}
 use Rattle.std.specs.Str.{bytes_eq}
 use Rattle.e_text.specs.Tokens.{with_spaces}
-use Rattle.e_line.specs.Comparison.{past_bytes, past_word, past, is_spelled}
+use Rattle.e_line.specs.Comparison.{past_bytes, past_word, past, is_spelled, IsAfter}
 
 pub past_append : (text : Option (List ℕ)) (xs ys : List (List ℕ)) → past text (xs ++ ys) ≡ past (past text xs) ys
 past_append text [] ys = refl
@@ -50,3 +51,22 @@ words_are_bytes (w ∷ ws) text = words_both (past_bytes (32 ∷ w) text) ws (wo
 -- a text is as it should be where it is these words, each after a space
 pub words_are_spelled : (ws : List (List ℕ)) (text : List ℕ) → is_spelled (past (Some text) ws) ≡ bytes_eq text (with_spaces ws)
 words_are_spelled ws text = ap is_spelled (words_are_bytes ws text) ∙ bytes_are_spelled (with_spaces ws) text
+
+-- what is past bytes comes after a front of the text that is they
+abbrev after_front : Bool → List ℕ → List ℕ → Option (List ℕ)
+after_front is_front bytes text = cond is_front (Some (drop (length bytes) text)) None
+
+front_chosen : (same is_front : Bool) (b c : ℕ) (bytes text : List ℕ) → past_bytes bytes text ≡ after_front is_front bytes text → (if same then past_bytes bytes text else None) ≡ after_front (same && is_front) (b ∷ bytes) (c ∷ text)
+front_chosen true is_front b c bytes text e = e
+front_chosen false is_front b c bytes text e = refl
+
+past_front : (bytes text : List ℕ) → past_bytes bytes text ≡ after_front (bytes_eq (take (length bytes) text) bytes) bytes text
+past_front [] text = refl
+past_front (b ∷ bytes) [] = refl
+past_front (b ∷ bytes) (c ∷ text) = front_chosen (c == b) (bytes_eq (take (length bytes) text) bytes) b c bytes text (past_front bytes text)
+
+pub past_stripped : (bytes text : List ℕ) (found : Option (Bor (List ℕ)))
+    → MatchOption found (bytes_eq (take (length bytes) text) bytes ≡ false) (λ x. (bytes_eq (take (length bytes) text) bytes ≡ true) × (x.now ≡ drop (length bytes) text) × (length x.now + length bytes ≡ length text))
+    → IsAfter found (past_bytes bytes text)
+past_stripped bytes text None h = past_front bytes text ∙ ap (λ (f : Bool). after_front f bytes text) h
+past_stripped bytes text (Some rest) h = past_front bytes text ∙ ap (λ (f : Bool). after_front f bytes text) h.0 ∙ ap (λ (t : List ℕ). Some t) (sym h.1)

@@ -46,7 +46,7 @@ use Rattle.e_cert.specs.declared.owed.Obligation.TheVariants as due
 use Rattle.e_cert.specs.declared.owed.Pending.{Pending}
 use Rattle.e_cert.specs.declared.kept.StepCerts.{StepCerts}
 use Rattle.e_cert.specs.declared.kept.StepCerts.TheVariants as kept
-use Rattle.e_cert.specs.CertLines.{sized, size_of, multiplier_of, raw_row_of, may_differ, bare_cert_line, differs_of, transfer_of, row_cert_line_of, cert_line_named, cert_line_of, cert_line_text, place_of_digits as place_in, fact_cert_line_of}
+use Rattle.e_cert.specs.CertLines.{limited_size, size_of, multiplier_of, raw_row_of, may_differ, bare_cert_line, differs_of, transfer_of, row_cert_line_of, cert_line_named, cert_line_of, cert_line_text, place_of_digits as place_in, fact_cert_line_of}
 use Rattle.e_cert.specs.Strict.{is_strict_cert_line, exact_cert_line}
 use Rattle.e_cert.specs.Owed.{has_more, certificate, row_put, sum_begun, differs_put, sums_ended, transfer_put, part_put, metric_put, takes_metric, clash_put, count_others, transfer_at, open_transfer_in, transfer_begun, with_sums_ended, sums_after, due_after, after_cert_line, kept_of, finish_certs}
 use Rattle.e_cert.specs.Rows.{row_in, transfer_rule}
@@ -62,7 +62,7 @@ record Small (n : ℕ) : Type 0 where
   some : 0 < n
   few : n ≤ 2 ^ 80
 
-sized_small : (o : Option ℕ) (n : ℕ) → sized o ≡ Ok n → Small n
+sized_small : (o : Option ℕ) (n : ℕ) → limited_size o ≡ Ok n → Small n
 sized_small None n e = absurd cc
 sized_small (Some k) n e =
     let p = passed (ltb 0 k && leb k (2 ^ 80)) (read_ok k) n e in
@@ -82,7 +82,7 @@ good_neg (suc n) h = and_from _ _ (not_zero (negsuc n) (λ e. absurd cc)) (le-le
 
 size_is : (ds : List ℕ) (m : ℤ) → size_of ds ≡ Ok m → (n : ℕ) × (pos n ≡ m) × Small n
 size_is ds m e =
-    let n = bind_ok (sized (number_of ds)) (λ n. read_ok (pos n)) m e in
+    let n = bind_ok (limited_size (number_of ds)) (λ n. read_ok (pos n)) m e in
     (n.0, ok_is (pos n.0) m n.2, sized_small (number_of ds) n.0 n.1)
 
 multiplier_good : (w : List ℕ) (m : ℤ) → multiplier_of w ≡ Ok m → is_nonzero_bounded m ≡ true
