@@ -8,7 +8,6 @@ use Rattle.std.proofs.lemmas.List.Folds.{list_all-append}
 use Rattle.e_literal.specs.declared.literal.Atom.TheVariants.{MagEq}
 use Rattle.e_literal.specs.declared.literal.Lit.{Lit}
 use Rattle.e_literal.specs.declared.object.Mono.{Mono}
-use Rattle.e_literal.specs.declared.object.Obj.{Obj}
 use Rattle.e_literal.specs.declared.object.Scope.{Scope}
 use Rattle.e_literal.specs.declared.object.Term.{Term}
 use Rattle.e_literal.specs.declared.object.Term.TheVariants.{Seg, Ang, Area, Right}
@@ -31,7 +30,11 @@ use Rattle.e_transfer.specs.Areas.{is_among_areas, are_listed, name_areas_of, Li
 use Rattle.e_transfer.specs.GivenGoals.{IsFittingLiteral}
 use Rattle.e_transfer.specs.Marks.{mark_number, lit_mark, is_area_term}
 use Rattle.e_transfer.specs.Models.{value_in_list, is_flattened, value_when_canonical, value_by, fits_term, fits_terms, is_model}
-use Rattle.e_transfer.specs.inner.PartsOfChoices.{chosen_arguments, term_last}
+use Rattle.e_clause.specs.Metric.{MetricConsequence}
+use Rattle.e_clause.specs.Views.{row_of}
+use Rattle.e_transfer.specs.declared.numbers.Numbers.{Numbers}
+use Rattle.e_transfer.specs.inner.Angles.{later_number, NeverDiffer}
+use Rattle.e_transfer.specs.inner.PartsOfChoices.{arguments_by, chosen_arguments, term_last}
 use Rattle.e_transfer.specs.inner.SearchedPlaces.{NoneFrom}
 use Rattle.e_transfer.proofs.Instances.{of_instance, at_map, number_kept, term_kept}
 use Rattle.e_transfer.proofs.MarkedFacts.{mark_alike, sufficient_follows, fits_area, area_at}
@@ -131,7 +134,7 @@ other_value filling t s vs unflat = elim (cases_Bool (term_eq (canonical s) (can
   | inr n ↦ elsewhere filling t s (value_by filling vs s) vs n
 ]
 
-equal_fails : (c a b : ℕ) → a ≡ b → not (eqb (c * a + 0) (c * b + 0)) ≡ false
+pub equal_fails : (c a b : ℕ) → a ≡ b → not (eqb (c * a + 0) (c * b + 0)) ≡ false
 equal_fails c a b e = ap not (eq-eqb (c * a + 0) (c * b + 0) (ap (λ n. c * n + 0) e))
 
 pub is_free_area : (filling : Filling) (facts : List Lit) (areas : List Term) (t : Term) (vs : List (Term × ℕ)) → ((s : Term) → is_flattened filling s ≡ false) → is_area_term t ≡ true
@@ -147,29 +150,36 @@ is_free_area filling facts areas t vs unflat area whole free named model = λ co
 
 -- ---- a part of a choice
 
--- no choice is wanted that begins so, where the clause says at a place that such an area, which is known, is equal to another
-pub none_beside_free : (m : Strength) (scope : Scope) (facts : List Lit) (goal : Lit) (rule place at coeff : ℕ) (plan : Plan) (r : Row) (part : List ℕ) (args : List Obj) (t other : Term)
-    → slice_get table rule ≡ Some r → args ≡ chosen_arguments r plan.positions.items part
-    → slice_get (clause_of r) at ≡ Some (record { neg = false; atom = MagEq (record { coeff = coeff; term = t } ∷ []) (record { coeff = coeff; term = other } ∷ []) })
-    → is_area_term other ≡ true → term_last plan.positions.items t < length part → eqb at place ≡ false → lit_mark goal ≢ mark_number 12 false
-    → IsFree facts (term_at (number args) t) → NoneFrom m scope facts goal rule place plan part
-none_beside_free m scope facts goal rule place at coeff plan r part args t other of_table are here second less apart unlike free rest wanted =
-    let positions = plan.positions.items in
-    let all = chosen_arguments r positions (part ++ rest) in
-    let both = with_row m scope facts goal rule place plan r (part ++ rest) of_table wanted in
+-- so such an area, which is known, never differs from another
+pub free_never_differ : (facts : List Lit) (n : Numbers) (t other : Term) → is_area_term other ≡ true → term_last n.positions.now t < length n.part.now
+    → IsFree facts (term_at (number (arguments_by n)) t) → NeverDiffer facts n t other
+free_never_differ facts n t other second less free coeff rest follows =
+    let one : term_at (later_number n rest) t ≡ term_at (number (arguments_by n)) t =
+    term_kept n.positions.now (length n.part.now) (later_number n rest) (number (arguments_by n))
+    (λ v below. number_kept (row_of n.row.now) n.positions.now n.part.now rest v below) t less in
+    subst (IsFree facts) (sym one) free coeff (term_at (later_number n rest) other) (area_at (later_number n rest) other second) follows
+
+-- no choice is wanted that begins so, where the clause says at a place that two terms are equal, and they never differ
+pub none_where_equal : (m : Strength) (scope : Scope) (facts : List Lit) (goal : Lit) (rule place at coeff : ℕ) (plan : Plan) (n : Numbers) (t other : Term)
+    → slice_get table rule ≡ Some (row_of n.row.now) → n.positions.now ≡ plan.positions.items
+    → slice_get (clause_of (row_of n.row.now)) at ≡ Some (record { neg = false; atom = MagEq (record { coeff = coeff; term = t } ∷ []) (record { coeff = coeff; term = other } ∷ []) })
+    → eqb at place ≡ false → lit_mark goal ≢ mark_number 12 false → NeverDiffer facts n t other → NoneFrom m scope facts goal rule place plan n.part.now
+none_where_equal m scope facts goal rule place at coeff plan n t other of_table places here apart unlike never rest wanted =
+    let r = row_of n.row.now in
+    let with_places = λ (ps : List ℕ). number (chosen_arguments r ps (n.part.now ++ rest)) in
+    let all = chosen_arguments r plan.positions.items (n.part.now ++ rest) in
+    let both = with_row m scope facts goal rule place plan r (n.part.now ++ rest) of_table wanted in
     let gives = both.1 in
     let of = of_instance rule all r gives.lits of_table gives.instance in
     let l : Lit = record { neg = false; atom = MagEq (record { coeff = coeff; term = t } ∷ []) (record { coeff = coeff; term = other } ∷ []) } in
     let is : slice_get gives.lits at ≡ Some (lit_at r all l) = ap (λ (ls : List Lit). slice_get ls at) of.1 ∙ at_map (lit_at r all) (clause_of r) at l here in
     let fits = subst (λ (b : Bool). IsFittingLiteral m facts goal b (lit_at r all l)) apart (fitting m facts gives.lits goal (lit_at r all l) place at gives.here gives.suffice is) in
-    let one : term_at (number all) t ≡ term_at (number args) t =
-    term_kept positions (length part) (number all) (number args)
-    (λ v below. number_kept r positions part rest v below ∙ ap (λ (os : List Obj). number os v) (sym are)) t less in
     elim fits [
       | inl same ↦ unlike (sym (mark_alike (lit_at r all l) goal same))
       | inr enough ↦
-          (let follows = sufficient_follows m facts (record { neg = true; atom = MagEq (record { coeff = coeff; term = term_at (number all) t } ∷ []) (record { coeff = coeff; term = term_at (number all) other } ∷ []) }) refl enough in
-          subst (IsFree facts) (sym one) free coeff (term_at (number all) other) (area_at (number all) other second) follows)
+          never coeff rest
+          (subst (λ (ps : List ℕ). MetricConsequence facts (record { neg = true; atom = MagEq (record { coeff = coeff; term = term_at (with_places ps) t } ∷ []) (record { coeff = coeff; term = term_at (with_places ps) other } ∷ []) })) (sym places)
+          (sufficient_follows m facts (record { neg = true; atom = MagEq (record { coeff = coeff; term = term_at (number all) t } ∷ []) (record { coeff = coeff; term = term_at (number all) other } ∷ []) }) refl enough))
     ]
 
 -- ---- which areas the facts name

@@ -16,4 +16,5 @@ pub mod ModelValues
 pub mod MarkedFacts
 pub mod MarkedSums
 pub mod FreeAreas
+pub mod UnlistedAngles
 pub mod PreparedFacts

@@ -28,33 +28,26 @@ pub record ListsAlso (ts : List Term) (old new : List Term) : Type 0 where
   pub keeps : (ss : List Term) → IsTrue (are_listed old ss) → IsTrue (are_listed new ss)
   pub lists : IsTrue (are_listed new ts)
 
--- both are areas, each taken as often as the other, and this is the first
-pub record AreTwoAreas (m n : Mono) (t : Term) : Type 0 where
-  pub is : m.term ≡ t
+-- each is taken as often as the other, and these are their terms
+pub record AreTermsAlike (m n : Mono) (both : Term × Term) : Type 0 where
+  pub first : m.term ≡ both.0
+  pub second : n.term ≡ both.1
   pub coeff : n.coeff ≡ m.coeff
-  pub first : IsTrue (is_area_term t)
-  pub second : IsTrue (is_area_term n.term)
 
--- each sum is of one such area
-pub record AreOneEach (x y : List Mono) (t : Term) : Type 0 where
+-- each sum is of one such term
+pub record AreOneEach (x y : List Mono) (both : Term × Term) : Type 0 where
   pub coeff : ℕ
-  pub other : Term
-  pub left : x ≡ record { coeff = coeff; term = t } ∷ []
-  pub right : y ≡ record { coeff = coeff; term = other } ∷ []
-  pub first : IsTrue (is_area_term t)
-  pub second : IsTrue (is_area_term other)
+  pub left : x ≡ record { coeff = coeff; term = both.0 } ∷ []
+  pub right : y ≡ record { coeff = coeff; term = both.1 } ∷ []
 
--- the pattern says of two areas alone that they are equal
-pub record AreEqualAreas (p : Pattern) (t : Term) : Type 0 where
+-- the pattern says of these two terms alone that they are equal
+pub record AreEqualTerms (p : Pattern) (both : Term × Term) : Type 0 where
   pub coeff : ℕ
-  pub other : Term
   pub is : lit_of_pattern p ≡ record {
     neg = false;
-    atom = MagEq (record { coeff = coeff; term = t } ∷ [])
-        (record { coeff = coeff; term = other } ∷ []);
+    atom = MagEq (record { coeff = coeff; term = both.0 } ∷ [])
+        (record { coeff = coeff; term = both.1 } ∷ []);
   }
-  pub first : IsTrue (is_area_term t)
-  pub second : IsTrue (is_area_term other)
 
 -- no two areas of which this is the first have to differ by what follows
 abbrev pub IsFree : List Lit → Term → Type 0

@@ -5,3 +5,4 @@ pub mod Bindings
 pub mod PartsOfChoices
 pub mod Plans
 pub mod SearchedPlaces
+pub mod Angles

@@ -4,8 +4,8 @@
 ghost use Rattle.std.specs.Prelude.{◌≡◌, [], ◌∷◌, IfOk, OnOk, IsTrue, MatchOption, map};
 ghost use Rattle.e_clause.specs.Assignment.{terms_of_atom};
 ghost use Rattle.e_transfer.specs.Areas;
-ghost use Rattle.e_transfer.specs.Areas.{name_areas_of, ListsAlso, AreTwoAreas};
-ghost use Rattle.e_transfer.specs.Areas.{AreOneEach, AreEqualAreas};
+ghost use Rattle.e_transfer.specs.Areas.{name_areas_of, ListsAlso, AreTermsAlike};
+ghost use Rattle.e_transfer.specs.Areas.{AreOneEach, AreEqualTerms};
 
 use crate::clause::{clause_len, pattern_at};
 use crate::marks::is_area;
@@ -62,40 +62,40 @@ pub fn is_one_of(areas: &[Term], term: Term) -> bool
     areas.iter().any(|area| term == *area)
 }
 
-/// The first of two areas, each taken as often as the other.
-fn first_area(m: Mono, n: Mono) -> Option<Term>
-    ensures { MatchOption result (Unit {0}) (AreTwoAreas m n) }
+/// The two terms, if each is taken as often as the other.
+fn terms_alike(m: Mono, n: Mono) -> Option<(Term, Term)>
+    ensures { MatchOption result (Unit {0}) (AreTermsAlike m n) }
 {
-    if m.coeff == n.coeff && is_area(m.term) && is_area(n.term) {
-        Some(m.term)
+    if m.coeff == n.coeff {
+        Some((m.term, n.term))
     } else {
         None
     }
 }
 
-fn first_of_two(x: &[Mono], y: &[Mono]) -> Option<Term>
+fn terms_of_two(x: &[Mono], y: &[Mono]) -> Option<(Term, Term)>
     ensures { MatchOption result (Unit {0}) (AreOneEach x.now y.now) }
 {
     match (x, y) {
-        ([m], [n]) => first_area(*m, *n),
+        ([m], [n]) => terms_alike(*m, *n),
         _ => None,
     }
 }
 
-/// The first of two areas, where the pattern says of them alone that they are equal.
-pub fn equal_areas(pattern: &Pattern) -> Option<Term>
-    ensures { MatchOption result (Unit {0}) (AreEqualAreas pattern.now) }
+/// The two terms, where the pattern says of them alone that they are equal.
+pub fn equal_terms(pattern: &Pattern) -> Option<(Term, Term)>
+    ensures { MatchOption result (Unit {0}) (AreEqualTerms pattern.now) }
 {
     match pattern {
-        Pattern::Is(Shape::MagEq(x, y)) => first_of_two(x, y),
+        Pattern::Is(Shape::MagEq(x, y)) => terms_of_two(x, y),
         _ => None,
     }
 }
 
-/// The place of the clause that says of two areas alone that they are equal, if there is one.
-pub fn place_of_areas(row: &Row) -> Option<usize> {
+/// The place of the clause that says of two terms alone that they are equal, if there is one.
+pub fn place_of_equality(row: &Row) -> Option<usize> {
     (0..clause_len(row)).find(|&at| {
         let (pattern, negated) = pattern_at(row, at);
-        !negated && equal_areas(&pattern).is_some()
+        !negated && equal_terms(&pattern).is_some()
     })
 }

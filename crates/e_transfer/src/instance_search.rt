@@ -11,13 +11,15 @@ ghost use Rattle.e_transfer.specs.GivenGoals.{IsFittingLiteral, IsWideTransfer, 
 ghost use Rattle.e_transfer.specs.declared.query.Strength.TheVariants as strength;
 ghost use Rattle.e_transfer.specs.Areas;
 ghost use Rattle.e_transfer.specs.Marks.{is_area_term};
+ghost use Rattle.e_transfer.specs.inner.Angles.{NeverDiffer};
 ghost use Rattle.e_transfer.specs.inner.PartsOfChoices.{arguments_by};
 ghost use Rattle.e_transfer.specs.inner.SearchedPlaces.{Wanted, NoneFrom, Shown};
 
-use crate::areas::{equal_areas, is_one_of};
+use crate::angles::is_unlisted;
+use crate::areas::{equal_terms, is_one_of};
 use crate::clause::{clause_len, pattern_at};
 use crate::instance_check::{check_instance, is_refuted};
-use crate::marks::{is_equation, parts};
+use crate::marks::{is_area, is_equation, parts};
 use crate::numbers::Numbers;
 use crate::plan::{Plan, last_of_term};
 use crate::query::{Query, Strength, asks_facts};
@@ -35,9 +37,9 @@ pub struct InstanceSearch<'a> {
     pub rule: Rule,
     pub place: usize,
     pub plan: &'a Plan,
-    /// Where the clause says of two areas alone that they are equal, if it does. That is a matter
+    /// Where the clause says of two terms alone that they are equal, if it does. That is a matter
     /// of speed alone.
-    pub areas: Option<usize>,
+    pub equality: Option<usize>,
     ghost transfer: { IsTrue (is_transfer rule) },
 }
 
@@ -102,11 +104,46 @@ fn is_free(query: &Query, area: Term) -> bool
     hints.plain_model || hints.spread_model
 }
 
+/// Whether it is seen that two angles do not differ, whatever numbers come next: there are values
+/// with which all facts are true, they list neither, and what they do not list has 1.
+fn are_unlisted(query: &Query, numbers: &Numbers, term: Term, other: Term) -> bool
+    ensures { result ≡ true → NeverDiffer query.now.facts.now numbers.now term other }
+{
+    let Some(hints) = query.hints else {
+        return false;
+    };
+    if !hints.plain_model {
+        return false;
+    }
+    let values = hints.values.items();
+    let one = is_unlisted(numbers, values, term);
+    if !one {
+        return false;
+    }
+    is_unlisted(numbers, values, other)
+}
+
+/// Whether it is seen that no need holds that says that the two terms differ, whatever numbers come
+/// next: the last number of the part completes the first of two areas, and it is free, or neither
+/// of two angles is listed.
+fn never_differ(query: &Query, numbers: &Numbers, term: Term, other: Term) -> bool
+    ensures { result ≡ true → NeverDiffer query.now.facts.now numbers.now term other }
+{
+    let first = is_area(term);
+    let second = is_area(other);
+    if !first || !second {
+        return are_unlisted(query, numbers, term, other);
+    }
+    if !is_last(last_of_term(numbers.positions, term), numbers.part.len()) {
+        return false;
+    }
+    is_free(query, numbers.term(term))
+}
+
 impl<'a> InstanceSearch<'a> {
-    /// Whether the last number of the part completes the first of two areas that the clause says to
-    /// be equal at this place, and the area is free: then the two do not differ, whatever the other
-    /// is.
-    fn has_free_area(&self, numbers: &Numbers, at: usize) -> bool
+    /// Whether the clause says at this place of two terms that they are equal, and it is seen that
+    /// they never differ.
+    fn has_equal_terms(&self, numbers: &Numbers, at: usize) -> bool
         requires of_table { slice_get table self.now.rule ≡ Some (row_of numbers.now.row.now) }
         requires places { numbers.now.positions.now ≡ self.now.plan.now.positions.items }
         ensures { result ≡ true
@@ -118,13 +155,13 @@ impl<'a> InstanceSearch<'a> {
             return false;
         }
         let (pattern, negated) = pattern_at(numbers.row, at);
-        let Some(area) = equal_areas(&pattern) else {
+        let Some(both) = equal_terms(&pattern) else {
             return false;
         };
-        if negated || !is_last(last_of_term(numbers.positions, area), numbers.part.len()) {
+        if negated {
             return false;
         }
-        is_free(&self.query, numbers.term(area))
+        never_differ(&self.query, numbers, both.0, both.1)
     }
 
     /// Whether the literal at a place of the clause is seen by its sums to be neither the goal nor
@@ -217,8 +254,8 @@ impl<'a> Task for InstanceSearch<'a> {
             positions: &self.plan.positions,
             part,
         };
-        if let Some(at) = self.areas {
-            if self.has_free_area(&numbers, at) {
+        if let Some(at) = self.equality {
+            if self.has_equal_terms(&numbers, at) {
                 return Ok(Verdict::No);
             }
         }

@@ -6,6 +6,7 @@
 //! that is not the goal and whose negation cannot hold.
 #![tactic(auto)]
 
+mod angles;
 mod areas;
 mod clause;
 mod conditions;

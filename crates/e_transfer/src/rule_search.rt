@@ -9,7 +9,7 @@ ghost use Rattle.e_transfer.specs.GivenGoals.{RuleSearchIs, NoneWithBindings};
 ghost use Rattle.e_transfer.specs.GivenGoals.{NoneWithEquations, NoneAt, NoneOf, NoneGives};
 ghost use Rattle.e_transfer.specs.inner.Plans.{total_of};
 
-use crate::areas::place_of_areas;
+use crate::areas::place_of_equality;
 use crate::clause::{clause_len, pattern_at};
 use crate::equations::Equation;
 use crate::instance_search::InstanceSearch;
@@ -48,7 +48,7 @@ fn search_with_bindings(
         rule,
         place,
         plan: &plan,
-        areas: place_of_areas(row),
+        equality: place_of_equality(row),
     };
     let found = search(alloc, &task, &mut (), &plan.spans, &mut chosen);
     mem::drop(plan);
