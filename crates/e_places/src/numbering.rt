@@ -32,7 +32,7 @@ use crate::ending::{Head, end_claim, end_superposition};
 use crate::places::{placed_against, placed_cert, placed_certs};
 use e_clause::{Against, By, Cert};
 use e_construct::{Construction, Superpose};
-use e_deriv::{Block, Close, Goal, Step, copy_by, copy_construction, cases};
+use e_deriv::{Block, Close, Goal, Step, cases, copy_by, copy_construction};
 use e_literal::{Items, Lit, NOTHING, Obj, Scope, copy, grown, next_objects};
 use e_text::Name;
 use e_theorem::{Applied, Statement, UseFault, use_of};

@@ -35,8 +35,8 @@ use Rattle.e_licence.specs.Contexts.{Basis}
 use Rattle.e_prove.specs.declared.application.Use.{Use}
 use Rattle.e_prove.specs.declared.step_stop.StepStop.{StepStop}
 use Rattle.e_prove.specs.declared.step_stop.StepStop.TheVariants as step_stop
-use Rattle.e_prove.specs.declared.step_state.StepState.{StepState}
-use Rattle.e_prove.specs.inner.StepStates.{after_apply}
+use Rattle.e_prove.specs.declared.place.Place.{Place}
+use Rattle.e_prove.specs.inner.NextPlaces.{after_apply}
 use Rattle.e_prove.specs.inner.StopsOfSteps.{StepStopsAmong, StepStopsFilling, StepStopsApplying, match_stop}
 use Rattle.e_prove.specs.inner.LicensedSteps.{IsLicensedStep, IsStopOfStep}
 use Rattle.e_prove.specs.inner.Applications.{CanApply, IsUse}
@@ -108,7 +108,7 @@ record Filled (t : StatementView) (pattern entries : List (Option Obj)) (x : Bas
   fill : fills entries (written entries) ≡ true
   again : filled_in (written entries) ≡ entries
 
-licensed_by_choice : (before : List StatementView) (theorem : ℕ) (pattern entries : List (Option Obj)) (names : List (List ℕ)) (old certs : List Cert) (x : StepState) → Filled (theorem_at before theorem) pattern entries x.context certs →
+licensed_by_choice : (before : List StatementView) (theorem : ℕ) (pattern entries : List (Option Obj)) (names : List (List ℕ)) (old certs : List Cert) (x : Place) → Filled (theorem_at before theorem) pattern entries x.context certs →
     IsLicensedStep before (ApplyStep theorem pattern names old) x (ApplyStep theorem entries names certs) (after_apply (theorem_at before theorem) (written entries) names x)
 unfolding placed_steps script_without_certs filled_by names_of_steps step_script has_certs_of
 licensed_by_choice before theorem pattern entries names old certs x h =
@@ -148,14 +148,14 @@ filled_of_use t pattern x u h =
       again = ap filled_in same;
     }
 
-licensed_by_use : (before : List StatementView) (theorem : ℕ) (pattern : List (Option Obj)) (names : List (List ℕ)) (old : List Cert) (x : StepState) (u : Use) → IsUse (theorem_at before theorem) pattern x.context u →
+licensed_by_use : (before : List StatementView) (theorem : ℕ) (pattern : List (Option Obj)) (names : List (List ℕ)) (old : List Cert) (x : Place) (u : Use) → IsUse (theorem_at before theorem) pattern x.context u →
     IsLicensedStep before (ApplyStep theorem pattern names old) x (ApplyStep theorem (filled_in u.args) names u.certs.items) (after_apply (theorem_at before theorem) u.args names x)
 licensed_by_use before theorem pattern names old x u h =
     let t = theorem_at before theorem in
     subst (λ os. IsLicensedStep before (ApplyStep theorem pattern names old) x (ApplyStep theorem (filled_in u.args) names u.certs.items) (after_apply t os names x)) (written_again u.args)
     (licensed_by_choice before theorem pattern (filled_in u.args) names old u.certs.items x (filled_of_use t pattern x.context u h))
 
-pub licensed_apply : (before : List StatementView) (theorem : ℕ) (pattern entries : List (Option Obj)) (names kept : List (List ℕ)) (old certs : List Cert) (t : StatementView) (x after : StepState) (u : Use) → theorem_at before theorem ≡ t →
+pub licensed_apply : (before : List StatementView) (theorem : ℕ) (pattern entries : List (Option Obj)) (names kept : List (List ℕ)) (old certs : List Cert) (t : StatementView) (x after : Place) (u : Use) → theorem_at before theorem ≡ t →
     IsUse t pattern x.context u → entries ≡ filled_in u.args → kept ≡ names → certs ≡ u.certs.items → after ≡ after_apply t u.args names x →
     IsLicensedStep before (ApplyStep theorem pattern names old) x (ApplyStep theorem entries kept certs) after
 licensed_apply before theorem pattern entries names kept old certs t x after u e h a b c d =
@@ -175,7 +175,7 @@ entries_next args i d entries after lt so_far is = is ∙ ap (λ es. es ++ Some 
 -- ---- what stops
 
 -- without blanks: at a given literal
-stops_written : (before : List StatementView) (theorem : ℕ) (pattern : List (Option Obj)) (names : List (List ℕ)) (old : List Cert) (x : StepState) (h : StepStop) → has_no_blank pattern ≡ true →
+stops_written : (before : List StatementView) (theorem : ℕ) (pattern : List (Option Obj)) (names : List (List ℕ)) (old : List Cert) (x : Place) (h : StepStop) → has_no_blank pattern ≡ true →
     StepStopsAmong x.context (needs_of_use (theorem_at before theorem) (written pattern) x.context.scope) h → IsStopOfStep before (ApplyStep theorem pattern names old) x h
 unfolding step_script
 stops_written before theorem pattern names old x (step_stop.Lacks (Literal l) values) n k rest filled goal = ((n, k.0), k.1)
@@ -187,7 +187,7 @@ stops_written before theorem pattern names old x (step_stop.TooWide Contradictio
 stops_written before theorem pattern names old x step_stop.NoMemory n k rest filled goal = tt
 
 -- with blanks: at their filling
-stops_filling : (before : List StatementView) (theorem : ℕ) (pattern : List (Option Obj)) (names : List (List ℕ)) (old : List Cert) (x : StepState) (h : StepStop) → has_no_blank pattern ≡ false →
+stops_filling : (before : List StatementView) (theorem : ℕ) (pattern : List (Option Obj)) (names : List (List ℕ)) (old : List Cert) (x : Place) (h : StepStop) → has_no_blank pattern ≡ false →
     StepStopsFilling (theorem_at before theorem) x.context pattern h → IsStopOfStep before (ApplyStep theorem pattern names old) x h
 unfolding step_script
 stops_filling before theorem pattern names old x (step_stop.Lacks (Literal l) values) n k rest filled goal = absurd k
@@ -198,13 +198,13 @@ stops_filling before theorem pattern names old x (step_stop.TooWide Match width)
 stops_filling before theorem pattern names old x (step_stop.TooWide Contradiction width) n k rest filled goal = absurd k
 stops_filling before theorem pattern names old x step_stop.NoMemory n k rest filled goal = tt
 
-stops_by : (before : List StatementView) (theorem : ℕ) (pattern : List (Option Obj)) (names : List (List ℕ)) (old : List Cert) (x : StepState) (h : StepStop) (b : Bool) → has_no_blank pattern ≡ b →
+stops_by : (before : List StatementView) (theorem : ℕ) (pattern : List (Option Obj)) (names : List (List ℕ)) (old : List Cert) (x : Place) (h : StepStop) (b : Bool) → has_no_blank pattern ≡ b →
     MatchBool b (StepStopsAmong x.context (needs_of_use (theorem_at before theorem) (written pattern) x.context.scope) h) (StepStopsFilling (theorem_at before theorem) x.context pattern h) →
     IsStopOfStep before (ApplyStep theorem pattern names old) x h
 stops_by before theorem pattern names old x h true n k = stops_written before theorem pattern names old x h n k
 stops_by before theorem pattern names old x h false n k = stops_filling before theorem pattern names old x h n k
 
-pub apply_stops : (before : List StatementView) (theorem : ℕ) (pattern : List (Option Obj)) (names : List (List ℕ)) (old : List Cert) (t : StatementView) (x : StepState) (h : StepStop) → theorem_at before theorem ≡ t →
+pub apply_stops : (before : List StatementView) (theorem : ℕ) (pattern : List (Option Obj)) (names : List (List ℕ)) (old : List Cert) (t : StatementView) (x : Place) (h : StepStop) → theorem_at before theorem ≡ t →
     StepStopsApplying t x.context pattern h → IsStopOfStep before (ApplyStep theorem pattern names old) x h
 apply_stops before theorem pattern names old t x h e k =
     stops_by before theorem pattern names old x h (has_no_blank pattern) refl (subst (λ w. StepStopsApplying w x.context pattern h) (sym e) k)

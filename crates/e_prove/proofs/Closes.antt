@@ -22,7 +22,7 @@ use Rattle.e_licence.specs.Licences.{IsCertifiedAgainst, IsConsistentBy, IsAnswe
 use Rattle.e_deriv.specs.declared.block.Close.TheVariants.{Qed as QedClose, Contradiction as ContradictionClose}
 use Rattle.e_deriv.specs.declared.stop.Wanted.TheVariants.{Literal, Match, Contradiction as AContradiction}
 use Rattle.e_deriv.specs.Script.{Qed, close_script, script_without_certs}
-use Rattle.e_prove.specs.declared.step_state.StepState.{StepState}
+use Rattle.e_prove.specs.declared.place.Place.{Place}
 use Rattle.e_prove.specs.inner.PassedSteps.{IsReadyFor}
 use Rattle.e_deriv.specs.Goal.{Goal, are_for, goal_with}
 use Rattle.e_deriv.specs.Parts.{filled_by}
@@ -39,13 +39,13 @@ pub record QedFits (objects : List Obj) (x : Basis) (goal : Goal) : Type 0 where
   pub form : are_for goal x.scope objects ≡ true
   pub lits : are_well_formed_in x.scope (goal_with goal objects) ≡ true
 
-qed_lines : (before : List StatementView) (objects : List Obj) (certs : List Cert) (x : StepState) (goal : Goal) → IsReadyFor before (Qed objects certs) x goal → QedFits objects x.context goal
+qed_lines : (before : List StatementView) (objects : List Obj) (certs : List Cert) (x : Place) (goal : Goal) → IsReadyFor before (Qed objects certs) x goal → QedFits objects x.context goal
 unfolding placed_steps
 qed_lines before objects certs x goal r =
     let form = and_left (are_for goal x.context.scope objects) true r.forms in
     record { form = form; lits = ((r.lits (Qed objects certs)).1 form).0 }
 
-pub qed_fits : (before : List StatementView) (objects : List Obj) (certs : List Cert) (x : StepState) (goal : Goal) → IsReadyFor before (close_script (QedClose objects certs)) x goal → QedFits objects x.context goal
+pub qed_fits : (before : List StatementView) (objects : List Obj) (certs : List Cert) (x : Place) (goal : Goal) → IsReadyFor before (close_script (QedClose objects certs)) x goal → QedFits objects x.context goal
 unfolding close_script
 qed_fits before objects certs x goal r = qed_lines before objects certs x goal r
 

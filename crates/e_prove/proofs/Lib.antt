@@ -1,6 +1,6 @@
 pub mod LicensedLiterals
 pub mod WrittenCertificates
-pub mod StepStates
+pub mod NextPlaces
 pub mod LicensedSteps
 pub mod Applications
 pub mod StopsInLists

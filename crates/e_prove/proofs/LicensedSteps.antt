@@ -19,14 +19,14 @@ use Rattle.e_deriv.specs.Steps.{is_cited}
 use Rattle.e_deriv.specs.Naming.{names_of_steps}
 use Rattle.e_clause.specs.declared.cert.Version.TheVariants as version
 use Rattle.e_clause.specs.Versions.{is_cert_of}
-use Rattle.e_prove.specs.declared.step_state.StepState.{StepState}
-use Rattle.e_prove.specs.inner.StepStates.{after_literal, after_make}
+use Rattle.e_prove.specs.declared.place.Place.{Place}
+use Rattle.e_prove.specs.inner.NextPlaces.{after_literal, after_make}
 use Rattle.e_prove.specs.inner.LicensedSteps.{IsLicensedStep}
 use Rattle.e_deriv.specs.Versions.{has_certs_of}
 
 -- ---- a citation
 
-licensed_by : (before : List StatementView) (by : By) (x : StepState) → is_cited x.context.facts by ≡ true → IsLicensedStep before (CiteStep by) x (CiteStep by) (after_literal by.lit x)
+licensed_by : (before : List StatementView) (by : By) (x : Place) → is_cited x.context.facts by ≡ true → IsLicensedStep before (CiteStep by) x (CiteStep by) (after_literal by.lit x)
 unfolding placed_steps script_without_certs filled_by names_of_steps step_script has_certs_of
 licensed_by before by x h =
     record {
@@ -40,13 +40,13 @@ licensed_by before by x h =
       kept = refl;
     }
 
-pub licensed_cite : (before : List StatementView) (by derived : By) (x after : StepState) → derived ≡ by → is_cited x.context.facts by ≡ true → after ≡ after_literal by.lit x →
+pub licensed_cite : (before : List StatementView) (by derived : By) (x after : Place) → derived ≡ by → is_cited x.context.facts by ≡ true → after ≡ after_literal by.lit x →
     IsLicensedStep before (CiteStep by) x (CiteStep derived) after
 licensed_cite before by derived x after same h gives = rw (same, gives) (licensed_by before by x h)
 
 -- ---- a hence
 
-licensed_by_cert : (before : List StatementView) (lit : Lit) (written : Option Cert) (cert : Cert) (x : StepState) → IsTrue (certifies x.context.scope x.context.facts lit cert) → IsTrue (is_cert_of version.One cert) →
+licensed_by_cert : (before : List StatementView) (lit : Lit) (written : Option Cert) (cert : Cert) (x : Place) → IsTrue (certifies x.context.scope x.context.facts lit cert) → IsTrue (is_cert_of version.One cert) →
     IsLicensedStep before (HenceStep lit written) x (HenceStep lit (Some cert)) (after_literal lit x)
 unfolding placed_steps script_without_certs filled_by names_of_steps step_script has_certs_of
 licensed_by_cert before lit written cert x h g =
@@ -61,14 +61,14 @@ licensed_by_cert before lit written cert x h g =
       kept = refl;
     }
 
-pub licensed_hence : (before : List StatementView) (lit derived : Lit) (written : Option Cert) (cert : Cert) (x after : StepState) → derived ≡ lit →
+pub licensed_hence : (before : List StatementView) (lit derived : Lit) (written : Option Cert) (cert : Cert) (x after : Place) → derived ≡ lit →
     IsTrue (certifies x.context.scope x.context.facts lit cert) → IsTrue (is_cert_of version.One cert) → after ≡ after_literal lit x →
     IsLicensedStep before (HenceStep lit written) x (HenceStep derived (Some cert)) after
 licensed_hence before lit derived written cert x after same h g gives = rw (same, gives) (licensed_by_cert before lit written cert x h g)
 
 -- ---- a construction
 
-licensed_by_certs : (before : List StatementView) (construction : Construction) (names : List (List ℕ)) (written certs : List Cert) (x : StepState) → IsTrue (certify_all x.context.scope x.context.facts (needs_of_construction construction) certs) →
+licensed_by_certs : (before : List StatementView) (construction : Construction) (names : List (List ℕ)) (written certs : List Cert) (x : Place) → IsTrue (certify_all x.context.scope x.context.facts (needs_of_construction construction) certs) →
     IsTrue (list_all (is_cert_of version.One) certs) → IsLicensedStep before (MakeStep construction names written) x (MakeStep construction names certs) (after_make construction names x)
 unfolding placed_steps script_without_certs filled_by names_of_steps step_script has_certs_of
 licensed_by_certs before construction names written certs x h g =
@@ -83,7 +83,7 @@ licensed_by_certs before construction names written certs x h g =
       kept = refl;
     }
 
-pub licensed_make : (before : List StatementView) (construction derived : Construction) (names kept : List (List ℕ)) (written certs given : List Cert) (needed : List Lit) (x after : StepState) →
+pub licensed_make : (before : List StatementView) (construction derived : Construction) (names kept : List (List ℕ)) (written certs given : List Cert) (needed : List Lit) (x after : Place) →
     derived ≡ construction → kept ≡ names → given ≡ certs → needed ≡ needs_of_construction construction → IsTrue (certify_all x.context.scope x.context.facts needed certs) → IsTrue (list_all (is_cert_of version.One) certs) → after ≡ after_make construction names x →
     IsLicensedStep before (MakeStep construction names written) x (MakeStep derived kept given) after
 licensed_make before construction derived names kept written certs given needed x after same these those all h g gives =

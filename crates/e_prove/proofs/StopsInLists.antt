@@ -25,7 +25,7 @@ use Rattle.e_deriv.specs.Licensed.{Licensed, AllLicensed}
 use Rattle.e_deriv.specs.Fitting.{LitsFit, is_small}
 use Rattle.e_deriv.proofs.Agreement.{both_licensed}
 use Rattle.e_deriv.proofs.Stops.{lines_length}
-use Rattle.e_prove.specs.declared.step_state.StepState.{StepState}
+use Rattle.e_prove.specs.declared.place.Place.{Place}
 use Rattle.e_prove.specs.declared.step_stop.StepStop.{StepStop}
 use Rattle.e_prove.specs.declared.step_stop.StepStop.TheVariants as step_stop
 use Rattle.e_prove.specs.inner.StopsOfSteps.{StepStopsAt, StopOf, stop_of}
@@ -109,7 +109,7 @@ stop_first before x xs m ns first h (stop.TooWide n wanted width names) k e = su
 stop_first before x xs m ns first h stop.NoMemory k e = tt
 
 -- where all that is found in the one script is found in the other, so is a stop
-pub stops_by : (before : List StatementView) (d e : Script) (x y : StepState) (goal goal' : Goal) (n m : ℕ) (s : Stop) →
+pub stops_by : (before : List StatementView) (d e : Script) (x y : Place) (goal goal' : Goal) (n m : ℕ) (s : Stop) →
     ((a : Arrival) (k : ℕ) (names : Names) → ReachesWithin before d x goal n a k names → ReachesWithin before e y goal' m a k names) → StopsWithin before d x goal n s → StopsWithin before e y goal' m s
 stops_by before d e x y goal goal' n m (stop.Unlicensed k wanted values names) f h =
     let r = f (Halts (step_stop.Lacks wanted values)) k names (record { filled = h.filled; reached = h.stops }) in record { filled = r.filled; stops = r.reached }
@@ -125,7 +125,7 @@ at_less (a ∷ xs) zero x e = omega arith
 at_less (a ∷ xs) (suc p) x e = let k = at_less xs p x e in omega (arith, k)
 
 -- a stop within a script is at one of its steps
-pub stop_within : (before : List StatementView) (d : Script) (x : StepState) (goal : Goal) (n : ℕ) (s : Stop) → StopsWithin before d x goal n s → IsStopBefore (n + size d) s
+pub stop_within : (before : List StatementView) (d : Script) (x : Place) (goal : Goal) (n : ℕ) (s : Stop) → StopsWithin before d x goal n s → IsStopBefore (n + size d) s
 stop_within before d x goal n (stop.Unlicensed k wanted values names) h =
     let many = lines_length before d h.filled x.context.scope x.context.facts goal in
     omega (arith, many, h.stops.number, at_less _ h.stops.place h.stops.step h.stops.at)

@@ -15,14 +15,14 @@ ghost use Rattle.e_deriv.specs.Parts.{has_no_blank};
 ghost use Rattle.e_clause.specs.declared.cert.Version.TheVariants as version;
 ghost use Rattle.e_clause.specs.Versions.{is_cert_of};
 ghost use Rattle.e_prove.specs.inner.Applications.{CanApply, IsUse};
-ghost use Rattle.e_prove.specs.inner.StepStates.{after_apply};
+ghost use Rattle.e_prove.specs.inner.NextPlaces.{after_apply};
 ghost use Rattle.e_prove.specs.inner.StopsOfSteps.{StepStopsAmong, StepStopsFilling};
 ghost use Rattle.e_prove.specs.inner.StopsOfSteps.{StepStopsApplying, UnlessNoMemory};
 ghost use Rattle.e_prove.specs.inner.StopsOfSteps;
 ghost use Rattle.e_prove.specs.inner.LicensedSteps.{IsLicensedStep, IsStopOfStep};
 
 use crate::licence::licences;
-use crate::step_state::StepState;
+use crate::place::Place;
 use crate::step_stop::StepStop;
 use e_clause::Cert;
 use e_deriv::{Step, Wanted};
@@ -59,7 +59,7 @@ pub fn apply(
     alloc: Global,
     application: &Application,
     statement: &Statement,
-    state: &mut StepState,
+    state: &mut Place,
 ) -> Result<Step, StepStop>
     requires { CanApply (stated statement.now) application.now.args.now state.old.context }
     ensures ok { IfOk result (λ d. (before : List StatementView) (certs : List Certificate)
@@ -95,7 +95,7 @@ fn take_use(
     application: &Application,
     statement: &Statement,
     used: &Use,
-    state: &mut StepState,
+    state: &mut Place,
 ) -> Result<Items<Option<Obj>>, AllocError>
     requires apply { CanApply (stated statement.now) application.now.args.now state.old.context }
     requires used { IsUse (stated statement.now) application.now.args.now state.old.context

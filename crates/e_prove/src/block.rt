@@ -12,8 +12,8 @@ ghost use Rattle.e_prove.specs.inner.PassedSteps.{StepsStop, StepStops, StopsWit
 use crate::application::{Application, apply};
 use crate::close::{contradiction, qed};
 use crate::inner::{SuperposedParts, end_claim, end_superposition};
+use crate::place::Place;
 use crate::step::{cite, hence, make, superpose};
-use crate::step_state::StepState;
 use crate::step_stop::{stop_at, with_number};
 use e_deriv::{Block, Close, Goal, Step, Stop, cases};
 use e_literal::Lit;
@@ -29,7 +29,7 @@ pub fn prove_block(
     before: &[Statement],
     block: &Block,
     goal: &Goal,
-    state: &mut StepState,
+    state: &mut Place,
     number: &mut u32,
 ) -> Result<Block, Stop>
     requires ready { IsReadyFor (all_stated before.now) (script_of block.now) state.old
@@ -67,7 +67,7 @@ pub fn prove_step(
     alloc: Global,
     before: &[Statement],
     step: &Step,
-    state: &mut StepState,
+    state: &mut Place,
     number: &mut u32,
 ) -> Result<Step, Stop>
     requires { IsReadyStep (all_stated before.now) step.now state.old number.old }
@@ -134,7 +134,7 @@ fn prove_claim(
     before: &[Statement],
     shown: &[Lit],
     inner: &Block,
-    state: &mut StepState,
+    state: &mut Place,
     number: &mut u32,
 ) -> Result<Step, Stop>
     requires { AreReadySteps (all_stated before.now) (Claim shown.now (script_of inner.now))
@@ -164,7 +164,7 @@ fn prove_superposed(
     before: &[Statement],
     parts: &SuperposedParts,
     inner: &Block,
-    state: &mut StepState,
+    state: &mut Place,
     number: &mut u32,
 ) -> Result<Step, Stop>
     requires { (certs : List Certificate) × AreReadySteps
@@ -210,7 +210,7 @@ fn prove_close(
     before: &[Statement],
     close: &Close,
     goal: &Goal,
-    state: &mut StepState,
+    state: &mut Place,
     number: &mut u32,
 ) -> Result<Close, Stop>
     requires ready { IsReadyFor (all_stated before.now) (close_script close.now) state.old

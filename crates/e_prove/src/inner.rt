@@ -3,9 +3,9 @@ ghost use Rattle.std.specs.Prelude.{◌≡◌, ◌<◌, List, length, IfOk, IfEr
 ghost use Rattle.e_deriv.specs.Script.{Script, Claim, Superposed};
 ghost use Rattle.e_deriv.specs.Script.{script_of, step_script};
 ghost use Rattle.e_deriv.specs.declared.stop.Stop.TheVariants.{NoMemory};
-ghost use Rattle.e_prove.specs.inner.StepStates.{CanJoinLast, IsLeftWith};
+ghost use Rattle.e_prove.specs.inner.NextPlaces.{CanJoinLast, IsLeftWith};
 
-use crate::step_state::StepState;
+use crate::place::Place;
 use e_clause::Cert;
 use e_construct::Superpose;
 use e_deriv::{Block, Names, Step, Stop, claim, superpose};
@@ -29,7 +29,7 @@ pub fn end_claim(
     shown: &[Lit],
     proved: Block,
     outer: Names,
-    state: &mut StepState,
+    state: &mut Place,
 ) -> Result<Step, Stop>
     requires held { 0 < length state.old.context.held }
     requires good { CanJoinLast shown.now state.old }
@@ -58,7 +58,7 @@ pub fn end_superposition(
     certs: Vec<Cert>,
     proved: Block,
     outer: Names,
-    state: &mut StepState,
+    state: &mut Place,
 ) -> Result<Step, Stop>
     requires held { 0 < length state.old.context.held }
     requires good { CanJoinLast parts.now.shown.now state.old }

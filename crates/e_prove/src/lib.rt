@@ -2,6 +2,7 @@
 #![tactic(auto)]
 
 mod application;
+mod before_step;
 mod block;
 mod close;
 mod inner;
@@ -11,12 +12,12 @@ mod place;
 mod prover;
 mod reach;
 mod step;
-mod step_state;
 mod step_stop;
 
+pub use before_step::context_at;
 pub use laws::{
     derived_stops_for_memory, licensed_is_not_refused, licensed_stops_for_memory,
     refused_stops_there,
 };
-pub use place::{Place, context_at};
+pub use place::Place;
 pub use prover::prove;

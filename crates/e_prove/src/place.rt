@@ -1,74 +1,247 @@
-//! What holds before a step of a theorem's script.
-ghost use Rattle.std.specs.Prelude.{◌≤◌, IfOk, IfErr};
-ghost use Rattle.e_theorem.specs.Statements.{stated, all_stated};
-ghost use Rattle.e_deriv.specs.Script.{script_of, size};
-ghost use Rattle.e_deriv.specs.Fitting.{IsFitting};
-ghost use Rattle.e_prove.specs.Places.{IsStepPlace};
-ghost use Rattle.e_prove.specs.Stops.{StopIs, HasNames, IsStopBefore};
+//! What holds before a step.
+ghost use Rattle.std.specs.Prelude.{◌≡◌, ◌<◌, ◌+◌, ◌^◌, length, OnOk, IfOk, [], IsTrue};
+ghost use Rattle.e_literal.specs.Literal.{negation};
+ghost use Rattle.e_literal.specs.Facts.{with_fact, with_facts};
+ghost use Rattle.e_literal.specs.Scopes;
+ghost use Rattle.e_literal.specs.Use.{scope_of};
+ghost use Rattle.e_clause.specs.LimitedFacts.{are_limited_facts};
+ghost use Rattle.e_theorem.specs.Statements.{stated};
+ghost use Rattle.e_deriv.specs.Goal.{facts_of_statement};
+ghost use Rattle.e_deriv.specs.Naming.{named};
+ghost use Rattle.e_prove.specs.inner.NextPlaces.{start_with_names, held_at, IsLeft, IsLeftWith};
+ghost use Rattle.e_prove.specs.inner.NextPlaces.{CanJoinLast, HasRoomForMore};
+ghost use Rattle.e_prove.specs.inner.NextPlaces.{after_literal, after_make, after_superposed};
 
-use crate::reach::reach;
-use crate::step_state::StepState;
-use e_book::Theorem;
-use e_deriv::{Goal, Names, Stop};
+use e_construct::{Construction, Superpose};
+use e_deriv::Names;
+use e_facts::Facts;
 use e_licence::Context;
-use e_literal::next_objects;
+use e_literal::{Lit, NOTHING, Sort, copy, grown, negate};
+use e_names::put_names;
+use e_text::Name;
 use e_theorem::Statement;
-use std::alloc::Global;
+use std::alloc::{AllocError, Global};
 use std::mem;
 
-/// What holds before a step, for crates above: the objects in scope and the facts, and the names of
-/// the objects.
+/// The objects in scope and the facts, and the names of the objects. What changes it fails only out
+/// of memory, and no clause says what holds then.
 #[derive(Drop)]
 pub struct Place {
     pub context: Context,
     pub names: Names,
 }
 
-/// What holds before the step with this number, from the statements before the theorem: each step
-/// before it is licensed, with blanks filled by the least good choice. The steps are counted from 1
-/// in text order, and the step is one of the script's.
-///
-/// A stop is one of [`crate::prove`], at a step before this one. As there, each step of the script
-/// has to fit in its place, and so have the literals.
-pub fn context_at(
-    alloc: Global,
-    before: &[Statement],
-    theorem: &Theorem,
-    step: u32,
-) -> Result<Place, Stop>
-    requires fitting { IsFitting (all_stated before.now) (stated theorem.now.statement)
-        (script_of theorem.now.block) }
-    requires first { 1 ≤ step }
-    requires last { step ≤ size (script_of theorem.now.block) }
-    ensures place { IfOk result (IsStepPlace (all_stated before.now) (stated theorem.now.statement)
-        theorem.now.names (script_of theorem.now.block) step) }
-    ensures stop { IfErr result (StopIs (all_stated before.now) (stated theorem.now.statement)
-        (script_of theorem.now.block)) }
-    ensures names { IfErr result (HasNames (all_stated before.now) (stated theorem.now.statement)
-        theorem.now.names (script_of theorem.now.block)) }
-    ensures earlier { IfErr result (IsStopBefore step) }
-{
-    let statement = &theorem.statement;
-    let mut state = StepState::first(alloc, statement, &theorem.names)?;
-    let made = match next_objects(alloc, state.context.scope(), statement.made.items()) {
-        Ok(made) => made,
-        Err(_) => {
-            mem::drop(state);
-            return Err(Stop::NoMemory);
-        }
-    };
-    let goal = Goal {
-        made: &made,
-        shown: statement.shown.items(),
-    };
-    match reach(alloc, before, &theorem.block, &goal, &mut state, 1, step) {
-        Ok(()) => {
-            let StepState { context, names } = state;
-            Ok(Place { context, names })
-        }
-        Err(stop) => {
-            mem::drop(state);
-            Err(stop)
+impl Place {
+    /// What holds before the first step of a statement's proof: the declared objects have the first
+    /// of the names.
+    pub(crate) fn first(
+        alloc: Global,
+        statement: &Statement,
+        names: &Names,
+    ) -> Result<Place, AllocError>
+        requires few { length statement.now.declared < 2 ^ 16 }
+        requires good { IsTrue (are_limited_facts (scope_of (stated statement.now))
+            (facts_of_statement (stated statement.now))) }
+        ensures { IfOk result (λ x. x ≡ start_with_names (stated statement.now) names.now) }
+    {
+        let scope = grown(NOTHING, statement.declared.items());
+        let names = names.first(alloc, scope)?;
+        let facts = match facts_of(alloc, statement.given.items()) {
+            Ok(facts) => facts,
+            Err(error) => {
+                mem::drop(names);
+                return Err(error);
+            }
+        };
+        match Context::new(alloc, scope, facts) {
+            Ok(context) => Ok(Place { context, names }),
+            Err((facts, error)) => {
+                mem::drop(facts);
+                mem::drop(names);
+                Err(error)
+            }
         }
     }
+
+    /// A block inside begins: the present state is held, and the names are handed out, which
+    /// [`Place::release`] takes back. The linear systems of the facts are solved before, since
+    /// each block inside would have to solve them anew.
+    pub(crate) fn hold(&mut self, alloc: Global) -> Result<Names, AllocError>
+        ensures names { IfOk result (λ names. names ≡ self.old.names) }
+        ensures held { OnOk result (self.new ≡ held_at self.old) }
+    {
+        self.context.solve(alloc)?;
+        self.context.hold()?;
+        let names = self.names.copy(alloc)?;
+        Ok(names)
+    }
+
+    /// The block inside ends: its objects, facts and names are gone.
+    pub(crate) fn release(&mut self, names: Names)
+        requires { 0 < length self.old.context.held }
+        ensures { IsLeft names self.old self.new }
+    {
+        self.context.release();
+        self.names = names;
+    }
+
+    /// The block inside ends, and what it shows are facts.
+    pub(crate) fn release_with(
+        &mut self,
+        alloc: Global,
+        names: Names,
+        shown: &[Lit],
+    ) -> Result<(), AllocError>
+        requires held { 0 < length self.old.context.held }
+        requires good { CanJoinLast shown.now self.old }
+        ensures { OnOk result (IsLeftWith names shown.now self.old self.new) }
+    {
+        self.release(names);
+        join_copies(alloc, &mut self.context, shown)
+    }
+
+    /// The literal is a fact.
+    pub(crate) fn assume(&mut self, alloc: Global, lit: &Lit) -> Result<(), AllocError>
+        requires { IsTrue
+            (are_limited_facts self.old.context.scope (with_fact self.old.context.facts lit.now)) }
+        ensures { OnOk result (self.new ≡ after_literal lit.now self.old) }
+    {
+        self.context.add(copy(alloc, lit)?)?;
+        Ok(())
+    }
+
+    /// The negation of the literal is a fact.
+    pub(crate) fn assume_not(&mut self, alloc: Global, lit: &Lit) -> Result<(), AllocError>
+        requires { IsTrue (are_limited_facts self.old.context.scope
+            (with_fact self.old.context.facts (negation lit.now))) }
+        ensures { OnOk result (self.new ≡ after_literal (negation lit.now) self.old) }
+    {
+        self.context.add(negate(copy(alloc, lit)?))?;
+        Ok(())
+    }
+
+    /// New objects of these sorts come into scope, with these names.
+    pub(crate) fn grow(&mut self, sorts: &[Sort], names: &[Name]) -> Result<(), AllocError>
+        requires points { self.old.context.scope.points + length sorts.now < 2 ^ 16 }
+        requires lines { self.old.context.scope.lines + length sorts.now < 2 ^ 16 }
+        requires circles { self.old.context.scope.circles + length sorts.now < 2 ^ 16 }
+        ensures scope { OnOk result (self.new.context
+            ≡ record self.old.context { scope = Scopes.grown self.old.context.scope sorts.now }) }
+        ensures names { OnOk result (self.new.names ≡ named self.old.names sorts.now names.now) }
+    {
+        let scope = grown(self.context.scope(), sorts);
+        self.context.widen(scope);
+        put_names(&mut self.names, sorts, names)
+    }
+
+    /// The literals join the facts, one after the other.
+    pub(crate) fn join(&mut self, lits: Vec<Lit>) -> Result<(), AllocError>
+        requires { IsTrue (are_limited_facts self.old.context.scope
+            (with_facts self.old.context.facts lits.items)) }
+        ensures { OnOk result (self.new ≡ record self.old {
+          context
+              = record self.old.context { facts = with_facts self.old.context.facts lits.items };
+        }) }
+    {
+        join_all(&mut self.context, lits)
+    }
+
+    /// What a construction makes comes into scope, with these names, and what it gives are facts.
+    pub(crate) fn make(
+        &mut self,
+        alloc: Global,
+        construction: &Construction,
+        names: &[Name],
+    ) -> Result<(), AllocError>
+        requires room { HasRoomForMore self.old.context.scope }
+        requires after { let after = after_make construction.now names.now self.old
+            in IsTrue (are_limited_facts after.context.scope after.context.facts) }
+        ensures { OnOk result (self.new ≡ after_make construction.now names.now self.old) }
+    {
+        let scope = self.context.scope();
+        self.grow(construction.made(), names)?;
+        let given = construction.gives(alloc, scope)?;
+        self.join(given)
+    }
+
+    /// The copied points of a superposition come into scope, with these names, and what it gives
+    /// are facts.
+    pub(crate) fn superpose(
+        &mut self,
+        alloc: Global,
+        superposition: &Superpose,
+        names: &[Name],
+    ) -> Result<(), AllocError>
+        requires room { HasRoomForMore self.old.context.scope }
+        requires after { let after = after_superposed superposition.now names.now self.old
+            in IsTrue (are_limited_facts after.context.scope after.context.facts) }
+        ensures { OnOk result (self.new ≡ after_superposed superposition.now names.now self.old) }
+    {
+        let scope = self.context.scope();
+        self.grow(superposition.made(), names)?;
+        let given = superposition.gives(alloc, scope)?;
+        self.join(given)
+    }
+
+    /// Equal literals join the facts, one after the other.
+    pub(crate) fn join_equal(&mut self, alloc: Global, lits: &[Lit]) -> Result<(), AllocError>
+        requires { IsTrue (are_limited_facts self.old.context.scope
+            (with_facts self.old.context.facts lits.now)) }
+        ensures { OnOk result (self.new ≡ record self.old {
+          context
+              = record self.old.context { facts = with_facts self.old.context.facts lits.now };
+        }) }
+    {
+        join_copies(alloc, &mut self.context, lits)
+    }
+}
+
+/// Adds each literal unless one the same is there.
+fn join_all(context: &mut Context, lits: Vec<Lit>) -> Result<(), AllocError>
+    requires { IsTrue
+        (are_limited_facts context.old.scope (with_facts context.old.facts lits.items)) }
+    ensures { OnOk result
+        (context.new ≡ record context.old { facts = with_facts context.old.facts lits.items }) }
+{
+    for lit in lits {
+        context.add(lit)?;
+    }
+    Ok(())
+}
+
+/// Adds an equal literal for each, unless one the same is there.
+fn join_copies(alloc: Global, context: &mut Context, lits: &[Lit]) -> Result<(), AllocError>
+    requires { IsTrue
+        (are_limited_facts context.old.scope (with_facts context.old.facts lits.now)) }
+    ensures { OnOk result
+        (context.new ≡ record context.old { facts = with_facts context.old.facts lits.now }) }
+{
+    for lit in lits {
+        context.add(copy(alloc, lit)?)?;
+    }
+    Ok(())
+}
+
+/// The literals, each put last unless one the same is there.
+fn facts_of(alloc: Global, lits: &[Lit]) -> Result<Facts, AllocError>
+    ensures { IfOk result (λ f. f ≡ with_facts [] lits.now) }
+{
+    let mut facts = Facts::new(alloc);
+    match add_copies(alloc, &mut facts, lits) {
+        Ok(()) => Ok(facts),
+        Err(error) => {
+            mem::drop(facts);
+            Err(error)
+        }
+    }
+}
+
+/// Puts an equal literal last for each, unless one the same is there.
+fn add_copies(alloc: Global, facts: &mut Facts, lits: &[Lit]) -> Result<(), AllocError>
+    ensures { OnOk result (facts.new ≡ with_facts facts.old lits.now) }
+{
+    for lit in lits {
+        facts.add(copy(alloc, lit)?)?;
+    }
+    Ok(())
 }

@@ -14,7 +14,7 @@ ghost use Rattle.e_clause.specs.declared.cert.Version.TheVariants as version;
 ghost use Rattle.e_deriv.specs.Versions.{has_certs_of};
 
 use crate::block::prove_block;
-use crate::step_state::StepState;
+use crate::place::Place;
 use e_book::Theorem;
 use e_deriv::{Block, Goal, Stop};
 use e_literal::next_objects;
@@ -53,7 +53,7 @@ pub fn prove(alloc: Global, before: &[Statement], theorem: &Theorem) -> Result<B
         theorem.now.names (script_of theorem.now.block)) }
 {
     let statement = &theorem.statement;
-    let mut state = StepState::first(alloc, statement, &theorem.names)?;
+    let mut state = Place::first(alloc, statement, &theorem.names)?;
     let made = match next_objects(alloc, state.context.scope(), statement.made.items()) {
         Ok(made) => made,
         Err(_) => {

@@ -8,14 +8,14 @@ ghost use Rattle.e_deriv.specs.Script.{Script, script_of, step_script};
 ghost use Rattle.e_deriv.specs.Script.{close_script, size as script_size};
 ghost use Rattle.e_prove.specs.Stops.{IsStopBefore};
 ghost use Rattle.e_deriv.specs.Goal.{goal_view};
-ghost use Rattle.e_prove.specs.inner.StepStates.{after_literal};
+ghost use Rattle.e_prove.specs.inner.NextPlaces.{after_literal};
 ghost use Rattle.e_prove.specs.inner.PassedSteps.{IsReadyFor, IsDerivedFrom, IsReadyStep};
 ghost use Rattle.e_prove.specs.inner.PassedSteps.{KeepsHeld, ReachesStep, ReachesInStep};
 ghost use Rattle.e_prove.specs.inner.PassedSteps.{IsFirstPassed, StopsWithin, StepStops};
 
 use crate::block::{prove_block, prove_step};
+use crate::place::Place;
 use crate::step::superpose;
-use crate::step_state::StepState;
 use crate::step_stop::stop_at;
 use e_deriv::{Block, Close, Goal, Step, Stop, size};
 use e_literal::Lit;
@@ -46,7 +46,7 @@ pub fn reach(
     before: &[Statement],
     block: &Block,
     goal: &Goal,
-    state: &mut StepState,
+    state: &mut Place,
     first: u32,
     target: u32,
 ) -> Result<(), Stop>
@@ -89,7 +89,7 @@ fn enter_step(
     alloc: Global,
     before: &[Statement],
     step: &Step,
-    state: &mut StepState,
+    state: &mut Place,
     number: u32,
     target: u32,
 ) -> Result<(), Stop>
@@ -142,7 +142,7 @@ fn enter_close(
     before: &[Statement],
     close: &Close,
     goal: &Goal,
-    state: &mut StepState,
+    state: &mut Place,
     number: u32,
     target: u32,
 ) -> Result<(), Stop>
@@ -183,7 +183,7 @@ fn pass_first(
     lit: &Lit,
     block: &Block,
     goal: &Goal,
-    state: &mut StepState,
+    state: &mut Place,
     first: u32,
 ) -> Result<(), Stop>
     requires ready { IsReadyFor (all_stated before.now) (script_of block.now)

@@ -12,13 +12,13 @@ ghost use Rattle.e_construct.specs.Superposing;
 ghost use Rattle.e_clause.specs.Certify.{certify_all};
 ghost use Rattle.e_clause.specs.declared.cert.Version.TheVariants as version;
 ghost use Rattle.e_clause.specs.Versions.{is_cert_of};
-ghost use Rattle.e_prove.specs.inner.StepStates.{HasRoomForMore, after_literal};
-ghost use Rattle.e_prove.specs.inner.StepStates.{after_make, after_superposed};
+ghost use Rattle.e_prove.specs.inner.NextPlaces.{HasRoomForMore, after_literal};
+ghost use Rattle.e_prove.specs.inner.NextPlaces.{after_make, after_superposed};
 ghost use Rattle.e_prove.specs.inner.StopsOfSteps.{StepStopsAmong, UnlessNoMemory};
 ghost use Rattle.e_prove.specs.inner.LicensedSteps.{IsLicensedStep, IsStopOfStep};
 
 use crate::licence::{is_cited, licence, licences};
-use crate::step_state::StepState;
+use crate::place::Place;
 use crate::step_stop::StepStop;
 use e_clause::{By, Cert};
 use e_construct::{Construction, Superpose};
@@ -30,7 +30,7 @@ use std::mem;
 
 /// A citation: its literal is one of the instance, and the negation of each other is a fact.
 #[tactic(auto, unfolding(e_deriv::specs::Script::step_script))]
-pub fn cite(alloc: Global, by: &By, state: &mut StepState) -> Result<Step, StepStop>
+pub fn cite(alloc: Global, by: &By, state: &mut Place) -> Result<Step, StepStop>
     requires { IsTrue
         (are_limited_facts state.old.context.scope (with_fact state.old.context.facts by.now.lit)) }
     ensures ok { IfOk result (λ d. (before : List StatementView)
@@ -52,7 +52,7 @@ pub fn cite(alloc: Global, by: &By, state: &mut StepState) -> Result<Step, StepS
 
 /// A hence: its literal is allowed.
 #[tactic(auto, unfolding(e_deriv::specs::Script::step_script))]
-pub fn hence(alloc: Global, lit: &Lit, state: &mut StepState) -> Result<Step, StepStop>
+pub fn hence(alloc: Global, lit: &Lit, state: &mut Place) -> Result<Step, StepStop>
     requires lit { IsTrue (is_well_formed_in state.old.context.scope lit.now) }
     requires after { IsTrue
         (are_limited_facts state.old.context.scope (with_fact state.old.context.facts lit.now)) }
@@ -77,7 +77,7 @@ pub fn hence(alloc: Global, lit: &Lit, state: &mut StepState) -> Result<Step, St
 
 /// The literal is a fact; hands out an equal one. It fails only out of memory; no clause says what
 /// holds then.
-fn assume_copy(alloc: Global, lit: &Lit, state: &mut StepState) -> Result<Lit, AllocError>
+fn assume_copy(alloc: Global, lit: &Lit, state: &mut Place) -> Result<Lit, AllocError>
     requires { IsTrue
         (are_limited_facts state.old.context.scope (with_fact state.old.context.facts lit.now)) }
     ensures lit { IfOk result (λ l. l ≡ lit.now) }
@@ -93,7 +93,7 @@ pub fn make(
     alloc: Global,
     construction: &Construction,
     names: &[Name],
-    state: &mut StepState,
+    state: &mut Place,
 ) -> Result<Step, StepStop>
     requires room { HasRoomForMore state.old.context.scope }
     requires needs { IsTrue (are_well_formed_in state.old.context.scope
@@ -130,7 +130,7 @@ pub fn superpose(
     alloc: Global,
     superposition: &Superpose,
     names: &[Name],
-    state: &mut StepState,
+    state: &mut Place,
 ) -> Result<Vec<Cert>, StepStop>
     requires room { HasRoomForMore state.old.context.scope }
     requires needs { IsTrue (are_well_formed_in state.old.context.scope

@@ -3,7 +3,7 @@ ghost use Rattle.std.specs.Prelude.{◌≡◌, ◌+◌, ◌<◌, ◌^◌, IfOk, 
 ghost use Rattle.e_prove.specs.declared.step_stop.StepStop.TheVariants.{NoMemory};
 ghost use Rattle.e_prove.specs.inner.StopsOfSteps.{stop_of, StopOf, IsWithNumber};
 
-use crate::step_state::StepState;
+use crate::place::Place;
 use e_deriv::{Names, Stop, Wanted};
 use e_literal::Values;
 use std::alloc::{AllocError, AllocFailed, Global};
@@ -62,7 +62,7 @@ pub fn stop(step: u32, step_stop: StepStop, names: Names) -> Stop
 }
 
 /// The stop at the step with this number, where this holds before it.
-pub fn stop_at(alloc: Global, step_stop: StepStop, state: &StepState, number: u32) -> Stop
+pub fn stop_at(alloc: Global, step_stop: StepStop, state: &Place, number: u32) -> Stop
     ensures { StopOf step_stop number state.now.names result }
 {
     match state.names.copy(alloc) {
@@ -79,7 +79,7 @@ pub fn stop_at(alloc: Global, step_stop: StepStop, state: &StepState, number: u3
 pub fn with_number<T>(
     alloc: Global,
     answered: Result<T, StepStop>,
-    state: &StepState,
+    state: &Place,
     number: &mut u32,
 ) -> Result<T, Stop>
     requires { number.old + 1 < 2 ^ 32 }

@@ -15,7 +15,7 @@ use Rattle.e_deriv.specs.Fitting.{fits_with_blanks}
 use Rattle.e_clause.specs.declared.cert.Version.TheVariants as version
 use Rattle.e_deriv.specs.Versions.{has_certs_of}
 use Rattle.e_licence.specs.Contexts.{Basis}
-use Rattle.e_prove.specs.declared.step_state.StepState.{StepState}
+use Rattle.e_prove.specs.declared.place.Place.{Place}
 use Rattle.e_prove.specs.declared.step_stop.StepStop.{StepStop}
 use Rattle.e_prove.specs.inner.StopsOfSteps.{StepStopsAt}
 
@@ -36,8 +36,8 @@ fits_here before y = fits_with_blanks before y y.here
 -- where the step fits it is licensed, with its blanks filled as in the derived one, and the derived
 -- one is certified; without certificates the derived one is the step with its blanks
 -- filled; its certificates name literals that are well formed; this holds after
-pub record IsLicensedStep (before : List StatementView) (step : Step) (x : StepState)
-    (derived : Step) (after : StepState) : Type 0 where
+pub record IsLicensedStep (before : List StatementView) (step : Step) (x : Place)
+    (derived : Step) (after : Place) : Type 0 where
   pub licensed : (rest more : Script) (goal : Goal) →
       IsTrue (fits_here before
       (step_from_basis (step_script step rest) (step_script derived more) x.context goal)) →
@@ -67,7 +67,7 @@ pub record IsLicensedStep (before : List StatementView) (step : Step) (x : StepS
   pub kept : after.context.held ≡ x.context.held
 
 -- where this holds licensing stops so at the step, however its blanks are filled
-abbrev pub IsStopOfStep : List StatementView → Step → StepState → StepStop → Type 0
+abbrev pub IsStopOfStep : List StatementView → Step → Place → StepStop → Type 0
 IsStopOfStep before step x h =
     (rest filled : Script) (goal : Goal)
     → StepStopsAt before (step_from_basis (step_script step rest) filled x.context goal) h

@@ -21,15 +21,15 @@ use Rattle.e_clause.specs.declared.cert.Version.TheVariants as version
 use Rattle.e_deriv.specs.Versions.{has_certs_of}
 use Rattle.e_prove.specs.declared.step_stop.StepStop.{StepStop}
 use Rattle.e_prove.specs.declared.step_stop.StepStop.TheVariants.{Lacks, TooWide}
-use Rattle.e_prove.specs.declared.step_state.StepState.{StepState}
+use Rattle.e_prove.specs.declared.place.Place.{Place}
 use Rattle.e_prove.specs.Stops.{IsStopBefore}
-use Rattle.e_prove.specs.inner.StepStates.{after_literal}
+use Rattle.e_prove.specs.inner.NextPlaces.{after_literal}
 use Rattle.e_prove.specs.inner.StopsOfSteps.{StepStopsAt}
 use Rattle.e_prove.specs.inner.LicensedSteps.{steps_from_basis, fits_here}
 
 -- each step of the script fits in its place, and so do its literals, however blanks are filled;
 -- there are numbers for all objects
-pub record IsReadyFor (before : List StatementView) (script : Script) (x : StepState)
+pub record IsReadyFor (before : List StatementView) (script : Script) (x : Place)
     (goal : Goal) : Type 0 where
   pub forms :
       IsTrue (list_all (fits_here before) (steps_from_basis before script script x.context goal))
@@ -42,7 +42,7 @@ pub record IsReadyFor (before : List StatementView) (script : Script) (x : StepS
 
 -- before some script that comes after them the steps are ready, and all their numbers, which begin
 -- with this one, have 32 bits
-pub record AreReadySteps (before : List StatementView) (whole : Script → Script) (x : StepState)
+pub record AreReadySteps (before : List StatementView) (whole : Script → Script) (x : Place)
     (first : ℕ) : Type 0 where
   pub rest : Script
   pub goal : Goal
@@ -50,13 +50,13 @@ pub record AreReadySteps (before : List StatementView) (whole : Script → Scrip
   pub few : first + size (whole rest) < 2 ^ 32
 
 -- and so is the step
-abbrev pub IsReadyStep : List StatementView → Step → StepState → ℕ → Type 0
+abbrev pub IsReadyStep : List StatementView → Step → Place → ℕ → Type 0
 IsReadyStep before step x first = AreReadySteps before (step_script step) x first
 
 -- the script is licensed, with its blanks filled as in the derived one, and the derived one is
 -- certified; without certificates that is the script with its blanks filled; its certificates name
 -- literals that are well formed
-pub record IsDerivedFrom (before : List StatementView) (script : Script) (x : StepState)
+pub record IsDerivedFrom (before : List StatementView) (script : Script) (x : Place)
     (goal : Goal) (derived : Script) : Type 0 where
   pub licensed : AllLicensed before (steps_from_basis before script derived x.context goal)
   pub certified :
@@ -66,7 +66,7 @@ pub record IsDerivedFrom (before : List StatementView) (script : Script) (x : St
   pub written : IsTrue (has_certs_of version.One derived)
 
 -- the states that are held are those from before
-abbrev pub KeepsHeld : StepState → StepState → Type 0
+abbrev pub KeepsHeld : Place → Place → Type 0
 KeepsHeld x after = after.context.held ≡ x.context.held
 
 -- ---- stops
@@ -101,19 +101,19 @@ StopIn before xs ns first (stop.TooWide n wanted width names) =
 StopIn before xs ns first stop.NoMemory = Unit {0}
 
 -- it is found at a step of the script, with the blanks before it filled so
-pub record ReachesWithin (before : List StatementView) (script : Script) (x : StepState)
+pub record ReachesWithin (before : List StatementView) (script : Script) (x : Place)
     (goal : Goal) (first : ℕ) (a : Arrival) (n : ℕ) (names : Names) : Type 0 where
   pub filled : Script
   pub reached : IsReachedIn before (steps_from_basis before script filled x.context goal)
       (names_of_steps before x.names script) first a n names
 
 -- at step n of the script this holds, with the blanks before it filled so
-abbrev pub ReachesStep : List StatementView → Script → StepState → Goal → ℕ → ℕ → StepState → Type 0
+abbrev pub ReachesStep : List StatementView → Script → Place → Goal → ℕ → ℕ → Place → Type 0
 ReachesStep before script x goal first n y =
     ReachesWithin before script x goal first (Stands y.context.scope y.context.facts) n y.names
 
 -- licensing stops so at a step of the script, with the blanks before it filled so
-pub record StopsWithin (before : List StatementView) (script : Script) (x : StepState) (goal : Goal)
+pub record StopsWithin (before : List StatementView) (script : Script) (x : Place) (goal : Goal)
     (first : ℕ) (s : Stop) : Type 0 where
   pub filled : Script
   pub stops : StopIn before (steps_from_basis before script filled x.context goal)
@@ -124,8 +124,8 @@ pub record StopsWithin (before : List StatementView) (script : Script) (x : Step
 -- Steps before a script have been licensed where this held, and now that holds, and the next step
 -- has that number: whatever comes after them, what is derived from it is derived from the whole,
 -- and what is found in it, or a stop in it, is found in the whole.
-pub record IsPassed (before : List StatementView) (whole : Script → Script) (x : StepState)
-    (first : ℕ) (derived : Script → Script) (after : StepState) (next : ℕ) : Type 0 where
+pub record IsPassed (before : List StatementView) (whole : Script → Script) (x : Place)
+    (first : ℕ) (derived : Script → Script) (after : Place) (next : ℕ) : Type 0 where
   pub ready : (rest : Script) (goal : Goal) → IsReadyFor before (whole rest) x goal
       → IsReadyFor before rest after goal
   pub derives : (rest more : Script) (goal : Goal) → IsReadyFor before (whole rest) x goal
@@ -141,25 +141,25 @@ pub record IsPassed (before : List StatementView) (whole : Script → Script) (x
   pub kept : KeepsHeld x after
 
 -- the steps stop so, whatever comes after them, and not at what comes after them
-abbrev pub StepsStop : List StatementView → (Script → Script) → StepState → ℕ → Stop → Type 0
+abbrev pub StepsStop : List StatementView → (Script → Script) → Place → ℕ → Stop → Type 0
 StepsStop before whole x first s =
     (rest : Script) (goal : Goal) → IsReadyFor before (whole rest) x goal
     → StopsWithin before (whole rest) x goal first s
     × IsStopBefore (first + size (whole rest) - size rest) s
 
 -- and so does the step
-abbrev pub StepStops : List StatementView → Step → StepState → ℕ → Stop → Type 0
+abbrev pub StepStops : List StatementView → Step → Place → ℕ → Stop → Type 0
 StepStops before step x first s = StepsStop before (step_script step) x first s
 
 -- at step n of the step's own block this holds, whatever comes after the step
-abbrev pub ReachesInStep : List StatementView → Step → StepState → ℕ → ℕ → StepState → Type 0
+abbrev pub ReachesInStep : List StatementView → Step → Place → ℕ → ℕ → Place → Type 0
 ReachesInStep before step x first n y =
     (rest : Script) (goal : Goal) → IsReadyFor before (step_script step rest) x goal
     → ReachesStep before (step_script step rest) x goal first n y
 
 -- the first block of a split was licensed where its literal is a fact, and now its negation is one
-pub record IsFirstPassed (before : List StatementView) (lit : Lit) (first : Script) (x : StepState)
-    (goal : Goal) (after : StepState) : Type 0 where
+pub record IsFirstPassed (before : List StatementView) (lit : Lit) (first : Script) (x : Place)
+    (goal : Goal) (after : Place) : Type 0 where
   pub derived : Script
   pub is_derived : IsDerivedFrom before first (after_literal lit x) goal derived
   pub is_after : after ≡ after_literal (negation lit) x

@@ -3,7 +3,7 @@ use Rattle.std.proofs.lemmas.Result.{err_from_is_err_and}
 use Rattle.e_theorem.specs.Statements.{stated}
 use Rattle.e_licence.specs.Contexts.{Basis}
 use Rattle.e_prove.specs.inner.Applications.{CanApply, IsUse}
-use Rattle.e_prove.specs.inner.StepStates.{after_apply}
+use Rattle.e_prove.specs.inner.NextPlaces.{after_apply}
 use Rattle.e_prove.proofs.HeldStates.{unless}
 use Rattle.e_prove.proofs.Applications.{licensed_apply, apply_stops}
 use Rattle.e_prove.proofs.application.apply.Goals as goal

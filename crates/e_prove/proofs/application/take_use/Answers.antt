@@ -1,6 +1,6 @@
 use Rattle.std.proofs.Common.{◌≡◌, length, refl, ap, ◌∙◌, arith}
 use Rattle.e_theorem.specs.Statements.{stated}
-use Rattle.e_prove.proofs.StepStates.{applied_after, good_applied}
+use Rattle.e_prove.proofs.NextPlaces.{applied_after, good_applied}
 use Rattle.e_prove.proofs.Applications.{room_for}
 use Rattle.e_prove.proofs.application.take_use.Goals as goal
 

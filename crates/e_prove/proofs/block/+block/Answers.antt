@@ -11,7 +11,7 @@ use Rattle.e_deriv.specs.declared.block.Close.TheVariants.{Qed}
 use Rattle.e_deriv.specs.Script.{Claim as ClaimScript, Superposed as SuperposedScript, script_of, step_script, close_script, size}
 use Rattle.e_deriv.specs.Goal.{goal_of, are_for, goal_with, goal_view}
 use Rattle.e_construct.specs.Superposing as superposing
-use Rattle.e_prove.specs.inner.StepStates.{HasRoomForMore, after_literal, after_superposed}
+use Rattle.e_prove.specs.inner.NextPlaces.{HasRoomForMore, after_literal, after_superposed}
 use Rattle.e_prove.specs.inner.Applications.{CanApply}
 use Rattle.e_prove.specs.inner.LicensedSteps.{IsLicensedStep, IsStopOfClose, IsStopOfStep}
 use Rattle.e_prove.specs.inner.PassedSteps.{IsReadyFor, IsReadyStep, IsDerivedFrom, IsPassed, StepsStop, StopsWithin}

@@ -5,7 +5,7 @@ use Rattle.e_theorem.specs.Statements.{all_stated}
 use Rattle.e_deriv.specs.declared.block.Close.TheViews.{the_lemmas}
 use Rattle.e_deriv.specs.Script.{script_of, step_script, close_script, size}
 use Rattle.e_deriv.specs.Goal.{goal_of, goal_view}
-use Rattle.e_prove.specs.inner.StepStates.{after_literal, after_superposed}
+use Rattle.e_prove.specs.inner.NextPlaces.{after_literal, after_superposed}
 use Rattle.e_prove.specs.inner.PassedSteps.{IsReadyFor, IsReadyStep, IsDerivedFrom, IsFirstPassed, ReachesStep, StopsWithin}
 use Rattle.e_prove.proofs.LicensedLiterals.{err_map}
 use Rattle.e_prove.proofs.StopsInLists.{stop_before, stop_within, before_more}

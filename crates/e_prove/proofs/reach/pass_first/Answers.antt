@@ -6,7 +6,7 @@ use Rattle.e_licence.specs.Contexts.{state_of}
 use Rattle.e_theorem.specs.Statements.{all_stated}
 use Rattle.e_deriv.specs.Script.{script_of}
 use Rattle.e_deriv.specs.Goal.{goal_view}
-use Rattle.e_prove.specs.inner.StepStates.{after_literal}
+use Rattle.e_prove.specs.inner.NextPlaces.{after_literal}
 use Rattle.e_prove.proofs.PassedSteps.{stops_for_memory, stops_as_memory}
 use Rattle.e_prove.proofs.ReadySteps.{block_facts}
 use Rattle.e_prove.proofs.HeldStates.{ready_inside, derived_outside, stops_outside, some_held, left_is}

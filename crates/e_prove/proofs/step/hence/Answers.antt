@@ -2,7 +2,7 @@ use Rattle.std.proofs.Common.{◌≡◌, sym, ap, ◌∙◌, subst, true}
 use Rattle.e_literal.specs.Facts.{with_fact}
 use Rattle.e_clause.specs.LimitedFacts.{are_limited_facts}
 use Rattle.e_licence.specs.Contexts.{Basis}
-use Rattle.e_prove.specs.inner.StepStates.{after_literal}
+use Rattle.e_prove.specs.inner.NextPlaces.{after_literal}
 use Rattle.e_prove.proofs.HeldStates.{unless}
 use Rattle.e_prove.proofs.LicensedSteps.{licensed_hence}
 use Rattle.e_prove.proofs.step.hence.Goals as goal

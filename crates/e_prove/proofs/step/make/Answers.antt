@@ -6,7 +6,7 @@ use Rattle.e_clause.specs.LimitedFacts.{are_limited_facts}
 use Rattle.e_clause.specs.Certify.{certify_all}
 use Rattle.e_construct.specs.Construct.{sorts_made, gives_of_construction}
 use Rattle.e_licence.specs.Contexts.{Basis}
-use Rattle.e_prove.specs.inner.StepStates.{HasRoomForMore, after_make}
+use Rattle.e_prove.specs.inner.NextPlaces.{HasRoomForMore, after_make}
 use Rattle.e_prove.proofs.HeldStates.{unless}
 use Rattle.e_prove.proofs.LicensedSteps.{licensed_make}
 use Rattle.e_prove.proofs.step.make.Goals as goal

@@ -4,7 +4,7 @@ use Rattle.e_literal.specs.Scopes.{grown}
 use Rattle.e_clause.specs.LimitedFacts.{are_limited_facts}
 use Rattle.e_construct.specs.Superposing as superposing
 use Rattle.e_licence.specs.Contexts.{Basis}
-use Rattle.e_prove.specs.inner.StepStates.{HasRoomForMore, after_superposed}
+use Rattle.e_prove.specs.inner.NextPlaces.{HasRoomForMore, after_superposed}
 use Rattle.e_prove.proofs.HeldStates.{unless}
 use Rattle.e_prove.proofs.step.superpose.Goals as goal
 

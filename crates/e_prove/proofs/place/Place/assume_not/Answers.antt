@@ -3,7 +3,7 @@ use Rattle.e_literal.specs.Literal.{negation}
 use Rattle.e_literal.specs.Facts.{with_fact}
 use Rattle.e_clause.specs.LimitedFacts.{are_limited_facts}
 use Rattle.e_licence.specs.Contexts.{Basis}
-use Rattle.e_prove.proofs.step_state.StepState.assume_not.Goals as goal
+use Rattle.e_prove.proofs.place.Place.assume_not.Goals as goal
 
 pub add-requires : goal.add-requires
 add-requires c =

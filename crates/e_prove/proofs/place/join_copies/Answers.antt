@@ -1,6 +1,6 @@
 use Rattle.e_literal.specs.Facts.{with_facts}
-use Rattle.e_prove.proofs.StepStates.{good_copy, basis_as, joined_end}
-use Rattle.e_prove.proofs.step_state.join_copies.Goals as goal
+use Rattle.e_prove.proofs.NextPlaces.{good_copy, basis_as, joined_end}
+use Rattle.e_prove.proofs.place.join_copies.Goals as goal
 
 pub add-requires : goal.add-requires
 add-requires c =

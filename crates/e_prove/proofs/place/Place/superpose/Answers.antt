@@ -2,8 +2,8 @@ use Rattle.std.proofs.Common.{◌≤◌, length, sym, ap, ◌∙◌, subst, arit
 use Rattle.e_literal.specs.declared.object.Scope.{Scope}
 use Rattle.e_construct.specs.Superposing as superposing
 use Rattle.e_prove.proofs.ReachedSteps.{on_ok_map}
-use Rattle.e_prove.proofs.StepStates.{superposed_after, good_superposed}
-use Rattle.e_prove.proofs.step_state.StepState.superpose.Goals as goal
+use Rattle.e_prove.proofs.NextPlaces.{superposed_after, good_superposed}
+use Rattle.e_prove.proofs.place.Place.superpose.Goals as goal
 
 pub gives-requires : goal.gives-requires
 gives-requires c =

@@ -1,11 +1,11 @@
-use Rattle.std.proofs.Common.{◌≡◌}
+use Rattle.std.proofs.Common.{◌≡◌, drop}
 use Rattle.e_literal.specs.Facts.{with_facts}
-use Rattle.e_prove.proofs.step_state.join_all.Given as goal
+use Rattle.e_prove.proofs.place.join_copies.Given as goal
 
 abbrev pub invariant-loop-lit : goal.invariant-loop-lit
 invariant-loop-lit l =
     record {
       scope : l.context.scope ≡ l.initial.context.scope;
       held : l.context.held ≡ l.initial.context.held;
-      whole : with_facts l.context.facts l.lit-iterator.rest.items ≡ with_facts l.initial.context.facts l.fn.lits.items;
+      whole : with_facts l.context.facts (drop l.lit-index l.lits) ≡ with_facts l.initial.context.facts l.lits;
     }

@@ -3,7 +3,7 @@ use Rattle.e_theorem.specs.Statements.{stated, all_stated}
 use Rattle.e_deriv.specs.Script.{script_of}
 use Rattle.e_deriv.specs.Goal.{goal_view}
 use Rattle.e_prove.proofs.ProofsOfStatements.{few_declared, given_good, made_fit, ready_at_start, goal_is, names_are, stop_is, place_is}
-use Rattle.e_prove.proofs.place.context_at.Goals as goal
+use Rattle.e_prove.proofs.before_step.context_at.Goals as goal
 
 pub first-requires-clause-few : goal.first-requires-clause-few
 first-requires-clause-few c = few_declared (all_stated c.args.before.now) (stated c.args.theorem.now.statement) (script_of c.args.theorem.now.block) c.requires.fitting

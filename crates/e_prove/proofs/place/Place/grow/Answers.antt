@@ -1,8 +1,8 @@
 use Rattle.std.proofs.Common.{ap, ◌∙◌}
 use Rattle.e_literal.specs.Scopes.{grown}
-use Rattle.e_prove.proofs.StepStates.{within_grown}
+use Rattle.e_prove.proofs.NextPlaces.{within_grown}
 use Rattle.e_prove.proofs.Blocks.{on_ok}
-use Rattle.e_prove.proofs.step_state.StepState.grow.Goals as goal
+use Rattle.e_prove.proofs.place.Place.grow.Goals as goal
 
 pub widen-requires : goal.widen-requires
 widen-requires c =

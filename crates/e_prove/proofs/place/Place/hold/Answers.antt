@@ -1,6 +1,6 @@
 use Rattle.std.proofs.Common.{◌∷◌, ◌++◌, [], ap, ◌∙◌}
 use Rattle.e_licence.specs.Contexts.{Basis, state_of}
-use Rattle.e_prove.proofs.step_state.StepState.hold.Goals as goal
+use Rattle.e_prove.proofs.place.Place.hold.Goals as goal
 
 pub returns-clause-held : goal.returns-clause-held
 returns-clause-held c =

@@ -3,8 +3,8 @@ use Rattle.e_literal.specs.declared.object.Scope.{Scope}
 use Rattle.e_construct.specs.Construct.{gives_of_construction}
 use Rattle.e_construct.proofs.Sizes.{few_made}
 use Rattle.e_prove.proofs.ReachedSteps.{on_ok_map}
-use Rattle.e_prove.proofs.StepStates.{made_after, good_given}
-use Rattle.e_prove.proofs.step_state.StepState.make.Goals as goal
+use Rattle.e_prove.proofs.NextPlaces.{made_after, good_given}
+use Rattle.e_prove.proofs.place.Place.make.Goals as goal
 
 pub gives-requires-clause-points : goal.gives-requires-clause-points
 gives-requires-clause-points c =

@@ -15,11 +15,11 @@ use Rattle.e_deriv.specs.declared.names.Names.{Names}
 use Rattle.e_deriv.specs.Goal.{facts_of_statement}
 use Rattle.e_deriv.specs.Naming.{named, declared_names}
 use Rattle.e_licence.specs.Contexts.{State, state_of}
-use Rattle.e_prove.specs.declared.step_state.StepState.{StepState}
+use Rattle.e_prove.specs.declared.place.Place.{Place}
 
 -- before the first step of a statement's proof, where these are the names of its declared and made
 -- objects
-abbrev pub start_with_names : StatementView → Names → StepState
+abbrev pub start_with_names : StatementView → Names → Place
 start_with_names t names =
     record {
       context = record { scope = scope_of t; facts = facts_of_statement t; held = [] };
@@ -27,11 +27,11 @@ start_with_names t names =
     }
 
 -- after a step that gives one literal
-abbrev pub after_literal : Lit → StepState → StepState
+abbrev pub after_literal : Lit → Place → Place
 after_literal l x = record x { context = record x.context { facts = with_fact x.context.facts l } }
 
 -- after a construction, whose new objects have these names
-abbrev pub after_make : Construction → List (List ℕ) → StepState → StepState
+abbrev pub after_make : Construction → List (List ℕ) → Place → Place
 after_make construction names x =
     record {
       context = record x.context {
@@ -42,7 +42,7 @@ after_make construction names x =
     }
 
 -- after an application of the statement at these arguments, whose new objects have these names
-abbrev pub after_apply : StatementView → List Obj → List (List ℕ) → StepState → StepState
+abbrev pub after_apply : StatementView → List Obj → List (List ℕ) → Place → Place
 after_apply t args names x =
     record {
       context = record x.context {
@@ -53,7 +53,7 @@ after_apply t args names x =
     }
 
 -- after a superposition, whose copied points have these names: what its block begins with
-abbrev pub after_superposed : Superpose → List (List ℕ) → StepState → StepState
+abbrev pub after_superposed : Superpose → List (List ℕ) → Place → Place
 after_superposed superposition names x =
     record {
       context = record x.context {
@@ -65,20 +65,20 @@ after_superposed superposition names x =
     }
 
 -- after an inner block that shows these literals
-abbrev pub after_block : List Lit → StepState → StepState
+abbrev pub after_block : List Lit → Place → Place
 after_block shown x =
     record x { context = record x.context { facts = with_facts x.context.facts shown } }
 
 -- with other held states
-abbrev pub with_held : List State → StepState → StepState
+abbrev pub with_held : List State → Place → Place
 with_held held x = record x { context = record x.context { held = held } }
 
 -- where a block inside begins: the present state is held
-abbrev pub held_at : StepState → StepState
+abbrev pub held_at : Place → Place
 held_at x = with_held (x.context.held ++ state_of x.context ∷ []) x
 
 -- the last held state is there again, with these names
-abbrev pub IsLeft : Names → StepState → StepState → Type 0
+abbrev pub IsLeft : Names → Place → Place → Type 0
 IsLeft names x after =
     (before : List State) (last : State) → x.context.held ≡ before ++ last ∷ [] →
     after ≡ record {
@@ -87,7 +87,7 @@ IsLeft names x after =
     }
 
 -- and these literals are facts there
-abbrev pub IsLeftWith : Names → List Lit → StepState → StepState → Type 0
+abbrev pub IsLeftWith : Names → List Lit → Place → Place → Type 0
 IsLeftWith names shown x after =
     (before : List State) (last : State) → x.context.held ≡ before ++ last ∷ [] →
     after ≡ record {
@@ -96,7 +96,7 @@ IsLeftWith names shown x after =
     }
 
 -- they may join the facts of the last held state
-abbrev pub CanJoinLast : List Lit → StepState → Type 0
+abbrev pub CanJoinLast : List Lit → Place → Type 0
 CanJoinLast shown x =
     (before : List State) (last : State) → x.context.held ≡ before ++ last ∷ []
     → IsTrue (are_limited_facts last.scope (with_facts last.facts shown))

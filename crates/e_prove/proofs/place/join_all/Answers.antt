@@ -1,7 +1,7 @@
 use Rattle.std.proofs.Common.{sym, ap, ◌∙◌}
 use Rattle.e_literal.specs.Facts.{with_facts}
-use Rattle.e_prove.proofs.StepStates.{good_left}
-use Rattle.e_prove.proofs.step_state.join_all.Goals as goal
+use Rattle.e_prove.proofs.NextPlaces.{good_left}
+use Rattle.e_prove.proofs.place.join_all.Goals as goal
 
 pub add-requires : goal.add-requires
 add-requires c =

@@ -1,5 +1,5 @@
 use Rattle.e_prove.proofs.HeldStates.{can_join, left_joins}
-use Rattle.e_prove.proofs.step_state.StepState.release_with.Goals as goal
+use Rattle.e_prove.proofs.place.Place.release_with.Goals as goal
 
 pub join_copies-requires : goal.join_copies-requires
 join_copies-requires c = can_join c.args.names c.args.self.now c.release.new.self c.args.shown.now c.requires.held c.release.ensures c.requires.good

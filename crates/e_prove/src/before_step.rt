@@ -1,0 +1,62 @@
+//! What holds before a step of a theorem's script.
+ghost use Rattle.std.specs.Prelude.{◌≤◌, IfOk, IfErr};
+ghost use Rattle.e_theorem.specs.Statements.{stated, all_stated};
+ghost use Rattle.e_deriv.specs.Script.{script_of, size};
+ghost use Rattle.e_deriv.specs.Fitting.{IsFitting};
+ghost use Rattle.e_prove.specs.Places.{IsStepPlace};
+ghost use Rattle.e_prove.specs.Stops.{StopIs, HasNames, IsStopBefore};
+
+use crate::place::Place;
+use crate::reach::reach;
+use e_book::Theorem;
+use e_deriv::{Goal, Stop};
+use e_literal::next_objects;
+use e_theorem::Statement;
+use std::alloc::Global;
+use std::mem;
+
+/// What holds before the step with this number, from the statements before the theorem: each step
+/// before it is licensed, with blanks filled by the least good choice. The steps are counted from 1
+/// in text order, and the step is one of the script's.
+///
+/// A stop is one of [`crate::prove`], at a step before this one. As there, each step of the script
+/// has to fit in its place, and so have the literals.
+pub fn context_at(
+    alloc: Global,
+    before: &[Statement],
+    theorem: &Theorem,
+    step: u32,
+) -> Result<Place, Stop>
+    requires fitting { IsFitting (all_stated before.now) (stated theorem.now.statement)
+        (script_of theorem.now.block) }
+    requires first { 1 ≤ step }
+    requires last { step ≤ size (script_of theorem.now.block) }
+    ensures place { IfOk result (IsStepPlace (all_stated before.now) (stated theorem.now.statement)
+        theorem.now.names (script_of theorem.now.block) step) }
+    ensures stop { IfErr result (StopIs (all_stated before.now) (stated theorem.now.statement)
+        (script_of theorem.now.block)) }
+    ensures names { IfErr result (HasNames (all_stated before.now) (stated theorem.now.statement)
+        theorem.now.names (script_of theorem.now.block)) }
+    ensures earlier { IfErr result (IsStopBefore step) }
+{
+    let statement = &theorem.statement;
+    let mut state = Place::first(alloc, statement, &theorem.names)?;
+    let made = match next_objects(alloc, state.context.scope(), statement.made.items()) {
+        Ok(made) => made,
+        Err(_) => {
+            mem::drop(state);
+            return Err(Stop::NoMemory);
+        }
+    };
+    let goal = Goal {
+        made: &made,
+        shown: statement.shown.items(),
+    };
+    match reach(alloc, before, &theorem.block, &goal, &mut state, 1, step) {
+        Ok(()) => Ok(state),
+        Err(stop) => {
+            mem::drop(state);
+            Err(stop)
+        }
+    }
+}
