@@ -16,8 +16,8 @@ import tempfile
 
 RUNS = 5
 POINTS = (5, 10, 20, 40)
-# the calls that decide one linear system: the facts' rows, more facts or a goal's beside them, and rows from nothing; those that hand
-# on to them may have no call of their own in the program
+# the calls that decide one linear system: the facts' rows; more facts or a goal's beside them, of a row that says `not 0` both tries; rows
+# from nothing. Those that hand on to these may have no call of their own in the program
 QUESTIONS = (
     "e_simplex::solved_rows::prepare",
     "e_simplex::table::Table::grown",
