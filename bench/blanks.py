@@ -14,7 +14,7 @@ from licences import calls, names, timed
 
 POINTS = (5, 10, 20)
 BLANKS = (1, 2, 3, 4, 5, 6)
-LICENCES = ("e_licence::licensing::by_sums",)
+LICENCES = ("e_licence::licensing::verdict_of",)
 
 
 def by_facts(x):

@@ -16,8 +16,14 @@ import tempfile
 
 RUNS = 5
 POINTS = (5, 10, 20, 40)
-# the calls that decide one linear system: the facts' rows, a goal's beside them, and rows from nothing
-QUESTIONS = ("e_simplex::solved_rows::prepare", "e_simplex::solved_rows::SolvedRows::decide_with", "e_simplex::decision::decide")
+# the calls that decide one linear system: the facts' rows; more facts or a goal's beside them, of a row that says `not 0` both tries; rows
+# from nothing. Those that hand on to these may have no call of their own in the program
+QUESTIONS = (
+    "e_simplex::solved_rows::prepare",
+    "e_simplex::table::Table::grown",
+    "e_simplex::table::Table::with_all",
+    "e_simplex::decision::decide",
+)
 
 
 def names(letter, count):
@@ -80,9 +86,11 @@ def timed(program, path):
 
 
 def calls(program, path, counted):
-    """How often the functions whose names begin so are called, or None where that cannot be counted."""
+    """How often the functions whose names begin so are called, or None where that cannot be counted or the program has none of them."""
     valgrind = shutil.which("valgrind")
-    if valgrind is None:
+    with open(program, "rb") as code:
+        symbols = code.read()
+    if valgrind is None or not any(name.encode() in symbols for name in counted):
         return None
     with tempfile.TemporaryDirectory() as folder:
         out = os.path.join(folder, "calls")

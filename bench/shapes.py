@@ -26,6 +26,7 @@ LIMIT = 60  # processor seconds of a run
 # Counting takes some fifty times as long as the run: it has a limit of its own, and is not tried where the run took longer than this.
 COUNT_LIMIT, COUNTED = 180, 3
 CHAINS = (50, 100, 200, 400, 500)
+GROWTH = (*zip(CHAINS, CHAINS[1:]), (100, 400))  # between which sizes of chains
 REFUSED = 7
 
 # What is run: the words after the program, what makes its text, the answer, whether z3 is asked the same questions, and the version of a
@@ -174,13 +175,13 @@ class Table:
         self.print(f"  z3, {row.shape}", row.size, count, ran, answer)
 
     def growth(self):
-        """The power of n with which chains grow, between neighbours."""
-        for one, two in zip(CHAINS, CHAINS[1:]):
+        """The power of n with which the cost of a chain grows from one size to another."""
+        for one, two in GROWTH:
             pairs = zip(self.costs["chain", one], self.costs["chain", two], ("instructions", "seconds"))
             known = [(math.log(b / a), by) for a, b, by in pairs if a and b]
             if known:
                 power, by = known[0]
-                print("chain, %d to %d: grows with the power %.1f of n, by %s" % (one, two, power / math.log(two / one), by))
+                print("chain, %d to %d: grows with the power %.2f of n, by %s" % (one, two, power / math.log(two / one), by))
 
 
 def main(program, writer=None):

@@ -25,6 +25,7 @@ It prints each finding as FILE:LINE, ends with the line `lint: N findings`, and 
 where N is not 0.
 """
 
+import os
 import re
 import sys
 from pathlib import Path
@@ -68,16 +69,24 @@ def pages():
         yield from sorted(TOP.glob(pattern))
 
 
+def tree():
+    """All folders and files, without those that git or a build keeps. A folder that is gone when it is read is empty."""
+    for folder, folders, files in os.walk(TOP):
+        folders[:] = [name for name in folders if name not in (".git", "out")]
+        for name in folders + files:
+            yield Path(folder, name)
+
+
 def tree_words():
     """All words of the code, definitions, proofs, edits, scripts and books, and all file names."""
     words, names = set(), set()
-    for path in TOP.rglob("*"):
-        parts = path.relative_to(TOP).parts
-        if ".git" in parts or "out" in parts:
-            continue
+    for path in tree():
         names.update((path.name, path.stem))
         if path.suffix in (".rt", ".antt", ".edit", ".sh", ".book", ".py") or path.name == "crates.txt":
-            text = path.read_text(encoding="utf-8", errors="replace")
+            try:
+                text = path.read_text(encoding="utf-8", errors="replace")
+            except FileNotFoundError:  # gone since its folder was read
+                continue
             words.update(re.findall(r"[A-Za-z_][A-Za-z0-9_]*", text))
             words.update(re.findall(r"[A-Za-z_][A-Za-z0-9_-]*", text))
     return words, names
