@@ -4,7 +4,7 @@
 set -eu
 here="$(cd "$(dirname "$0")" && pwd)"
 program="${1:-$here/../release/elements}"
-for measure in reading verifying trial licences blanks shapes; do
+for measure in reading verifying trial licences blanks suggesting shapes; do
     printf '\n== %s\n' "$measure"
     "$here/$measure.sh" "$program"
 done

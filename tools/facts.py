@@ -108,7 +108,7 @@ def literal_of(expression):
             return f"{sum_of(inner[2])} <= {sum_of(inner[1])}"
         spelled = literal_of(inner)
         return spelled.replace(" = ", " != ") if inner[0] in EQUAL else f"not {spelled}"
-    if head == "apart":
+    if head == "neq":
         return f"{rest[0]} != {rest[1]}"
     if head == "sums_equal":
         return f"{sum_of(rest[0])} = {sum_of(rest[1])}"

@@ -40,9 +40,9 @@ grouped_before sort name (g ∷ gs) =
     group sort (name ∷ []) ∷ g ∷ gs
 
 -- objects in order, neighbours of one sort in one group
-abbrev pub grouped : Names → List Obj → List Group
-grouped ns [] = []
-grouped ns (o ∷ os) = grouped_before o.sort (name_of_object ns o) (grouped ns os)
+abbrev pub sort_groups : Names → List Obj → List Group
+sort_groups ns [] = []
+sort_groups ns (o ∷ os) = grouped_before o.sort (name_of_object ns o) (sort_groups ns os)
 
 abbrev pub declare_raw_line : Group → RawLine
 declare_raw_line g = rawlines.Declare g.sort g.names
@@ -61,12 +61,12 @@ made_objects t = next_objects (scope_of (stated t)) t.made
 -- what is given: one raw line for each group of declared objects, and one for each given literal
 abbrev pub given_raw_lines : Names → Statement → List RawLine
 given_raw_lines ns t =
-    map declare_raw_line (grouped ns (declared_objects t)) ++ map (given_raw_line ns) t.given
+    map declare_raw_line (sort_groups ns (declared_objects t)) ++ map (given_raw_line ns) t.given
 
 -- what is shown: one raw line for each group of made objects, and one for each shown literal
 abbrev pub shown_raw_lines : Names → Statement → List RawLine
 shown_raw_lines ns t =
-    map made_raw_line (grouped ns (made_objects t)) ++ map (show_raw_line ns) t.shown
+    map made_raw_line (sort_groups ns (made_objects t)) ++ map (show_raw_line ns) t.shown
 
 -- from the title to the word proof
 abbrev pub head_raw_lines : TheoremView → List RawLine

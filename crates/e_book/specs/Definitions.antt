@@ -27,7 +27,7 @@ use Rattle.e_line.specs.Reading.{◌>>=◌}
 use Rattle.e_line.specs.Faults.{line_fault}
 use Rattle.e_names.specs.TitledStatements.{stated_by}
 use Rattle.e_names.specs.Taken.{is_taken}
-use Rattle.e_names.specs.Titled.{Titled, titled, defines, is_notion}
+use Rattle.e_names.specs.Titled.{Titled, titled_notion, defines, is_notion}
 use Rattle.e_line.specs.Limits.{most_notions, most_expanded}
 use Rattle.e_names.specs.Canonical.{raw_of}
 use Rattle.e_book.specs.TheoremViews.{TheoremView, entry_of}
@@ -79,13 +79,13 @@ abbrev pub still_defined : ℕ → Open → Result PartialItem FaultKind
 still_defined n (Stating h) = Ok (InDefinition h n)
 still_defined n o = Err Malformed
 
-abbrev pub meant : Head → Titled
-meant h = titled h.title (record { declared = h.statement.declared; means = h.statement.shown })
+abbrev pub notion_of_head : Head → Titled
+notion_of_head h = titled_notion h.title (record { declared = h.statement.declared; means = h.statement.shown })
 
 -- the last line of a definition, which means something
 abbrev pub ends_definition : Head → RawLine → Result PartialItem FaultKind
 ends_definition h rawlines.End =
-    if is_empty h.statement.shown then Err Malformed else Ok (Defined (meant h))
+    if is_empty h.statement.shown then Err Malformed else Ok (Defined (notion_of_head h))
 ends_definition h f = Err Malformed
 
 abbrev pub plain_line : Known → PartialItem → RawLine → Result PartialItem FaultKind
@@ -108,24 +108,24 @@ written_out known o line is =
     >>= λ p. Ok (listing_raw_line line (map (raw_of ns) p.0), p.1)
 
 -- with so many more literals that items mean, within their limit
-abbrev pub counted : ℕ → PartialItem → Result PartialItem FaultKind
-counted n (InTheorem o m) =
+abbrev pub with_more_literals : ℕ → PartialItem → Result PartialItem FaultKind
+with_more_literals n (InTheorem o m) =
     all_kept ((nat_le (m + n) most_expanded, limits.Expanded) ∷ [])
     >>= λ kept. Ok (InTheorem o (m + n))
-counted n (InDefinition h m) =
+with_more_literals n (InDefinition h m) =
     all_kept ((nat_le (m + n) most_expanded, limits.Expanded) ∷ [])
     >>= λ kept. Ok (InDefinition h (m + n))
-counted n (Defined t) = Err Malformed
+with_more_literals n (Defined t) = Err Malformed
 
 -- it is taken as it is written out; the last limit is that of the literals that items mean
 abbrev pub after_listed_line : Known → PartialItem → Listing → List RawItem
     → Result PartialItem FaultKind
 after_listed_line known (InTheorem o n) line is =
-    written_out known o line is >>= λ w. plain_line known (InTheorem o n) w.0 >>= λ c. counted w.1 c
+    written_out known o line is >>= λ w. plain_line known (InTheorem o n) w.0 >>= λ c. with_more_literals w.1 c
 after_listed_line known (InDefinition h n) line is =
     if is_show line
     then (written_out known (Stating h) line is >>= λ w. plain_line known (InDefinition h n) w.0
-    >>= λ c. counted w.1 c)
+    >>= λ c. with_more_literals w.1 c)
     else Err Malformed
 after_listed_line known (Defined t) line is = Err Malformed
 
@@ -146,10 +146,10 @@ abbrev pub put_there : ℕ → Result PartialItem FaultKind → Result PartialIt
 put_there line read = put_at line read
 
 -- a theorem or a definition whose last line has come
-abbrev pub whole : PartialItem → Option BookItem
-whole (InTheorem o n) = option_map OfTheorem (theorem_ended o)
-whole (InDefinition h n) = None
-whole (Defined t) = Some (OfNotion t)
+abbrev pub item_ended : PartialItem → Option BookItem
+item_ended (InTheorem o n) = option_map OfTheorem (theorem_ended o)
+item_ended (InDefinition h n) = None
+item_ended (Defined t) = Some (OfNotion t)
 
 -- what is read next, and the lines after it; nothing; or a fault
 abbrev pub Answer : Type 0
@@ -171,13 +171,13 @@ item_from known last c (Err f ∷ lines) = Err (line_fault f)
 item_from known last c (Ok line ∷ lines) =
     if is_skipped (tokens_of line.bytes) then item_from known last c lines else
     (put_at line.number (item_after_words known c (tokens_of line.bytes))
-    >>= λ n. whole_or (whole n) lines (item_from known last (Some n) lines))
+    >>= λ n. whole_or (item_ended n) lines (item_from known last (Some n) lines))
 
 -- ---- what is answered
 
 abbrev pub view_of : Item → BookItem
 view_of (items.Theorem t) = OfTheorem (entry_of t)
-view_of (items.Notion title n) = OfNotion (titled title n)
+view_of (items.Notion title n) = OfNotion (titled_notion title n)
 
 -- what was answered is what the grammar says, unless memory ran out
 abbrev pub BookReads : Result (Option Item) BookFault → Ahead → Answer → Type 0

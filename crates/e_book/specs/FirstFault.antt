@@ -9,7 +9,7 @@ use Rattle.e_line.specs.declared.fault.BookFault.TheVariants as faults
 use Rattle.e_line.specs.Faults.{line_fault}
 use Rattle.e_names.specs.declared.known.Known.{Known}
 use Rattle.e_book.specs.Grammar.{is_skipped, Rest}
-use Rattle.e_book.specs.Definitions.{PartialItem, whole, put_there, item_after_words}
+use Rattle.e_book.specs.Definitions.{PartialItem, item_ended, put_there, item_after_words}
 
 -- these lines are taken one after another, from this on, and leave that
 abbrev pub Leaves : Known → Option PartialItem → Rest → Option PartialItem → Type 0
@@ -19,7 +19,7 @@ Leaves known o (Ok line ∷ lines) left =
     (is_skipped (tokens_of line.bytes) ≡ true → Leaves known o lines left)
     × (is_skipped (tokens_of line.bytes) ≡ false
     → (n : PartialItem)
-    × (item_after_words known o (tokens_of line.bytes) ≡ Ok n) × (whole n ≡ None)
+    × (item_after_words known o (tokens_of line.bytes) ≡ Ok n) × (item_ended n ≡ None)
     × Leaves known (Some n) lines left)
 
 -- a line has this fault here: its bytes, or its form, its names or a limit

@@ -7,7 +7,7 @@ use Rattle.e_literal.specs.declared.object.Scope.{Scope}
 use Rattle.e_literal.specs.declared.object.Sort.TheVariants.{Point, Line, Circle}
 use Rattle.e_literal.specs.Literal.{all_in_scope}
 use Rattle.e_literal.specs.WellFormed.{is_well_formed}
-use Rattle.e_literal.specs.Scopes.{grown}
+use Rattle.e_literal.specs.Scopes.{with_sorts}
 use Rattle.e_literal.specs.Use.{StatementView, scope_of}
 use Rattle.e_construct.specs.Construct.{sorts_made, gives_of_construction}
 use Rattle.e_construct.specs.Superposing as superposing
@@ -62,18 +62,18 @@ few_facts before n s (Hence lit cert rest) =
 few_facts before n s (Make construction names certs rest) =
     nat_le (n + length (gives_of_construction construction s)) most_facts
     && few_facts before (n + length (gives_of_construction construction s))
-    (grown s (sorts_made construction)) rest
+    (with_sorts s (sorts_made construction)) rest
 few_facts before n s (Apply theorem args names certs rest) =
     nat_le (n + length (theorem_at before theorem).shown) most_facts
     && few_facts before (n + length (theorem_at before theorem).shown)
-    (grown s (theorem_at before theorem).made) rest
+    (with_sorts s (theorem_at before theorem).made) rest
 few_facts before n s (Claim shown inner rest) =
     few_facts before n s inner
     && (nat_le (n + length shown) most_facts && few_facts before (n + length shown) s rest)
 few_facts before n s (Superposed superposition names shown certs inner rest) =
     nat_le (n + length (superposing.gives_of_superposition superposition s)) most_facts
     && (few_facts before (n + length (superposing.gives_of_superposition superposition s))
-    (grown s superposing.sorts_copied) inner
+    (with_sorts s superposing.sorts_copied) inner
     && (nat_le (n + length shown) most_facts && few_facts before (n + length shown) s rest))
 few_facts before n s (Qed objects certs) = true
 few_facts before n s (Contradiction against) = true
@@ -104,18 +104,18 @@ few_terms before n s (Cite by rest) = few_terms before n s rest
 few_terms before n s (Hence lit cert rest) =
     nat_le (n + monomials lit.atom) most_terms && few_terms before (n + monomials lit.atom) s rest
 few_terms before n s (Make construction names certs rest) =
-    few_terms before n (grown s (sorts_made construction)) rest
+    few_terms before n (with_sorts s (sorts_made construction)) rest
 few_terms before n s (Apply theorem args names certs rest) =
     nat_le (n + count_monomials (theorem_at before theorem).shown) most_terms
     && few_terms before (n + count_monomials (theorem_at before theorem).shown)
-    (grown s (theorem_at before theorem).made) rest
+    (with_sorts s (theorem_at before theorem).made) rest
 few_terms before n s (Claim shown inner rest) =
     few_terms before n s inner && (nat_le (n + count_monomials shown) most_terms
     && few_terms before (n + count_monomials shown) s rest)
 few_terms before n s (Superposed superposition names shown certs inner rest) =
     nat_le (n + count_monomials (superposing.gives_of_superposition superposition s)) most_terms
     && (few_terms before (n + count_monomials (superposing.gives_of_superposition superposition s))
-    (grown s superposing.sorts_copied) inner
+    (with_sorts s superposing.sorts_copied) inner
     && (nat_le (n + count_monomials shown) most_terms
     && few_terms before (n + count_monomials shown) s rest))
 few_terms before n s (Qed objects certs) = true

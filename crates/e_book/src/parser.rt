@@ -18,7 +18,7 @@ use crate::theorem::Theorem;
 use e_construct::Construction;
 use e_deriv::{Names, Step};
 use e_line::{FaultKind, LineError, RawApply, RawLet, RawLine, RawLit, What, few_monos, within};
-use e_literal::{Items, Lit, NOTHING, Scope, Sort, grown};
+use e_literal::{Items, Lit, NOTHING, Scope, Sort, with_sorts};
 use e_names::{
     Application, Theorems, apply_in, by_in, count_blanks, fresh, let_in, lit_in, put_lits,
     put_names, scope_of_names,
@@ -327,7 +327,7 @@ impl TheoremParser {
         ensures value { Moves result self.new (after_proof self.old) }
         ensures fits { OnOk result (FitsScope self.new) }
     {
-        let scope = grown(NOTHING, self.declared.items());
+        let scope = with_sorts(NOTHING, self.declared.items());
         let first = self.names.first(alloc, scope)?;
         mem::drop(mem::replace(&mut self.in_scope, first));
         self.section = Section::Proving;

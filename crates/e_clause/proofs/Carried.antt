@@ -22,7 +22,7 @@ use Rattle.e_literal.specs.Width.{is_among}
 use Rattle.e_literal.specs.Truth.{holds, all_hold}
 use Rattle.e_literal.specs.Facts.{has, is_metric, are_apart, are_equal_points}
 use Rattle.e_literal.specs.Rows.{Row, Zero, AtLeast, More, Not, is_degenerate, times, row, plus, minus, row_of_atom, row_of_lit, has_term, first_terms}
-use Rattle.e_literal.specs.Solution.{Satisfy, carried}
+use Rattle.e_literal.specs.Solution.{Satisfy, values_for_all}
 use Rattle.e_literal.proofs.Arith.{sums, one_mul, minus_one}
 use Rattle.e_literal.proofs.Terms.{term_eq_is, equal_terms, among_either, among_left, among_right, among_first, among_rest}
 use Rattle.e_literal.proofs.CanonicalTerms.{kind_canonical, one_term_is, same_degenerate}
@@ -154,11 +154,11 @@ first_found seen (x ∷ xs) t a = by (has_term seen x) refl (or_cases (term_eq t
 
 -- ---- values of all terms
 
-pub carried_same : (w : Term → ℕ) (s t : Term) → canonical s ≡ canonical t → carried w s ≡ carried w t
+pub carried_same : (w : Term → ℕ) (s t : Term) → canonical s ≡ canonical t → values_for_all w s ≡ values_for_all w t
 carried_same w s t e = ap₂ {A = Bool} {B = ℕ} (λ b n. cond b 0 n) (same_degenerate s t e) (ap w e)
 
 -- a term has the value that the solution for its kind gives it
-of_its_kind : (values : Kind → Term → ℕ) (which : Kind) (t : Term) → kind_of_term t ≡ which → carried (values which) t ≡ carried (by_kind values) t
+of_its_kind : (values : Kind → Term → ℕ) (which : Kind) (t : Term) → kind_of_term t ≡ which → values_for_all (values which) t ≡ values_for_all (by_kind values) t
 of_its_kind values which t e = ap (λ k. cond (is_degenerate t) 0 (values k (canonical t))) (sym e ∙ sym (kind_canonical t))
 
 metric_row : (a : Atom) (neg : Bool) → IsMagEq a ⊎ IsMagLt a → (r : Row) × (row_of_atom a neg ≡ Some r)
@@ -195,38 +195,38 @@ first_so w which name l ls r k e h =
 module _ (values : Kind → Term → ℕ) where
   -- literals whose rows are so are true
   literals_true : (name : Lit → RowName) (ls : List Lit) → list_all is_well_formed ls ≡ true → ((which : Kind) → SatisfyNamed (values which) (rows_named name (of_kind which ls)))
-      → all_hold (carried (by_kind values)) ls ≡ true
+      → all_hold (values_for_all (by_kind values)) ls ≡ true
   literals_true name [] g h = refl
   literals_true name (l ∷ ls) g h =
-      and_from (holds (carried (by_kind values)) l) (all_hold (carried (by_kind values)) ls) (one (split l.atom))
+      and_from (holds (values_for_all (by_kind values)) l) (all_hold (values_for_all (by_kind values)) ls) (one (split l.atom))
       (literals_true name ls (and_right (is_well_formed l) (list_all is_well_formed ls) g) (λ which. rest_so (values which) which name l ls (h which)))
     where
       good : is_well_formed l ≡ true
       good = and_left (is_well_formed l) (list_all is_well_formed ls) g
 
-      metric : IsMagEq l.atom ⊎ IsMagLt l.atom → holds (carried (by_kind values)) l ≡ true
+      metric : IsMagEq l.atom ⊎ IsMagLt l.atom → holds (values_for_all (by_kind values)) l ≡ true
       metric p =
           let k = metric_kind l.atom p in
           let r = metric_row l.atom l.neg p in
           let is : is_of_kind k.0 l ≡ true = ap (λ o. option_map_or (same_kind k.0) o false) k.1 ∙ same_kind_self k.0 in
-          let agree : Agree (terms_of_atom l.atom) (carried (by_kind values)) (carried (values k.0)) =
+          let agree : Agree (terms_of_atom l.atom) (values_for_all (by_kind values)) (values_for_all (values k.0)) =
           λ t a. sym (of_its_kind values k.0 t (same_Some (kind_of_term t) k.0 (sym (kind_in_atom l.atom t good a) ∙ k.1))) in
-          holds_agrees l (carried (by_kind values)) (carried (values k.0)) agree
+          holds_agrees l (values_for_all (by_kind values)) (values_for_all (values k.0)) agree
           ∙ holds_of_so l r.0 (values k.0) r.1 (first_so (values k.0) k.0 name l ls r.0 is r.1 (h k.0))
 
-      one : (IsMagEq l.atom ⊎ IsMagLt l.atom) ⊎ IsDiagram l.atom → holds (carried (by_kind values)) l ≡ true
+      one : (IsMagEq l.atom ⊎ IsMagLt l.atom) ⊎ IsDiagram l.atom → holds (values_for_all (by_kind values)) l ≡ true
       one (inl p) = metric p
-      one (inr d) = d.quiet (carried (by_kind values)) l.neg
+      one (inr d) = d.quiet (values_for_all (by_kind values)) l.neg
 
 -- ---- the bounds of the terms
 
-pos_is : (t : Term) (w : Term → ℕ) → IsSoAt w (pos_row t) → 1 ≤ carried w t
-pos_is t w h = let e = normal_value (times (pos 1) t ∷ []) w in let k = one_mul (pos (carried w t)) in omega (arith, sums, e, k, h)
+pos_is : (t : Term) (w : Term → ℕ) → IsSoAt w (pos_row t) → 1 ≤ values_for_all w t
+pos_is t w h = let e = normal_value (times (pos 1) t ∷ []) w in let k = one_mul (pos (values_for_all w t)) in omega (arith, sums, e, k, h)
 
-top_is : (t : Term) (w : Term → ℕ) → IsSoAt w (top_row t) → carried w t ≤ 2 * carried w Right
+top_is : (t : Term) (w : Term → ℕ) → IsSoAt w (top_row t) → values_for_all w t ≤ 2 * values_for_all w Right
 top_is t w h =
     let e = normal_value (times (pos 2) Right ∷ (times (negsuc 0) t ∷ [])) w in
-    let k = minus_one (pos (carried w t)) in
+    let k = minus_one (pos (values_for_all w t)) in
     omega (arith, sums, e, k, h)
 
 -- two points in one order or the other
@@ -297,7 +297,7 @@ module _ (facts : List Lit) (wanted : Option Lit) (values : Kind → Term → �
       (satisfy_split (values which) (rows_named (λ l. Goal) (of_kind which (against_goal wanted))) (flat_map (rows_of_term facts) (firsts which) ++ rows_of_kind which) (after_facts which)).1
 
   abbrev all : Term → ℕ
-  all = carried (by_kind values)
+  all = values_for_all (by_kind values)
 
   facts_true : all_hold all facts ≡ true
   facts_true = literals_true values Fact facts good facts_so
@@ -364,14 +364,14 @@ all_of : (p : Term → Bool) (ts : List Term) → ((t : Term) → is_among ts t 
 all_of p [] h = refl
 all_of p (t ∷ ts) h = and_from (p t) (list_all p ts) (h t (among_first t ts)) (all_of p ts (λ s a. h s (among_rest t ts s a)))
 
-pub zero_so : (w : Term → ℕ) (t : Term) → is_zero_if_degenerate (carried w) t ≡ true
+pub zero_so : (w : Term → ℕ) (t : Term) → is_zero_if_degenerate (values_for_all w) t ≡ true
 zero_so w t = by (is_degenerate t)
   where
     by : (b : Bool) → cond b (cond b 0 (w (canonical t)) == 0) true ≡ true
     by true = refl
     by false = refl
 
-agrees_so : (w v : Term → ℕ) (ts : List Term) (t : Term) → Agree ts v (carried w) → is_among ts t ≡ true → agrees_with v ts t ≡ true
+agrees_so : (w v : Term → ℕ) (ts : List Term) (t : Term) → Agree ts v (values_for_all w) → is_among ts t ≡ true → agrees_with v ts t ≡ true
 agrees_so w v ts t h a = all_of (λ s. cond (one_term t s) (v t == v s) true) ts (λ s k. by s k (one_term t s) refl)
   where
     by : (s : Term) → is_among ts s ≡ true → (b : Bool) → one_term t s ≡ b → cond b (v t == v s) true ≡ true
@@ -394,10 +394,10 @@ positive_same facts v u Right e = refl
 pub counterexample_of : (facts : List Lit) (wanted : Option Lit) (values : Kind → Term → ℕ) (v : Term → ℕ)
     → list_all is_well_formed facts ≡ true → is_well_formed_metric wanted ≡ true
     → ((which : Kind) → Satisfy (values which) (rows_of_system which facts wanted))
-    → Agree (terms_of_step facts wanted) v (carried (by_kind values)) → IsCounterexample facts wanted v
+    → Agree (terms_of_step facts wanted) v (values_for_all (by_kind values)) → IsCounterexample facts wanted v
 counterexample_of facts wanted values v good good_wanted solve agree =
     let ts = terms_of_step facts wanted in
-    let u = carried (by_kind values) in
+    let u = values_for_all (by_kind values) in
     let right : v Right ≡ u Right = agree Right (among_first Right (terms_of_lits facts ++ terms_of_wanted wanted)) in
     record {
       is_admissible = all_of (λ t. is_within v t && (is_zero_if_degenerate v t && (is_positive_if_apart facts v t && agrees_with v ts t))) ts (λ t a.
@@ -413,4 +413,4 @@ counterexample_of facts wanted values v good good_wanted solve agree =
     }
 
 pub solutions_refute : SolutionsRefute
-solutions_refute facts wanted values good good_wanted solve = counterexample_of facts wanted values (carried (by_kind values)) good good_wanted solve (λ t a. refl)
+solutions_refute facts wanted values good good_wanted solve = counterexample_of facts wanted values (values_for_all (by_kind values)) good good_wanted solve (λ t a. refl)

@@ -8,7 +8,7 @@ use Rattle.e_literal.specs.declared.literal.Lit.{Lit}
 use Rattle.e_literal.specs.Literal.{negation}
 use Rattle.e_literal.specs.Truth.{holds}
 use Rattle.e_literal.specs.Facts.{has, others, is_metric}
-use Rattle.e_literal.specs.Solution.{carried}
+use Rattle.e_literal.specs.Solution.{values_for_all}
 use Rattle.e_literal.proofs.Booleans.{and_left, and_right}
 use Rattle.e_clause.specs.declared.cert.Part.{Part}
 use Rattle.e_clause.specs.declared.cert.Part.TheVariants.{Fact, Metric, FactAt}
@@ -79,7 +79,7 @@ pub metric_fact : MetricFactFollows
 metric_fact facts l m h =
     follows_without facts l m (λ v x. (let w = spread v (terms_of_step facts (Some l)) in
     let model = model_of facts (Some l) v x in
-    not_false (holds (carried w) l) model.wanted_fails (has_holds facts l w model.facts_hold h)))
+    not_false (holds (values_for_all w) l) model.wanted_fails (has_holds facts l w model.facts_hold h)))
 
 -- ---- transfer certificates
 

@@ -27,7 +27,7 @@ use Rattle.e_clause.specs.declared.cert.RowName.{RowName}
 use Rattle.e_clause.specs.declared.cert.RowName.TheVariants.{Fact, Goal, Pos}
 use Rattle.e_clause.specs.Assignment.{terms_of_atom, terms_of_lits, terms_of_step}
 use Rattle.e_clause.specs.Sum.{Place, is_step_term, fact_row, goal_row, says_differ, unless_not, row_named}
-use Rattle.e_clause.specs.MetricCertificate.{differing}
+use Rattle.e_clause.specs.MetricCertificate.{differing_row}
 use Rattle.e_clause.specs.System.{NamedRow, named_row, is_of_kind, of_kind, against_goal, rows_named, pos_row, top_row, rows_of_term, rows_of_kind, system}
 use Rattle.e_clause.proofs.Spread.{terms_of_sum}
 use Rattle.e_clause.proofs.Solved.{terms_of_system, system_among, first_among}
@@ -84,7 +84,7 @@ each_system P which facts wanted a b c d =
 -- the name means the row, where a row may be used by its name; and one that says that its form is not 0 may differ
 pub record IsNamed (p : Place) (n : NamedRow) : Type 0 where
   pub by_name : row_named p n.name ≡ unless_not (Some n.row)
-  pub differs : says_differ n.row.sense ≡ true → differing p.facts p.wanted n.name ≡ Some n.row
+  pub differs : says_differ n.row.sense ≡ true → differing_row p.facts p.wanted n.name ≡ Some n.row
 
 has_more : (facts : List Lit) (x : Lit) (ls : List Lit) → EachLit (λ l. has facts l ≡ true) ls → EachLit (λ l. has (x ∷ facts) l ≡ true) ls
 has_more facts x [] h = tt

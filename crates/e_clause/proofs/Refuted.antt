@@ -16,7 +16,7 @@ use Rattle.e_literal.specs.Truth.{metric_atom_holds, holds, all_hold}
 use Rattle.e_literal.specs.Facts.{has, is_metric, are_apart}
 use Rattle.e_literal.specs.Rows.{Row, Sense, Zero, AtLeast, More, Not, times, row, row_of_lit}
 use Rattle.e_literal.specs.Absurd.{Weighed, is_absurd}
-use Rattle.e_literal.specs.Solution.{form_value, IsSo, Satisfy, carried}
+use Rattle.e_literal.specs.Solution.{form_value, IsSo, Satisfy, values_for_all}
 use Rattle.e_literal.proofs.Arith.{sums, one_mul, minus_one}
 use Rattle.e_literal.proofs.Valued.{IsMagEq, IsMagLt, IsDiagram, split, form-negative, normal_value, holds_same, so_of_holds}
 use Rattle.e_literal.proofs.Refutes.{no_values}
@@ -28,7 +28,7 @@ use Rattle.e_clause.specs.declared.cert.Sums.TheVariants.{One, Two}
 use Rattle.e_clause.specs.Metric.{wanted_fails}
 use Rattle.e_clause.specs.Sum.{Place, is_step_term, fact_row, row_at, goal_row, says_differ, unless_not, pos_of, top_of, row_named, weighed_rows, is_limited_sum, refutes}
 use Rattle.e_clause.specs.System.{pos_row, top_row, right_row, least_row}
-use Rattle.e_clause.specs.MetricCertificate.{differing_of, differing, above_row, below_row, both_refute, sums_refute}
+use Rattle.e_clause.specs.MetricCertificate.{differing_of, differing_row, above_row, below_row, both_refute, sums_refute}
 use Rattle.e_clause.specs.PartCertificate.{is_fact_at}
 use Rattle.e_clause.proofs.Spread.{IsModel}
 
@@ -61,18 +61,18 @@ abbrev pub IsSoAt : (Term → ℕ) → Row → Type 0
 IsSoAt w r = IsSo r.sense (form_value r.form w)
 
 -- what is among true facts is true
-pub has_holds : (facts : List Lit) (l : Lit) (w : Term → ℕ) → all_hold (carried w) facts ≡ true → has facts l ≡ true → holds (carried w) l ≡ true
+pub has_holds : (facts : List Lit) (l : Lit) (w : Term → ℕ) → all_hold (values_for_all w) facts ≡ true → has facts l ≡ true → holds (values_for_all w) l ≡ true
 has_holds [] l w h k = absurd (true≢false (sym k))
 has_holds (f ∷ facts) l w h k = elim (or_cases (same_lit f l) (has facts l) k) [
-  | inl e ↦ holds_same f l w e (and_left (holds (carried w) f) (all_hold (carried w) facts) h)
-  | inr m ↦ has_holds facts l w (and_right (holds (carried w) f) (all_hold (carried w) facts) h) m
+  | inl e ↦ holds_same f l w e (and_left (holds (values_for_all w) f) (all_hold (values_for_all w) facts) h)
+  | inr m ↦ has_holds facts l w (and_right (holds (values_for_all w) f) (all_hold (values_for_all w) facts) h) m
 ]
 
 -- what is at a place of true facts is true
-at_holds : (facts : List Lit) (k : ℕ) (f : Lit) (w : Term → ℕ) → all_hold (carried w) facts ≡ true → slice_get facts k ≡ Some f → holds (carried w) f ≡ true
+at_holds : (facts : List Lit) (k : ℕ) (f : Lit) (w : Term → ℕ) → all_hold (values_for_all w) facts ≡ true → slice_get facts k ≡ Some f → holds (values_for_all w) f ≡ true
 at_holds [] k f w h e = absurd (none-some f e)
-at_holds (x ∷ facts) zero f w h e = ap (holds (carried w)) (sym (same_Some x f e)) ∙ and_left (holds (carried w) x) (all_hold (carried w) facts) h
-at_holds (x ∷ facts) (suc k) f w h e = at_holds facts k f w (and_right (holds (carried w) x) (all_hold (carried w) facts) h) e
+at_holds (x ∷ facts) zero f w h e = ap (holds (values_for_all w)) (sym (same_Some x f e)) ∙ and_left (holds (values_for_all w) x) (all_hold (values_for_all w) facts) h
+at_holds (x ∷ facts) (suc k) f w h e = at_holds facts k f w (and_right (holds (values_for_all w) x) (all_hold (values_for_all w) facts) h) e
 
 -- what is the same as the fact at a place is among the facts
 pub has_at : (facts : List Lit) (l : Lit) (k : ℕ) → is_fact_at facts l k ≡ true → has facts l ≡ true
@@ -102,17 +102,17 @@ negation_fails l v m h = by (split l.atom)
     by (inl (inr p)) = ap (λ a. not (metric_atom_holds v a l.neg)) p.2 ∙ negated_cond l.neg _ ∙ sym (ap (λ a. metric_atom_holds v a (not l.neg)) p.2) ∙ h
     by (inr d) = absurd (true≢false (sym m ∙ ap is_some d.no_kind))
 
-pub pos_so : (t : Term) (w : Term → ℕ) → 1 ≤ carried w t → IsSoAt w (pos_row t)
-pos_so t w h = let e = normal_value (times (pos 1) t ∷ []) w in let k = one_mul (pos (carried w t)) in omega (arith, sums, e, k, h)
+pub pos_so : (t : Term) (w : Term → ℕ) → 1 ≤ values_for_all w t → IsSoAt w (pos_row t)
+pos_so t w h = let e = normal_value (times (pos 1) t ∷ []) w in let k = one_mul (pos (values_for_all w t)) in omega (arith, sums, e, k, h)
 
-pub top_so : (t : Term) (w : Term → ℕ) → carried w t ≤ 2 * carried w Right → IsSoAt w (top_row t)
+pub top_so : (t : Term) (w : Term → ℕ) → values_for_all w t ≤ 2 * values_for_all w Right → IsSoAt w (top_row t)
 top_so t w h =
     let e = normal_value (times (pos 2) Right ∷ (times (negsuc 0) t ∷ [])) w in
-    let k = minus_one (pos (carried w t)) in
+    let k = minus_one (pos (values_for_all w t)) in
     omega (arith, sums, e, k, h)
 
 least_so : (t : Term) (w : Term → ℕ) → IsSoAt w (least_row t)
-least_so t w = let e = normal_value (times (pos 1) t ∷ []) w in let k = one_mul (pos (carried w t)) in omega (arith, sums, e, k)
+least_so t w = let e = normal_value (times (pos 1) t ∷ []) w in let k = one_mul (pos (values_for_all w t)) in omega (arith, sums, e, k)
 
 -- what a fact says is so, and what the negation of the wanted literal says
 module _ (facts : List Lit) (wanted : Option Lit) (w : Term → ℕ) (model : IsModel facts wanted w) where
@@ -131,9 +131,9 @@ module _ (facts : List Lit) (wanted : Option Lit) (w : Term → ℕ) (model : Is
   goal_so : (r : Row) → goal_row wanted ≡ Some r → IsSoAt w r
   goal_so r e = by wanted e model.wanted_fails
     where
-      by : (o : Option Lit) → goal_row o ≡ Some r → wanted_fails (carried w) o ≡ true → IsSoAt w r
+      by : (o : Option Lit) → goal_row o ≡ Some r → wanted_fails (values_for_all w) o ≡ true → IsSoAt w r
       by None k h = absurd (none-some r k)
-      by (Some l) k h = so_of_holds (negation l) r w k (negation_holds l (carried w) h)
+      by (Some l) k h = so_of_holds (negation l) r w k (negation_holds l (values_for_all w) h)
 
   differing_so : (name : RowName) (r : Row) → differing_of facts wanted name ≡ Some r → IsSoAt w r
   differing_so (Fact l) r e = fact_so l r e
@@ -226,10 +226,10 @@ pub sums_not_refuted : (facts : List Lit) (wanted : Option Lit) (w : Term → �
 sums_not_refuted facts wanted w model (One sum) h =
     not_refuted (record { facts = facts; wanted = wanted; above = None; below = None }) w model (none_so w) (none_so w) sum h
 sums_not_refuted facts wanted w model (Two differs first second) h =
-    let k = found (λ r. both_refute facts wanted r first second) (differing facts wanted differs) h in
+    let k = found (λ r. both_refute facts wanted r first second) (differing_row facts wanted differs) h in
     by k.0 k.1 k.2
   where
-    by : (r : Row) → differing facts wanted differs ≡ Some r → both_refute facts wanted r first second ≡ true → ⊥
+    by : (r : Row) → differing_row facts wanted differs ≡ Some r → both_refute facts wanted r first second ≡ true → ⊥
     by r e both = at (option_split (differing_of facts wanted differs))
       where
         at : (differing_of facts wanted differs ≡ None) ⊎ (x : Row) × (differing_of facts wanted differs ≡ Some x) → ⊥

@@ -15,7 +15,7 @@ use Rattle.e_literal.specs.Width.{is_among}
 use Rattle.e_literal.specs.Truth.{holds, all_hold}
 use Rattle.e_literal.specs.Facts.{are_apart}
 use Rattle.e_literal.specs.Rows.{Row, row_of_lit, has_term, first_terms}
-use Rattle.e_literal.specs.Solution.{Satisfy, carried}
+use Rattle.e_literal.specs.Solution.{Satisfy, values_for_all}
 use Rattle.e_literal.proofs.Terms.{among_either, among_left, among_right, among_first, among_rest}
 use Rattle.e_literal.proofs.Valued.{so_of_holds}
 use Rattle.e_literal.proofs.Booleans.{and_left, and_right}
@@ -43,17 +43,17 @@ satisfy-flat_map w f (t ∷ ts) h =
     satisfy-append w (f t) (flat_map f ts) (h t (among_first t ts)) (satisfy-flat_map w f ts (λ s a. h s (among_rest t ts s a)))
 
 -- the rows of true literals are so
-literals_so : (w : Term → ℕ) (which : Kind) (name : Lit → RowName) (ls : List Lit) → all_hold (carried w) ls ≡ true → SatisfyNamed w (rows_named name (of_kind which ls))
+literals_so : (w : Term → ℕ) (which : Kind) (name : Lit → RowName) (ls : List Lit) → all_hold (values_for_all w) ls ≡ true → SatisfyNamed w (rows_named name (of_kind which ls))
 literals_so w which name [] h = tt
 literals_so w which name (l ∷ ls) h =
-    by (is_of_kind which l) (row_of_lit l) refl (literals_so w which name ls (and_right (holds (carried w) l) (all_hold (carried w) ls) h))
+    by (is_of_kind which l) (row_of_lit l) refl (literals_so w which name ls (and_right (holds (values_for_all w) l) (all_hold (values_for_all w) ls) h))
   where
     rest : List Lit
     rest = of_kind which ls
 
     one : (o : Option Row) → row_of_lit l ≡ o → SatisfyNamed w (rows_named name rest) → SatisfyNamed w (cons_option (option_map (named_row (name l)) o) (rows_named name rest))
     one None e ih = ih
-    one (Some r) e ih = (so_of_holds l r w e (and_left (holds (carried w) l) (all_hold (carried w) ls) h), ih)
+    one (Some r) e ih = (so_of_holds l r w e (and_left (holds (values_for_all w) l) (all_hold (values_for_all w) ls) h), ih)
 
     by : (b : Bool) (o : Option Row) → row_of_lit l ≡ o → SatisfyNamed w (rows_named name rest) → SatisfyNamed w (rows_named name (cons_option (cond b (Some l) None) rest))
     by true o e ih = subst (λ p. SatisfyNamed w (cons_option (option_map (named_row (name l)) p) (rows_named name rest))) (sym e) (one o e ih)
@@ -125,12 +125,12 @@ module _ (facts : List Lit) (wanted : Option Lit) (w : Term → ℕ) (model : Is
   kind_so Angle = (pos_so Right w model.right, tt)
   kind_so AreaKind = tt
 
-  against_so : all_hold (carried w) (against_goal wanted) ≡ true
+  against_so : all_hold (values_for_all w) (against_goal wanted) ≡ true
   against_so = by wanted model.wanted_fails
     where
-      by : (o : Option Lit) → wanted_fails (carried w) o ≡ true → all_hold (carried w) (against_goal o) ≡ true
+      by : (o : Option Lit) → wanted_fails (values_for_all w) o ≡ true → all_hold (values_for_all w) (against_goal o) ≡ true
       by None h = refl
-      by (Some l) h = ap (λ b. b && true) (negation_holds l (carried w) h)
+      by (Some l) h = ap (λ b. b && true) (negation_holds l (values_for_all w) h)
 
   -- the values of a model satisfy the rows of each system
   pub system_so : (which : Kind) → SatisfyNamed w (system which facts wanted)

@@ -14,7 +14,7 @@ use Rattle.e_literal.specs.Width.{is_among}
 use Rattle.e_literal.specs.Truth.{value_of, metric_atom_holds, holds, all_hold}
 use Rattle.e_literal.specs.Facts.{are_apart}
 use Rattle.e_literal.specs.Rows.{is_degenerate}
-use Rattle.e_literal.specs.Solution.{carried}
+use Rattle.e_literal.specs.Solution.{values_for_all}
 use Rattle.e_literal.proofs.Terms.{term_eq_is, equal_terms, term_eq_turned, among_left, among_right, among_first, among_rest}
 use Rattle.e_literal.proofs.Valued.{IsMagEq, IsMagLt, IsDiagram, split}
 use Rattle.e_literal.proofs.Booleans.{and_left, and_right}
@@ -111,7 +111,7 @@ abbrev is_admissible_at : List Lit → List Term → (Term → ℕ) → Term →
 is_admissible_at facts ts v t = is_within v t && (is_zero_if_degenerate v t && (is_positive_if_apart facts v t && agrees_with v ts t))
 
 -- an admissible assignment is what its spread gives
-pub spread_agrees : (facts : List Lit) (ts : List Term) (v : Term → ℕ) → is_admissible_over facts ts v ≡ true → Agree ts v (carried (spread v ts))
+pub spread_agrees : (facts : List Lit) (ts : List Term) (v : Term → ℕ) → is_admissible_over facts ts v ≡ true → Agree ts v (values_for_all (spread v ts))
 spread_agrees facts ts v h t a =
     let good : is_admissible_at facts ts v t ≡ true = all_among (is_admissible_at facts ts v) ts t h a in
     let after_within = and_right (is_within v t) (is_zero_if_degenerate v t && (is_positive_if_apart facts v t && agrees_with v ts t)) good in
@@ -126,18 +126,18 @@ spread_agrees facts ts v h t a =
 
 -- the values, carried to all terms, make the facts true and the wanted literal false, and keep the bounds of the step's terms
 pub record IsModel (facts : List Lit) (wanted : Option Lit) (w : Term → ℕ) : Type 0 where
-  pub right : 1 ≤ carried w Right
-  pub within : (a b c : ℕ) → is_among (terms_of_step facts wanted) (Ang a b c) ≡ true → carried w (Ang a b c) ≤ 2 * carried w Right
-  pub apart : (a b : ℕ) → is_among (terms_of_step facts wanted) (Seg a b) ≡ true → are_apart facts a b ≡ true → 1 ≤ carried w (Seg a b)
-  pub facts_hold : all_hold (carried w) facts ≡ true
-  pub wanted_fails : wanted_fails (carried w) wanted ≡ true
+  pub right : 1 ≤ values_for_all w Right
+  pub within : (a b c : ℕ) → is_among (terms_of_step facts wanted) (Ang a b c) ≡ true → values_for_all w (Ang a b c) ≤ 2 * values_for_all w Right
+  pub apart : (a b : ℕ) → is_among (terms_of_step facts wanted) (Seg a b) ≡ true → are_apart facts a b ≡ true → 1 ≤ values_for_all w (Seg a b)
+  pub facts_hold : all_hold (values_for_all w) facts ≡ true
+  pub wanted_fails : wanted_fails (values_for_all w) wanted ≡ true
 
 -- a counterexample, spread, is a model
 pub model_of : (facts : List Lit) (wanted : Option Lit) (v : Term → ℕ) → IsCounterexample facts wanted v → IsModel facts wanted (spread v (terms_of_step facts wanted))
 model_of facts wanted v x =
     let ts = terms_of_step facts wanted in
     let w = spread v ts in
-    let agree : Agree ts v (carried w) = spread_agrees facts ts v x.is_admissible in
+    let agree : Agree ts v (values_for_all w) = spread_agrees facts ts v x.is_admissible in
     let good : (t : Term) → is_among ts t ≡ true → is_admissible_at facts ts v t ≡ true = λ t a. all_among (is_admissible_at facts ts v) ts t x.is_admissible a in
     let bound : (t : Term) → is_among ts t ≡ true → is_within v t ≡ true =
     λ t a. and_left (is_within v t) (is_zero_if_degenerate v t && (is_positive_if_apart facts v t && agrees_with v ts t)) (good t a) in
@@ -147,10 +147,10 @@ model_of facts wanted v x =
     let first : is_among ts Right ≡ true = among_first Right (terms_of_lits facts ++ terms_of_wanted wanted) in
     record {
       right = subst (λ n. 1 ≤ n) (agree Right first) (leb-true 1 (v Right) (bound Right first));
-      within = λ a b c k. subst (λ n. n ≤ 2 * carried w Right) (agree (Ang a b c) k)
+      within = λ a b c k. subst (λ n. n ≤ 2 * values_for_all w Right) (agree (Ang a b c) k)
           (subst (λ n. v (Ang a b c) ≤ 2 * n) (agree Right first) (leb-true (v (Ang a b c)) (2 * v Right) (bound (Ang a b c) k)));
       apart = λ a b k d. subst (λ n. 1 ≤ n) (agree (Seg a b) k)
           (leb-true 1 (v (Seg a b)) (sym (ap (λ c. cond c (nat_le 1 (v (Seg a b))) true) d) ∙ positive (Seg a b) k));
-      facts_hold = sym (all_hold_agrees facts v (carried w) (λ t a. agree t (among_facts facts wanted t a))) ∙ x.facts_hold;
-      wanted_fails = sym (fails_agrees wanted v (carried w) (λ t a. agree t (among_wanted facts wanted t a))) ∙ x.wanted_fails;
+      facts_hold = sym (all_hold_agrees facts v (values_for_all w) (λ t a. agree t (among_facts facts wanted t a))) ∙ x.facts_hold;
+      wanted_fails = sym (fails_agrees wanted v (values_for_all w) (λ t a. agree t (among_wanted facts wanted t a))) ∙ x.wanted_fails;
     }

@@ -8,7 +8,7 @@ use Rattle.e_literal.specs.declared.object.Term.{Term}
 use Rattle.e_literal.specs.declared.literal.Lit.{Lit}
 use Rattle.e_literal.specs.WellFormed.{is_well_formed}
 use Rattle.e_literal.specs.Facts.{has, is_metric}
-use Rattle.e_literal.specs.Solution.{Satisfy, HasSolution, carried}
+use Rattle.e_literal.specs.Solution.{Satisfy, HasSolution, values_for_all}
 use Rattle.e_clause.specs.declared.cert.Against.{Against}
 use Rattle.e_clause.specs.declared.cert.Cert.{Cert}
 use Rattle.e_clause.specs.declared.cert.MetricCert.{MetricCert}
@@ -74,7 +74,7 @@ SolutionsRefute =
     (facts : List Lit) (wanted : Option Lit) (values : Kind → Term → ℕ) →
     IsTrue (list_all is_well_formed facts) → IsTrue (is_well_formed_metric wanted) →
     ((which : Kind) → Satisfy (values which) (rows_of_system which facts wanted)) →
-    IsCounterexample facts wanted (carried (by_kind values))
+    IsCounterexample facts wanted (values_for_all (by_kind values))
 
 -- where there is a counterexample each metric system has a solution
 abbrev pub CounterexampleSolves : Type 0

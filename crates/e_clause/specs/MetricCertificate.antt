@@ -25,8 +25,8 @@ differing_of facts wanted Goal = goal_row wanted
 differing_of facts wanted (FactAt k) = row_at facts k
 differing_of facts wanted _ = None
 
-abbrev pub differing : List Lit → Option Lit → RowName → Option Row
-differing facts wanted name =
+abbrev pub differing_row : List Lit → Option Lit → RowName → Option Row
+differing_row facts wanted name =
     option_and_then (λ r. if says_differ r.sense then Some r else None)
     (differing_of facts wanted name)
 
@@ -55,7 +55,7 @@ sums_refute facts wanted (One sum) =
     refutes (record { facts = facts; wanted = wanted; above = None; below = None }) sum
 sums_refute facts wanted (Two differs first second) =
     option_map_or (λ r. both_refute facts wanted r first second)
-    (differing facts wanted differs) false
+    (differing_row facts wanted differs) false
 
 -- ---- the objects that a certificate names are in the scope before its step
 

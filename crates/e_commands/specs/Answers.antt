@@ -18,7 +18,7 @@ use Rattle.e_names.specs.declared.known.Known.{Known}
 use Rattle.e_names.specs.TitledStatements.{TitledStatement, stated_by}
 use Rattle.e_book.specs.TheoremViews.{TheoremView}
 use Rattle.e_book.specs.Grammar.{Rest}
-use Rattle.e_spell.specs.Spelling.{spelled, unlicensed_text, too_wide_text}
+use Rattle.e_spell.specs.Spelling.{spelling, unlicensed_text, too_wide_text}
 use Rattle.e_judgement.specs.declared.judgement.Judgement.TheVariants as judgements
 use Rattle.e_judgement.specs.Judged.{JudgesText, with_theorem}
 use Rattle.e_commands.specs.declared.status.Status.{Status}
@@ -67,14 +67,14 @@ steps_of (d ∷ ds) = steps_of ds + size d.theorem.script
 abbrev pub blocks_of : List TitledStatement → List Derived → List ℕ
 blocks_of known [] = []
 blocks_of known (d ∷ ds) =
-    spelled known d.theorem d.derivation ++ blocks_of (with_theorem known d.theorem) ds
+    spelling known d.theorem d.derivation ++ blocks_of (with_theorem known d.theorem) ds
 
 -- with this known, these bytes are the block of a derivation of the theorem
 pub record HasBlock (known : List TitledStatement) (theorem : TheoremView)
     (bytes : List ℕ) : Type 0 where
   pub derivation : Script
   pub sound : IsDerived known (record { theorem = theorem; derivation = derivation })
-  pub spells : bytes ≡ spelled known theorem derivation
+  pub spells : bytes ≡ spelling known theorem derivation
 
 -- the head line, the blocks, and the last lines
 abbrev pub written_with : List Derived → List ℕ → List ℕ

@@ -8,9 +8,9 @@ use Rattle.e_theorem.specs.Statements.{stated}
 use Rattle.e_names.specs.TitledStatements.{TitledStatement, stated_by, title_at}
 use Rattle.e_book.specs.TheoremViews.{TheoremView}
 use Rattle.e_book.specs.Grammar.{Rest}
-use Rattle.e_spell.specs.Spelling.{spelled}
+use Rattle.e_spell.specs.Spelling.{spelling}
 use Rattle.e_places.specs.Numbered.{derivation_with_places}
-use Rattle.e_trim.specs.Trimmed.{trimmed}
+use Rattle.e_trim.specs.Trimmed.{trimmed_script}
 use Rattle.e_trim.specs.Applied.{applied_by}
 use Rattle.e_judgement.specs.declared.judgement.Judgement.{Judgement}
 use Rattle.e_judgement.specs.declared.judgement.Judgement.TheVariants as judgements
@@ -30,11 +30,11 @@ use Rattle.e_roundtrip.specs.Written.{accepted_blocks_line, version_line}
 -- its block, where the derivation cites facts by their places
 abbrev pub upgraded_block : List TitledStatement → TheoremView → List ℕ
 upgraded_block known t =
-    spelled known t (derivation_with_places (stated_by known) (stated t.statement) t.script)
+    spelling known t (derivation_with_places (stated_by known) (stated t.statement) t.script)
 
 -- its block, where the derivation has no step that nothing needs
 abbrev pub trimmed_block : List TitledStatement → TheoremView → List ℕ
-trimmed_block known t = spelled known t (trimmed (stated_by known) (stated t.statement) t.script)
+trimmed_block known t = spelling known t (trimmed_script (stated_by known) (stated t.statement) t.script)
 
 -- its line: its title, and those of the theorems that its derivation applies, each after a space
 abbrev pub title_word : List TitledStatement → ℕ → List ℕ

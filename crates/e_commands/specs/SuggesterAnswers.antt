@@ -5,7 +5,7 @@ use Rattle.std.specs.Prelude.{true, ◌&&◌, ◌||◌, ◌==◌, IsTrue, IsFals
 use Rattle.std.specs.Prelude.{Some, None, Ok, Err, codes, slice_get}
 use Rattle.std.specs.List.{list_all}
 use Rattle.std.specs.Str.{bytes_eq}
-use Rattle.e_text.specs.Tokens.{spaced}
+use Rattle.e_text.specs.Tokens.{with_spaces}
 use Rattle.e_literal.specs.declared.object.Obj.{Obj}
 use Rattle.e_literal.specs.declared.object.Scope.{Scope}
 use Rattle.e_literal.specs.declared.literal.Lit.{Lit}
@@ -98,7 +98,7 @@ IsWayOf lines title step (Faulty fault) =
 
 -- a line that applies a theorem
 abbrev pub apply_line : List ℕ → Names → List Obj → List ℕ
-apply_line title names args = codes "apply" ++ spaced (title ∷ map (name_of_object names) args)
+apply_line title names args = codes "apply" ++ with_spaces (title ∷ map (name_of_object names) args)
 
 -- a theorem at this place among those that are known, with arguments
 pub record Application : Type 0 where

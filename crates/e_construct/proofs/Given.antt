@@ -14,14 +14,14 @@ use Rattle.e_literal.specs.declared.object.Obj.{Obj}
 use Rattle.e_literal.specs.declared.object.Scope.{Scope}
 use Rattle.e_literal.specs.declared.literal.Lit.{Lit}
 use Rattle.e_literal.specs.Literal.{obj, count_of, is_in_scope, objects_of_atom, all_in_scope}
-use Rattle.e_literal.specs.Scopes.{same_sort, with_one, grown, next_objects, are_of_sorts}
+use Rattle.e_literal.specs.Scopes.{same_sort, with_one, with_sorts, next_objects, are_of_sorts}
 use Rattle.e_literal.specs.declared.map.Entry.{Entry}
 use Rattle.e_literal.specs.Rename.{with_images, same_obj, image_in, pairs_of}
 use Rattle.e_construct.specs.declared.construction.Shape.{Shape}
 use Rattle.e_construct.specs.declared.construction.Shape.TheVariants.{Free}
 use Rattle.e_construct.specs.declared.construction.Construction.{Construction}
 use Rattle.e_construct.specs.Shapes.{ShapeRow, Avoids, NoObject, AnyObject, AnyApartFrom, shape_row}
-use Rattle.e_construct.specs.Construct.{row_of_construction, sorts_of, avoids_well, fits_construction, equation, inequality, argument, of_sort, needs_of_avoided, needs_of_construction, sorts_made, meeting, avoidance, gives_of_avoided, gives_of_construction}
+use Rattle.e_construct.specs.Construct.{row_of_construction, sorts_of, avoids_well, fits_construction, equation, inequality, argument, of_sort, needs_of_avoided, needs_of_construction, sorts_made, incidence_atom, avoidance, gives_of_avoided, gives_of_construction}
 use Rattle.e_construct.specs.declared.superpose.Superpose.{Superpose}
 use Rattle.e_construct.specs.Superposing as superposing
 use Rattle.e_literal.specs.WellFormed.{is_well_formed_atom, is_well_formed}
@@ -131,7 +131,7 @@ fine_equation s Point m n h k = rw (h, k) refl
 fine_equation s Line m n h k = rw (h, k) refl
 fine_equation s Circle m n h k = rw (h, k) refl
 
-fine_meeting : (s : Scope) (sort : Sort) (m n : ℕ) → ltb m s.points ≡ true → ltb n (count_of s sort) ≡ true → (list_all (is_in_scope s) (objects_of_atom (meeting sort m n)) && is_plain (record { neg = true; atom = meeting sort m n })) ≡ true
+fine_meeting : (s : Scope) (sort : Sort) (m n : ℕ) → ltb m s.points ≡ true → ltb n (count_of s sort) ≡ true → (list_all (is_in_scope s) (objects_of_atom (incidence_atom sort m n)) && is_plain (record { neg = true; atom = incidence_atom sort m n })) ≡ true
 fine_meeting s Point m n h k = rw (h, k) refl
 fine_meeting s Line m n h k = rw (h, k) refl
 fine_meeting s Circle m n h k = rw (h, k) refl
@@ -175,7 +175,7 @@ fine_avoidance t p (y ∷ os) e h k =
 
 -- ---- new objects
 
-new_of_sorts : (s t : Scope) (sorts : List Sort) → Within (grown s sorts) t → are_of_sorts t sorts (next_objects s sorts) ≡ true
+new_of_sorts : (s t : Scope) (sorts : List Sort) → Within (with_sorts s sorts) t → are_of_sorts t sorts (next_objects s sorts) ≡ true
 new_of_sorts s t [] w = refl
 new_of_sorts s t (x ∷ sorts) w =
     let here : count_of s x < count_of t x = omega (arith, count_one s x, grows (with_one s x) sorts x, w x) in
@@ -215,11 +215,11 @@ fine_needs form s h =
     list_all-append (is_fine s) (map (with_images (image_in es)) r.needs) (needs_of_avoided r.avoids (argument r form.args) form.avoid)
     ∙ rw (first, fine_needs_avoided s r r.avoids form.args form.avoid p.0 g.avoids p.1) refl
 
-pub fine_gives : (form : Construction) (s : Scope) → fits_construction form s ≡ true → list_all (is_fine (grown s (sorts_made form))) (gives_of_construction form s) ≡ true
+pub fine_gives : (form : Construction) (s : Scope) → fits_construction form s ≡ true → list_all (is_fine (with_sorts s (sorts_made form))) (gives_of_construction form s) ≡ true
 fine_gives form s h =
     let r = row_of_construction form in
     let g = good_row form.shape in
-    let t = grown s (sorts_made form) in
+    let t = with_sorts s (sorts_made form) in
     let w : Within s t = grows s (sorts_made form) in
     let p = and_parts (are_of_sorts s (sorts_of r.args) form.args) (avoids_well s r.avoids form.avoid) h in
     let args = of_sorts_more s t w (sorts_of r.args) form.args p.0 in
@@ -238,14 +238,14 @@ needs_in_scope form s h = every (is_fine s) (all_in_scope s) (λ l k. (and_parts
 pub needs_plain : (form : Construction) (s : Scope) → fits_construction form s ≡ true → list_all is_plain (needs_of_construction form) ≡ true
 needs_plain form s h = every (is_fine s) is_plain (λ l k. (and_parts (all_in_scope s l) (is_plain l) k).1) (needs_of_construction form) (fine_needs form s h)
 
-pub gives_in_scope : (form : Construction) (s : Scope) → fits_construction form s ≡ true → list_all (all_in_scope (grown s (sorts_made form))) (gives_of_construction form s) ≡ true
+pub gives_in_scope : (form : Construction) (s : Scope) → fits_construction form s ≡ true → list_all (all_in_scope (with_sorts s (sorts_made form))) (gives_of_construction form s) ≡ true
 gives_in_scope form s h =
-    let t = grown s (sorts_made form) in
+    let t = with_sorts s (sorts_made form) in
     every (is_fine t) (all_in_scope t) (λ l k. (and_parts (all_in_scope t l) (is_plain l) k).0) (gives_of_construction form s) (fine_gives form s h)
 
 pub gives_plain : (form : Construction) (s : Scope) → fits_construction form s ≡ true → list_all is_plain (gives_of_construction form s) ≡ true
 gives_plain form s h =
-    let t = grown s (sorts_made form) in
+    let t = with_sorts s (sorts_made form) in
     every (is_fine t) is_plain (λ l k. (and_parts (all_in_scope t l) (is_plain l) k).1) (gives_of_construction form s) (fine_gives form s h)
 
 -- ---- well formed
@@ -265,9 +265,9 @@ fine_is_well_formed s l h = let p = and_parts (all_in_scope s l) (is_plain l) h 
 pub needs_good : (form : Construction) (s : Scope) → fits_construction form s ≡ true → list_all (is_well_formed_in s) (needs_of_construction form) ≡ true
 needs_good form s h = every (is_fine s) (is_well_formed_in s) (fine_is_well_formed s) (needs_of_construction form) (fine_needs form s h)
 
-pub gives_good : (form : Construction) (s : Scope) → fits_construction form s ≡ true → list_all (is_well_formed_in (grown s (sorts_made form))) (gives_of_construction form s) ≡ true
+pub gives_good : (form : Construction) (s : Scope) → fits_construction form s ≡ true → list_all (is_well_formed_in (with_sorts s (sorts_made form))) (gives_of_construction form s) ≡ true
 gives_good form s h =
-    let t = grown s (sorts_made form) in
+    let t = with_sorts s (sorts_made form) in
     every (is_fine t) (is_well_formed_in t) (fine_is_well_formed t) (gives_of_construction form s) (fine_gives form s h)
 
 -- ---- a superposition
@@ -287,11 +287,11 @@ superposition_needs x s h =
     let os = superposing.objects_of x in
     fine_renamed s (pairs_of superposing.superposed_args os) superposing.superposed_args [] (λ o i. lands_paired s superposing.superposed_args os o h i) superposing.superposed_needs refl refl
 
-pub superposition_gives : (x : Superpose) (s : Scope) → superposing.fits_superposition x s ≡ true → list_all (is_well_formed_in (grown s superposing.sorts_copied)) (superposing.gives_of_superposition x s) ≡ true
+pub superposition_gives : (x : Superpose) (s : Scope) → superposing.fits_superposition x s ≡ true → list_all (is_well_formed_in (with_sorts s superposing.sorts_copied)) (superposing.gives_of_superposition x s) ≡ true
 superposition_gives x s h =
     let ls = superposing.superposed_args in
     let os = superposing.objects_of x in
-    let t = grown s superposing.sorts_copied in
+    let t = with_sorts s superposing.sorts_copied in
     let w : Within s t = grows s superposing.sorts_copied in
     let new = next_objects s superposing.sorts_copied in
     let made_are : are_of_sorts t superposing.sorts_copied new ≡ true = new_of_sorts s t superposing.sorts_copied (λ sort. omega arith) in

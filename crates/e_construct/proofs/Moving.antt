@@ -11,7 +11,7 @@ use Rattle.e_literal.specs.declared.literal.Atom.TheVariants as atoms
 use Rattle.e_literal.specs.declared.literal.Lit.{Lit}
 use Rattle.e_literal.specs.Literal.{count_of, is_in_scope, objects_of_atom, all_in_scope}
 use Rattle.e_literal.specs.Facts.{is_metric}
-use Rattle.e_literal.specs.Scopes.{same_sort, with_one, grown, are_of_sorts}
+use Rattle.e_literal.specs.Scopes.{same_sort, with_one, with_sorts, are_of_sorts}
 use Rattle.e_literal.specs.Rename.{atom_at, number_at, with_images}
 use Rattle.e_literal.proofs.WithImages.{is_moved_in, renamed_scope}
 
@@ -57,7 +57,7 @@ of_sorts_more s t w (x ∷ sorts) (o ∷ os) h =
     let q = and_parts (is_in_scope s o) (are_of_sorts s sorts os) p.1 in
     rw (p.0, in_more s t w o q.0, of_sorts_more s t w sorts os q.1) refl
 
-pub grows : (s : Scope) (sorts : List Sort) → Within s (grown s sorts)
+pub grows : (s : Scope) (sorts : List Sort) → Within s (with_sorts s sorts)
 grows s [] sort = omega arith
 grows s (x ∷ sorts) sort = let a = grows (with_one s x) sorts sort in let b = one s x sort in omega (arith, a, b)
   where

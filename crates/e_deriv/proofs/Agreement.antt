@@ -8,7 +8,7 @@ use Rattle.e_literal.specs.declared.object.Obj.{Obj}
 use Rattle.e_literal.specs.declared.object.Scope.{Scope}
 use Rattle.e_literal.specs.Literal.{negation}
 use Rattle.e_literal.specs.Facts.{with_fact, with_facts}
-use Rattle.e_literal.specs.Scopes.{grown}
+use Rattle.e_literal.specs.Scopes.{with_sorts}
 use Rattle.e_literal.specs.Use.{StatementView, are_arguments, needs_of_use, gives_of_use, scope_of}
 use Rattle.e_literal.proofs.Booleans.{and_left, and_right, all_left, all_right}
 use Rattle.e_clause.specs.Allowed.{AllAllowed}
@@ -79,14 +79,14 @@ proves_of_certified before (Hence lit (Some cert) rest) s facts goal h =
 proves_of_certified before (Make construction names certs rest) s facts goal h =
     let x = placed_step (Make construction names certs rest) (Make construction names certs rest) s facts goal in
     let after = with_facts facts (gives_of_construction construction s) in
-    let q = parts_of before x (placed_steps before rest rest (grown s (sorts_made construction)) after goal) h in
-    (q.form, all_allowed_of_certified s facts (needs before x) certs q.certs, proves_of_certified before rest (grown s (sorts_made construction)) after goal q.rest)
+    let q = parts_of before x (placed_steps before rest rest (with_sorts s (sorts_made construction)) after goal) h in
+    (q.form, all_allowed_of_certified s facts (needs before x) certs q.certs, proves_of_certified before rest (with_sorts s (sorts_made construction)) after goal q.rest)
 proves_of_certified before (Apply theorem args names certs rest) s facts goal h =
     let x = placed_step (Apply theorem args names certs rest) (Apply theorem args names certs rest) s facts goal in
     let t = theorem_at before theorem in
     let after = with_facts facts (gives_of_use t (written args) s) in
-    let q = parts_of before x (placed_steps before rest rest (grown s t.made) after goal) h in
-    (q.others, q.form, all_allowed_of_certified s facts (needs before x) certs q.certs, proves_of_certified before rest (grown s t.made) after goal q.rest)
+    let q = parts_of before x (placed_steps before rest rest (with_sorts s t.made) after goal) h in
+    (q.others, q.form, all_allowed_of_certified s facts (needs before x) certs q.certs, proves_of_certified before rest (with_sorts s t.made) after goal q.rest)
 proves_of_certified before (Claim shown inner rest) s facts goal h =
     let x = placed_step (Claim shown inner rest) (Claim shown inner rest) s facts goal in
     let one = placed_steps before inner inner s facts (goal_of shown) in
@@ -98,7 +98,7 @@ proves_of_certified before (Claim shown inner rest) s facts goal h =
     )
 proves_of_certified before (Superposed superposition names shown certs inner rest) s facts goal h =
     let x = placed_step (Superposed superposition names shown certs inner rest) (Superposed superposition names shown certs inner rest) s facts goal in
-    let g = grown s superposing.sorts_copied in
+    let g = with_sorts s superposing.sorts_copied in
     let given = with_facts facts (superposing.gives_of_superposition superposition s) in
     let one = placed_steps before inner inner g given (goal_of shown) in
     let other = placed_steps before rest rest s (with_facts facts shown) goal in
@@ -144,7 +144,7 @@ unfolding placed_steps Proves filled_by
 proves_of_licensed before (Cite by rest) f s facts goal h = (h.0.fits, h.0.others, proves_of_licensed before rest (rest_of f) s (with_fact facts by.lit) goal h.1)
 proves_of_licensed before (Hence lit cert rest) f s facts goal h = (h.0.fits, h.0.allowed.0, proves_of_licensed before rest (rest_of f) s (with_fact facts lit) goal h.1)
 proves_of_licensed before (Make construction names certs rest) f s facts goal h =
-    (h.0.fits, h.0.allowed, proves_of_licensed before rest (rest_of f) (grown s (sorts_made construction)) (with_facts facts (gives_of_construction construction s)) goal h.1)
+    (h.0.fits, h.0.allowed, proves_of_licensed before rest (rest_of f) (with_sorts s (sorts_made construction)) (with_facts facts (gives_of_construction construction s)) goal h.1)
 proves_of_licensed before (Apply theorem pattern names certs rest) f s facts goal h =
     let t = theorem_at before theorem in
     let args = args_of f in
@@ -152,8 +152,8 @@ proves_of_licensed before (Apply theorem pattern names certs rest) f s facts goa
       no_blank_again args,
       subst (λ xs. is_applied before theorem s (filled_in args) xs ≡ true) again (applied_again before theorem s pattern args h.0.fits),
       subst (λ xs. AllAllowed s facts (needs_of_use t xs s)) again h.0.allowed,
-      subst (λ xs. Proves before (grown s t.made) (with_facts facts (gives_of_use t xs s)) goal (filled_by rest (rest_of f))) again
-          (proves_of_licensed before rest (rest_of f) (grown s t.made) (with_facts facts (gives_of_use t args s)) goal h.1),
+      subst (λ xs. Proves before (with_sorts s t.made) (with_facts facts (gives_of_use t xs s)) goal (filled_by rest (rest_of f))) again
+          (proves_of_licensed before rest (rest_of f) (with_sorts s t.made) (with_facts facts (gives_of_use t args s)) goal h.1),
     )
 proves_of_licensed before (Claim shown inner rest) f s facts goal h =
     let one = placed_steps before inner (inner_of f) s facts (goal_of shown) in
@@ -163,7 +163,7 @@ proves_of_licensed before (Claim shown inner rest) f s facts goal h =
       proves_of_licensed before rest (rest_of f) s (with_facts facts shown) goal (second_licensed before one other h.1),
     )
 proves_of_licensed before (Superposed superposition names shown certs inner rest) f s facts goal h =
-    let g = grown s superposing.sorts_copied in
+    let g = with_sorts s superposing.sorts_copied in
     let given = with_facts facts (superposing.gives_of_superposition superposition s) in
     let one = placed_steps before inner (inner_of f) g given (goal_of shown) in
     let other = placed_steps before rest (rest_of f) s (with_facts facts shown) goal in (
@@ -190,12 +190,12 @@ unfolding placed_steps Proves
 licensed_of_proves before (Cite by rest) s facts goal h = (record { fits = h.0; allowed = tt; others = h.1 }, licensed_of_proves before rest s (with_fact facts by.lit) goal h.2)
 licensed_of_proves before (Hence lit cert rest) s facts goal h = (record { fits = h.0; allowed = (h.1, tt); others = tt }, licensed_of_proves before rest s (with_fact facts lit) goal h.2)
 licensed_of_proves before (Make construction names certs rest) s facts goal h =
-    (record { fits = h.0; allowed = h.1; others = tt }, licensed_of_proves before rest (grown s (sorts_made construction)) (with_facts facts (gives_of_construction construction s)) goal h.2)
+    (record { fits = h.0; allowed = h.1; others = tt }, licensed_of_proves before rest (with_sorts s (sorts_made construction)) (with_facts facts (gives_of_construction construction s)) goal h.2)
 licensed_of_proves before (Apply theorem args names certs rest) s facts goal h =
     let t = theorem_at before theorem in
     let good : IsAllowedChoice t s facts args (written args) = record { is_choice = and_right (ltb theorem (length before)) (is_choice t s args (written args)) h.1; allowed = h.2 } in (
       record { fits = h.1; allowed = h.2; others = least_of_good t s facts args (written args) h.0 good },
-      licensed_of_proves before rest (grown s t.made) (with_facts facts (gives_of_use t (written args) s)) goal h.3,
+      licensed_of_proves before rest (with_sorts s t.made) (with_facts facts (gives_of_use t (written args) s)) goal h.3,
     )
 licensed_of_proves before (Claim shown inner rest) s facts goal h =
     let one = placed_steps before inner inner s facts (goal_of shown) in
@@ -204,7 +204,7 @@ licensed_of_proves before (Claim shown inner rest) s facts goal h =
       both_licensed before one other (licensed_of_proves before inner s facts (goal_of shown) h.1) (licensed_of_proves before rest s (with_facts facts shown) goal h.2),
     )
 licensed_of_proves before (Superposed superposition names shown certs inner rest) s facts goal h =
-    let g = grown s superposing.sorts_copied in
+    let g = with_sorts s superposing.sorts_copied in
     let given = with_facts facts (superposing.gives_of_superposition superposition s) in
     let one = placed_steps before inner inner g given (goal_of shown) in
     let other = placed_steps before rest rest s (with_facts facts shown) goal in (

@@ -18,7 +18,7 @@ use Rattle.e_clause.specs.Counterexample.{ListsCounterexample}
 use Rattle.e_clause.specs.Rows.{between, on}
 use Rattle.e_construct.specs.declared.construction.Construction.{Construction}
 use Rattle.e_construct.specs.declared.construction.Shape.TheVariants.{LineThrough, Within}
-use Rattle.e_construct.specs.Shapes.{shape_row, apart}
+use Rattle.e_construct.specs.Shapes.{shape_row, neq}
 use Rattle.e_clause.specs.Table.{table}
 use Rattle.e_clause.specs.Table.Incidence.{incidence}
 use Rattle.e_clause.specs.Instance.{Inst}
@@ -83,7 +83,7 @@ one_less_stops =
 -- ---- of two points that differ: there is a point between them
 
 abbrev apart_points : List Lit
-apart_points = apart (point 0) (point 1) ∷ []
+apart_points = neq (point 0) (point 1) ∷ []
 
 abbrev halfway : List Lit → StatementView
 halfway given = record { declared = Point ∷ Point ∷ []; given = given; made = Point ∷ []; shown = between 0 2 1 ∷ [] }
@@ -184,11 +184,11 @@ with_point shown rest =
     Claim shown (Make within ((101 ∷ []) ∷ []) (Plain Fact ∷ Plain Fact ∷ Plain Fact ∷ []) (Qed [] (Plain Fact ∷ []))) rest
 
 abbrev two_on_line : List Lit
-two_on_line = apart (point 0) (point 1) ∷ []
+two_on_line = neq (point 0) (point 1) ∷ []
 
 abbrev on_one_line : StatementView
 on_one_line =
-    record { declared = Point ∷ Point ∷ Line ∷ []; given = apart (point 0) (point 1) ∷ on 0 0 ∷ on 1 0 ∷ []; made = []; shown = two_on_line }
+    record { declared = Point ∷ Point ∷ Line ∷ []; given = neq (point 0) (point 1) ∷ on 0 0 ∷ on 1 0 ∷ []; made = []; shown = two_on_line }
 
 claim_certified : Certified [] on_one_line (with_point two_on_line (Qed [] (Plain Fact ∷ [])))
 unfolding placed_steps with_fact shape_row

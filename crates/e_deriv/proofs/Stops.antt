@@ -9,7 +9,7 @@ use Rattle.e_literal.specs.declared.object.Obj.{Obj}
 use Rattle.e_literal.specs.declared.object.Scope.{Scope}
 use Rattle.e_literal.specs.Literal.{negation}
 use Rattle.e_literal.specs.Facts.{with_fact, with_facts}
-use Rattle.e_literal.specs.Scopes.{grown}
+use Rattle.e_literal.specs.Scopes.{with_sorts}
 use Rattle.e_literal.specs.Use.{StatementView, are_arguments, needs_of_use, gives_of_use, scope_of}
 use Rattle.e_literal.proofs.Booleans.{and_left, and_right}
 use Rattle.e_clause.specs.Allowed.{Allowed, AllAllowed}
@@ -178,9 +178,9 @@ unfolding placed_steps size
 lines_length before (Cite by rest) f s facts goal = let h = lines_length before rest (rest_of f) s (with_fact facts by.lit) goal in omega (arith, h)
 lines_length before (Hence lit cert rest) f s facts goal = let h = lines_length before rest (rest_of f) s (with_fact facts lit) goal in omega (arith, h)
 lines_length before (Make construction names certs rest) f s facts goal =
-    let h = lines_length before rest (rest_of f) (grown s (sorts_made construction)) (with_facts facts (gives_of_construction construction s)) goal in omega (arith, h)
+    let h = lines_length before rest (rest_of f) (with_sorts s (sorts_made construction)) (with_facts facts (gives_of_construction construction s)) goal in omega (arith, h)
 lines_length before (Apply theorem args names certs rest) f s facts goal =
-    let h = lines_length before rest (rest_of f) (grown s (theorem_at before theorem).made) (with_facts facts (gives_of_use (theorem_at before theorem) (args_of f) s)) goal in omega (arith, h)
+    let h = lines_length before rest (rest_of f) (with_sorts s (theorem_at before theorem).made) (with_facts facts (gives_of_use (theorem_at before theorem) (args_of f) s)) goal in omega (arith, h)
 lines_length before (Claim shown inner rest) f s facts goal =
     let one = placed_steps before inner (inner_of f) s facts (goal_of shown) in
     let other = placed_steps before rest (rest_of f) s (with_facts facts shown) goal in
@@ -188,9 +188,9 @@ lines_length before (Claim shown inner rest) f s facts goal =
     let k = lines_length before rest (rest_of f) s (with_facts facts shown) goal in
     omega (arith, h, k, length-append one other)
 lines_length before (Superposed superposition names shown certs inner rest) f s facts goal =
-    let one = placed_steps before inner (inner_of f) (grown s superposing.sorts_copied) (with_facts facts (superposing.gives_of_superposition superposition s)) (goal_of shown) in
+    let one = placed_steps before inner (inner_of f) (with_sorts s superposing.sorts_copied) (with_facts facts (superposing.gives_of_superposition superposition s)) (goal_of shown) in
     let other = placed_steps before rest (rest_of f) s (with_facts facts shown) goal in
-    let h = lines_length before inner (inner_of f) (grown s superposing.sorts_copied) (with_facts facts (superposing.gives_of_superposition superposition s)) (goal_of shown) in
+    let h = lines_length before inner (inner_of f) (with_sorts s superposing.sorts_copied) (with_facts facts (superposing.gives_of_superposition superposition s)) (goal_of shown) in
     let k = lines_length before rest (rest_of f) s (with_facts facts shown) goal in
     omega (arith, h, k, length-append one other)
 lines_length before (Qed objects certs) f s facts goal = refl
@@ -226,19 +226,19 @@ same_context before (Hence lit cert rest) f f' s facts goal (suc p) x y h k =
     same_context before rest (rest_of f) (rest_of f') s (with_fact facts lit) goal p x y (stands_after before _ _ p x h) (stands_after before _ _ p y k)
 same_context before (Make construction names certs rest) f f' s facts goal zero x y h k =
     let after = with_facts facts (gives_of_construction construction s) in
-    first_place before _ _ (placed_steps before rest (rest_of f) (grown s (sorts_made construction)) after goal) (placed_steps before rest (rest_of f') (grown s (sorts_made construction)) after goal) x y (alike (Make construction names certs rest) f f' s facts goal) h k
+    first_place before _ _ (placed_steps before rest (rest_of f) (with_sorts s (sorts_made construction)) after goal) (placed_steps before rest (rest_of f') (with_sorts s (sorts_made construction)) after goal) x y (alike (Make construction names certs rest) f f' s facts goal) h k
 same_context before (Make construction names certs rest) f f' s facts goal (suc p) x y h k =
-    same_context before rest (rest_of f) (rest_of f') (grown s (sorts_made construction)) (with_facts facts (gives_of_construction construction s)) goal p x y (stands_after before _ _ p x h) (stands_after before _ _ p y k)
+    same_context before rest (rest_of f) (rest_of f') (with_sorts s (sorts_made construction)) (with_facts facts (gives_of_construction construction s)) goal p x y (stands_after before _ _ p x h) (stands_after before _ _ p y k)
 same_context before (Apply theorem pattern names certs rest) f f' s facts goal zero x y h k =
     let t = theorem_at before theorem in
-    first_place before _ _ (placed_steps before rest (rest_of f) (grown s t.made) (with_facts facts (gives_of_use t (args_of f) s)) goal)
-    (placed_steps before rest (rest_of f') (grown s t.made) (with_facts facts (gives_of_use t (args_of f') s)) goal) x y (alike (Apply theorem pattern names certs rest) f f' s facts goal) h k
+    first_place before _ _ (placed_steps before rest (rest_of f) (with_sorts s t.made) (with_facts facts (gives_of_use t (args_of f) s)) goal)
+    (placed_steps before rest (rest_of f') (with_sorts s t.made) (with_facts facts (gives_of_use t (args_of f') s)) goal) x y (alike (Apply theorem pattern names certs rest) f f' s facts goal) h k
 same_context before (Apply theorem pattern names certs rest) f f' s facts goal (suc p) x y h k =
     let t = theorem_at before theorem in
     let e : args_of f' ≡ args_of f = least_is_one t s facts pattern (args_of f') (args_of f) k.earlier.0.others h.earlier.0.others in
-    let below = stands_after before _ (placed_steps before rest (rest_of f') (grown s t.made) (with_facts facts (gives_of_use t (args_of f') s)) goal) p y k in
-    same_context before rest (rest_of f) (rest_of f') (grown s t.made) (with_facts facts (gives_of_use t (args_of f) s)) goal p x y (stands_after before _ _ p x h)
-    (subst (λ xs. Stands before (placed_steps before rest (rest_of f') (grown s t.made) (with_facts facts (gives_of_use t xs s)) goal) p y) e below)
+    let below = stands_after before _ (placed_steps before rest (rest_of f') (with_sorts s t.made) (with_facts facts (gives_of_use t (args_of f') s)) goal) p y k in
+    same_context before rest (rest_of f) (rest_of f') (with_sorts s t.made) (with_facts facts (gives_of_use t (args_of f) s)) goal p x y (stands_after before _ _ p x h)
+    (subst (λ xs. Stands before (placed_steps before rest (rest_of f') (with_sorts s t.made) (with_facts facts (gives_of_use t xs s)) goal) p y) e below)
 same_context before (Claim shown inner rest) f f' s facts goal zero x y h k =
     first_place before _ _ (placed_steps before inner (inner_of f) s facts (goal_of shown) ++ placed_steps before rest (rest_of f) s (with_facts facts shown) goal)
     (placed_steps before inner (inner_of f') s facts (goal_of shown) ++ placed_steps before rest (rest_of f') s (with_facts facts shown) goal) x y (alike (Claim shown inner rest) f f' s facts goal) h k
@@ -252,12 +252,12 @@ same_context before (Claim shown inner rest) f f' s facts goal (suc p) x y h k =
       | inr r ↦ same_context before rest (rest_of f) (rest_of f') s (with_facts facts shown) goal r.place x y r.one r.other
     ]
 same_context before (Superposed superposition names shown certs inner rest) f f' s facts goal zero x y h k =
-    let g = grown s superposing.sorts_copied in
+    let g = with_sorts s superposing.sorts_copied in
     let given = with_facts facts (superposing.gives_of_superposition superposition s) in
     first_place before _ _ (placed_steps before inner (inner_of f) g given (goal_of shown) ++ placed_steps before rest (rest_of f) s (with_facts facts shown) goal)
     (placed_steps before inner (inner_of f') g given (goal_of shown) ++ placed_steps before rest (rest_of f') s (with_facts facts shown) goal) x y (alike (Superposed superposition names shown certs inner rest) f f' s facts goal) h k
 same_context before (Superposed superposition names shown certs inner rest) f f' s facts goal (suc p) x y h k =
-    let g = grown s superposing.sorts_copied in
+    let g = with_sorts s superposing.sorts_copied in
     let given = with_facts facts (superposing.gives_of_superposition superposition s) in
     let one = placed_steps before inner (inner_of f) g given (goal_of shown) in
     let one' = placed_steps before inner (inner_of f') g given (goal_of shown) in

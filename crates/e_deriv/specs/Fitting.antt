@@ -2,7 +2,7 @@
 use Rattle.std.specs.Prelude.{ℕ, ◌≤◌, List, [], ◌∷◌, length, Bool, ◌&&◌, nat_lt, nat_le, IsTrue}
 use Rattle.std.specs.List.{list_all}
 use Rattle.e_literal.specs.declared.object.Scope.{Scope}
-use Rattle.e_literal.specs.Scopes.{grown}
+use Rattle.e_literal.specs.Scopes.{with_sorts}
 use Rattle.e_literal.specs.Use.{StatementView, scope_of, is_statement}
 use Rattle.e_clause.specs.LimitedFacts.{are_well_formed_in, are_limited_facts}
 use Rattle.e_theorem.specs.Pattern.{is_pattern}
@@ -12,7 +12,7 @@ use Rattle.e_deriv.specs.Steps.{fits, needs}
 
 -- the declared and the made objects of a statement
 abbrev pub all_objects : StatementView → Scope
-all_objects t = grown (scope_of t) t.made
+all_objects t = with_sorts (scope_of t) t.made
 
 -- at most 1,000 objects of each sort
 abbrev pub is_small : Scope → Bool

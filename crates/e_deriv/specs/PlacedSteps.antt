@@ -6,7 +6,7 @@ use Rattle.e_literal.specs.declared.object.Scope.{Scope}
 use Rattle.e_literal.specs.declared.literal.Lit.{Lit}
 use Rattle.e_literal.specs.Literal.{negation}
 use Rattle.e_literal.specs.Facts.{with_fact, with_facts}
-use Rattle.e_literal.specs.Scopes.{grown}
+use Rattle.e_literal.specs.Scopes.{with_sorts}
 use Rattle.e_literal.specs.Use.{StatementView, gives_of_use, scope_of}
 use Rattle.e_construct.specs.Construct.{sorts_made, gives_of_construction}
 use Rattle.e_construct.specs.Superposing as superposing
@@ -53,11 +53,11 @@ placed_steps before (Hence lit cert rest) f s facts goal =
 placed_steps before (Make construction names certs rest) f s facts goal =
     placed_step (Make construction names certs rest) f s facts goal
     ∷ placed_steps before rest (rest_of f)
-    (grown s (sorts_made construction))
+    (with_sorts s (sorts_made construction))
     (with_facts facts (gives_of_construction construction s)) goal
 placed_steps before (Apply theorem args names certs rest) f s facts goal =
     placed_step (Apply theorem args names certs rest) f s facts goal
-    ∷ placed_steps before rest (rest_of f) (grown s (theorem_at before theorem).made)
+    ∷ placed_steps before rest (rest_of f) (with_sorts s (theorem_at before theorem).made)
     (with_facts facts (gives_of_use (theorem_at before theorem) (args_of f) s)) goal
 placed_steps before (Claim shown inner rest) f s facts goal =
     placed_step (Claim shown inner rest) f s facts goal
@@ -65,7 +65,7 @@ placed_steps before (Claim shown inner rest) f s facts goal =
     ++ placed_steps before rest (rest_of f) s (with_facts facts shown) goal)
 placed_steps before (Superposed superposition names shown certs inner rest) f s facts goal =
     placed_step (Superposed superposition names shown certs inner rest) f s facts goal
-    ∷ (placed_steps before inner (inner_of f) (grown s superposing.sorts_copied)
+    ∷ (placed_steps before inner (inner_of f) (with_sorts s superposing.sorts_copied)
     (with_facts facts (superposing.gives_of_superposition superposition s)) (goal_of shown)
     ++ placed_steps before rest (rest_of f) s (with_facts facts shown) goal)
 placed_steps before (Qed objects certs) f s facts goal =

@@ -4,7 +4,7 @@ use Rattle.e_literal.specs.declared.object.Scope.{Scope}
 use Rattle.e_literal.specs.declared.literal.Lit.{Lit}
 use Rattle.e_literal.specs.Literal.{negation, all_in_scope}
 use Rattle.e_literal.specs.Facts.{with_fact, with_facts}
-use Rattle.e_literal.specs.Scopes.{grown}
+use Rattle.e_literal.specs.Scopes.{with_sorts}
 use Rattle.e_literal.specs.Use.{StatementView, needs_of_use, gives_of_use, scope_of}
 use Rattle.e_clause.specs.Allowed.{Allowed, AllAllowed}
 use Rattle.e_clause.specs.Consequence.{Contradictory}
@@ -33,14 +33,14 @@ Proves before s facts goal (Hence lit cert rest) =
 Proves before s facts goal (Make construction names certs rest) =
     IsTrue (fits_construction construction s)
     × AllAllowed s facts (needs_of_construction construction)
-    × Proves before (grown s (sorts_made construction))
+    × Proves before (with_sorts s (sorts_made construction))
     (with_facts facts (gives_of_construction construction s)) goal rest
 -- no argument is a blank, they fit the theorem, which is an earlier one, and each given literal is
 -- allowed; the made objects come into scope, and the shown literals join the facts
 Proves before s facts goal (Apply theorem args names certs rest) =
     IsTrue (has_no_blank args) × IsTrue (is_applied before theorem s args (written args))
     × AllAllowed s facts (needs_of_use (theorem_at before theorem) (written args) s)
-    × Proves before (grown s (theorem_at before theorem).made)
+    × Proves before (with_sorts s (theorem_at before theorem).made)
     (with_facts facts (gives_of_use (theorem_at before theorem) (written args) s)) goal rest
 -- the inner block proves the claimed literals, and these join the facts; the inner objects and
 -- facts are gone
@@ -54,7 +54,7 @@ Proves before s facts goal (Superposed superposition names shown certs inner res
     IsTrue (superposing.fits_superposition superposition s)
     × AllAllowed s facts (superposing.needs_of_superposition superposition)
     × IsTrue (are_over s shown)
-    × Proves before (grown s superposing.sorts_copied)
+    × Proves before (with_sorts s superposing.sorts_copied)
     (with_facts facts (superposing.gives_of_superposition superposition s)) (goal_of shown) inner
     × Proves before s (with_facts facts shown) goal rest
 -- each goal literal, with the objects for the made ones, is allowed

@@ -6,7 +6,7 @@ ghost use Rattle.e_deriv.specs.Script.{Script, script_of, step_script};
 ghost use Rattle.e_deriv.specs.Script.{close_script, script_without_certs};
 
 use crate::block::{Block, Close, Step};
-use crate::inner::{claim, cases, superpose};
+use crate::inner::{cases, claim, superpose};
 use e_clause::By;
 use e_construct::Construction;
 use e_literal::{Items, Lit, Obj, copy};

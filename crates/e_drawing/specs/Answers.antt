@@ -3,7 +3,7 @@ use Rattle.std.specs.Prelude.{◌≡◌, ℕ, List, [], ◌∷◌, ◌++◌, fla
 use Rattle.std.specs.Prelude.{decimal, if◌then◌else◌}
 use Rattle.e_literal.specs.declared.literal.Lit.{Lit}
 use Rattle.e_deriv.specs.declared.names.Names.{Names}
-use Rattle.e_text.specs.Tokens.{spaced}
+use Rattle.e_text.specs.Tokens.{with_spaces}
 use Rattle.e_line.specs.declared.fault.BookFault.{BookFault}
 use Rattle.e_line.specs.Canonical.{lit_words}
 use Rattle.e_names.specs.Canonical.{raw_of}
@@ -18,7 +18,7 @@ use Rattle.e_drawing.specs.Texts.{plan_of}
 
 -- a word, what holds of a literal, and the literal
 abbrev pub answer_line : List ℕ → List ℕ → Names → Lit → List ℕ
-answer_line word holds ns l = word ++ (holds ++ (spaced (lit_words (raw_of ns l)) ++ 10 ∷ []))
+answer_line word holds ns l = word ++ (holds ++ (with_spaces (lit_words (raw_of ns l)) ++ 10 ∷ []))
 
 -- whether a given literal is true
 abbrev pub given_word : FigureView → Lit → List ℕ
@@ -41,14 +41,14 @@ abbrev pub figure_line : ℕ → List ℕ
 figure_line n = codes "figure" ++ ((32 ∷ decimal n) ++ 10 ∷ [])
 
 -- a line for each given literal, then for each shown one, and the last line
-abbrev pub answered : Plan → List ℕ
-answered p =
+abbrev pub answer_text : Plan → List ℕ
+answer_text p =
     flat_map (given_line p) p.given
     ++ (flat_map (shown_line p) p.shown ++ figure_line (length p.shown))
 
 -- what is written of a text with the number of its shown literals, or its first fault
 abbrev pub drawn_of : List ℕ → Result (ℕ × List ℕ) BookFault
-drawn_of text = plan_of text >>= λ p. Ok (length p.shown, answered p)
+drawn_of text = plan_of text >>= λ p. Ok (length p.shown, answer_text p)
 
 -- what was answered is that, unless memory ran out
 abbrev pub Draws : List ℕ → Result Drawing BookFault → Type 0

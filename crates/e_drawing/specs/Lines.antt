@@ -22,8 +22,8 @@ plan_point_of words = do
   Ok (raw.Point n.0 (record { x = x.0; y = y.0 }))
 
 -- a direction that is not two zeros
-abbrev pub directed : List ℕ → Straight → Result RawLine FaultKind
-directed name l = if has_direction l then Ok (raw.Line name l) else Err Malformed
+abbrev pub line_with_direction : List ℕ → Straight → Result RawLine FaultKind
+line_with_direction name l = if has_direction l then Ok (raw.Line name l) else Err Malformed
 
 -- a name, the coordinates of a point on it, and a direction
 unfoldable pub straight_of : List (List ℕ) → Result RawLine FaultKind
@@ -34,11 +34,11 @@ straight_of words = do
   dx ← coordinate_at y.1
   dy ← coordinate_at dx.1
   none ← end_at dy.1
-  directed n.0 (record { x = x.0; y = y.0; dx = dx.0; dy = dy.0 })
+  line_with_direction n.0 (record { x = x.0; y = y.0; dx = dx.0; dy = dy.0 })
 
 -- a square that is not 0
-abbrev pub rounded : List ℕ → Round → Result RawLine FaultKind
-rounded name c = if has_inside c then Ok (raw.Circle name c) else Err Malformed
+abbrev pub circle_with_inside : List ℕ → Round → Result RawLine FaultKind
+circle_with_inside name c = if has_inside c then Ok (raw.Circle name c) else Err Malformed
 
 -- a name, the coordinates of the center, and the square of the radius
 unfoldable pub round_of : List (List ℕ) → Result RawLine FaultKind
@@ -48,7 +48,7 @@ round_of words = do
   y ← coordinate_at x.1
   q ← square_at y.1
   none ← end_at q.1
-  rounded n.0 (record { x = x.0; y = y.0; square = q.0 })
+  circle_with_inside n.0 (record { x = x.0; y = y.0; square = q.0 })
 
 abbrev pub line_of_one_word : List (List ℕ) → RawLine → Result RawLine FaultKind
 line_of_one_word words line = end_at words >>= λ none. Ok line

@@ -1,7 +1,7 @@
 //! The lines that answer a figure text.
 ghost use Rattle.std.specs.Prelude.{◌≡◌, ◌++◌, flat_map, length, OnOk};
 ghost use Rattle.e_drawing.specs.Answers.{given_word, shown_word, answer_line};
-ghost use Rattle.e_drawing.specs.Answers.{given_line, shown_line, figure_line, answered};
+ghost use Rattle.e_drawing.specs.Answers.{given_line, shown_line, figure_line, answer_text};
 
 use crate::plan::Plan;
 use e_deriv::Names;
@@ -110,7 +110,7 @@ pub fn put_answers(
     shown: u64,
 ) -> Result<(), AllocError>
     requires { shown ≡ length plan.now.shown }
-    ensures { OnOk result (out.new.items ≡ out.old.items ++ answered plan.now) }
+    ensures { OnOk result (out.new.items ≡ out.old.items ++ answer_text plan.now) }
 {
     put_given(alloc, out, plan)?;
     put_shown(alloc, out, plan)?;

@@ -1,7 +1,7 @@
 //! What the program writes of a figure text.
 ghost use Rattle.std.specs.Prelude.{◌≡◌, ◌<◌, ◌≤◌, ◌^◌, length, take, IfOk};
 ghost use Rattle.e_drawing.specs.Plans.{no_plan, FitsPlan};
-ghost use Rattle.e_drawing.specs.Answers.{answered, Draws};
+ghost use Rattle.e_drawing.specs.Answers.{answer_text, Draws};
 ghost use Rattle.e_drawing.specs.Texts.{plan_of, PlanIs};
 
 use crate::answers::put_answers;
@@ -39,7 +39,7 @@ fn read_text(alloc: Global, text: &[u8], plan: &mut Plan) -> Result<(), BookFaul
 /// The answer to the figure of a plan.
 fn drawing_of(alloc: Global, plan: &Plan) -> Result<Drawing, AllocError>
     ensures shown { IfOk result (λ d. d.shown ≡ length plan.now.shown) }
-    ensures bytes { IfOk result (λ d. d.bytes.items ≡ answered plan.now) }
+    ensures bytes { IfOk result (λ d. d.bytes.items ≡ answer_text plan.now) }
 {
     let shown = plan.shown.len() as u64;
     let mut bytes = Vec::new(alloc);

@@ -49,12 +49,12 @@ abbrev pub apply_previous_line : ℕ → ℕ → List ℕ
 apply_previous_line k m = codes "apply G" ++ (decimal (k - 1) ++ (points_to m ++ codes "\n"))
 
 -- the theorem before, where it has one point less
-abbrev pub earlier : ℕ → ℕ → List ℕ
-earlier k m = if nat_lt 3 m then apply_previous_line k m else []
+abbrev pub line_before : ℕ → ℕ → List ℕ
+line_before k m = if nat_lt 3 m then apply_previous_line k m else []
 
 -- three points in order are in order from the other end
-abbrev pub turned : ℕ → ℕ → ℕ → List ℕ
-turned i j k =
+abbrev pub turned_line : ℕ → ℕ → ℕ → List ℕ
+turned_line i j k =
     codes "by b1a"
     ++ (point i ++ (point j ++ (point k ++ (codes " :" ++ (between k j i ++ codes "\n")))))
 
@@ -66,7 +66,7 @@ run i =
 
 -- so each point is between the first and the next
 abbrev pub cites : ℕ → List ℕ
-cites i = turned (i - 1) i (i + 1) ++ (run i ++ turned (i + 1) i 0)
+cites i = turned_line (i - 1) i (i + 1) ++ (run i ++ turned_line (i + 1) i 0)
 
 abbrev pub hence_line : ℕ → List ℕ
 hence_line i =
@@ -86,7 +86,7 @@ statement k m =
 
 abbrev pub proof : ℕ → ℕ → List ℕ
 proof k m =
-    codes "proof\n" ++ (earlier k m ++ (codes "by b1b p1 p2 p3 : p1 != p2\n" ++ (turned 0 1 2
+    codes "proof\n" ++ (line_before k m ++ (codes "by b1b p1 p2 p3 : p1 != p2\n" ++ (turned_line 0 1 2
     ++ (flat_map cites (numbers 2 (m - 2))
     ++ (flat_map hence_line (numbers 1 (m - 1)) ++ codes "qed\nend\n")))))
 

@@ -120,7 +120,7 @@ fn put_statement(out: &mut String, number: u32, last: u32) -> Result<(), AllocEr
 fn put_earlier(out: &mut String, number: u32, last: u32) -> Result<(), AllocError>
     requires { 1 ≤ number }
     ensures { OnOk result
-        (string_bytes out.new ≡ string_bytes out.old ++ Generated.earlier number last) }
+        (string_bytes out.new ≡ string_bytes out.old ++ Generated.line_before number last) }
 {
     if last > 3 {
         write!(out, "apply G{}", number - 1)?;
@@ -132,7 +132,7 @@ fn put_earlier(out: &mut String, number: u32, last: u32) -> Result<(), AllocErro
 
 /// The step by which three points in order are in order from the other end.
 fn put_turned(out: &mut String, i: u32, j: u32, k: u32) -> Result<(), AllocError>
-    ensures { OnOk result (string_bytes out.new ≡ string_bytes out.old ++ Generated.turned i j k) }
+    ensures { OnOk result (string_bytes out.new ≡ string_bytes out.old ++ Generated.turned_line i j k) }
 {
     write!(out, "by b1a p{i} p{j} p{k} : between p{k} p{j} p{i}\n")
 }

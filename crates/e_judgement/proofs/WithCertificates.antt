@@ -6,7 +6,7 @@ use Rattle.std.proofs.lemmas.Bool.{and_parts, and_from}
 use Rattle.e_literal.specs.declared.object.Scope.{Scope}
 use Rattle.e_literal.specs.declared.literal.Lit.{Lit}
 use Rattle.e_literal.specs.Literal.{negation}
-use Rattle.e_literal.specs.Scopes.{grown}
+use Rattle.e_literal.specs.Scopes.{with_sorts}
 use Rattle.e_literal.specs.Facts.{with_fact, with_facts}
 use Rattle.e_literal.specs.Use.{StatementView, gives_of_use}
 use Rattle.e_literal.proofs.Booleans.{all_both}
@@ -48,12 +48,12 @@ small_with bs (Hence lit cert rest) f g s facts more goal aim h =
     let p = and_parts (is_small s) (list_all is_small_line (placed_steps bs (script_without_certs rest) (rest_of f) s (with_fact facts lit) goal)) h in
     and_from _ _ p.0 (small_with bs rest (rest_of f) (rest_of g) s (with_fact facts lit) (with_fact more lit) goal aim p.1)
 small_with bs (Make construction names certs rest) f g s facts more goal aim h =
-    let t = grown s (sorts_made construction) in
+    let t = with_sorts s (sorts_made construction) in
     let p = and_parts (is_small s) (list_all is_small_line (placed_steps bs (script_without_certs rest) (rest_of f) t (with_facts facts (gives_of_construction construction s)) goal)) h in
     and_from _ _ p.0 (small_with bs rest (rest_of f) (rest_of g) t (with_facts facts (gives_of_construction construction s)) (with_facts more (gives_of_construction construction s)) goal aim p.1)
 small_with bs (Apply theorem args names certs rest) f g s facts more goal aim h =
     let u = theorem_at bs theorem in
-    let t = grown s u.made in
+    let t = with_sorts s u.made in
     let p = and_parts (is_small s) (list_all is_small_line (placed_steps bs (script_without_certs rest) (rest_of f) t (with_facts facts (gives_of_use u (args_of f) s)) goal)) h in
     and_from _ _ p.0 (small_with bs rest (rest_of f) (rest_of g) t (with_facts facts (gives_of_use u (args_of f) s)) (with_facts more (gives_of_use u (args_of g) s)) goal aim p.1)
 small_with bs (Claim shown inner rest) f g s facts more goal aim h =
@@ -65,7 +65,7 @@ small_with bs (Claim shown inner rest) f g s facts more goal aim h =
     (all_both is_small_line (placed_steps bs inner (inner_of g) s more (goal_of shown)) _ (small_with bs inner (inner_of f) (inner_of g) s facts more (goal_of shown) (goal_of shown) q.0)
     (small_with bs rest (rest_of f) (rest_of g) s (with_facts facts shown) (with_facts more shown) goal aim q.1))
 small_with bs (Superposed superposition names shown certs inner rest) f g s facts more goal aim h =
-    let t = grown s superposing.sorts_copied in
+    let t = with_sorts s superposing.sorts_copied in
     let given = superposing.gives_of_superposition superposition s in
     let inside = placed_steps bs (script_without_certs inner) (inner_of f) t (with_facts facts given) (goal_of shown) in
     let after = placed_steps bs (script_without_certs rest) (rest_of f) s (with_facts facts shown) goal in

@@ -9,7 +9,7 @@ use Rattle.e_clause.specs.declared.cert.Version.{Version}
 use Rattle.e_clause.specs.declared.cert.Version.TheVariants.{One, Two}
 use Rattle.e_theorem.specs.Statements.{stated}
 use Rattle.e_deriv.specs.Certified.{Certified, verdict}
-use Rattle.e_names.specs.TitledStatements.{TitledStatement, headed, stated_by}
+use Rattle.e_names.specs.TitledStatements.{TitledStatement, titled_statement, stated_by}
 use Rattle.e_book.specs.TheoremViews.{TheoremView}
 use Rattle.e_book.specs.Grammar.{Rest}
 use Rattle.e_read.specs.Text.{at_start, piece_from, Derived, Last, is_lf_end}
@@ -18,7 +18,7 @@ use Rattle.e_judgement.specs.declared.judgement.Judgement.TheVariants.{Verified,
 
 -- after a theorem it is known
 abbrev pub with_theorem : List TitledStatement → TheoremView → List TitledStatement
-with_theorem known t = known ++ headed t.title t.statement ∷ []
+with_theorem known t = known ++ titled_statement t.title t.statement ∷ []
 
 -- with this known, these lines begin with this theorem and its derivation, in this version, and
 -- those are left after it

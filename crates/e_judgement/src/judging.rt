@@ -2,7 +2,7 @@
 ghost use Rattle.std.specs.Prelude.{◌≡◌, ◌≤◌, ◌^◌, ◌++◌, ◌∷◌, [], false, length, IfOk, OnOk};
 ghost use Rattle.e_text.specs.Lines.{view_of_line};
 ghost use Rattle.e_book.specs.Grammar.{last_line};
-ghost use Rattle.e_names.specs.TitledStatements.{headed, is_known};
+ghost use Rattle.e_names.specs.TitledStatements.{titled_statement, is_known};
 ghost use Rattle.e_judgement.specs.Judged.{head_of, is_head, version_of, JudgesText, IsJudged};
 ghost use Rattle.e_judgement.specs.Steps.{IsHeadFound};
 
@@ -51,7 +51,7 @@ fn version_of(line: &Line) -> Option<Version>
 /// Keeps the title and the statement of a theorem.
 pub fn keep(known: &mut Theorems, theorem: Theorem) -> Result<(), AllocError>
     requires { is_known known.old theorem.title ≡ false }
-    ensures { OnOk result (known.new ≡ known.old ++ headed theorem.title theorem.statement ∷ []) }
+    ensures { OnOk result (known.new ≡ known.old ++ titled_statement theorem.title theorem.statement ∷ []) }
 {
     let Theorem {
         title,

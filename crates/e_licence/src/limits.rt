@@ -7,7 +7,7 @@ ghost use Rattle.e_literal.specs.Use;
 ghost use Rattle.e_literal.specs.WellFormed;
 ghost use Rattle.e_theorem.specs.Statements.{stated};
 
-use e_literal::{Lit, NOTHING, Scope, grown, in_scope};
+use e_literal::{Lit, NOTHING, Scope, in_scope, with_sorts};
 use e_metric::is_well_formed;
 use e_theorem::Statement;
 
@@ -17,8 +17,8 @@ pub fn is_statement(statement: &Statement) -> bool
     requires { length statement.now.declared + length statement.now.made < 2 ^ 16 }
     ensures { result ≡ Use.is_statement (stated statement.now) }
 {
-    let declared = grown(NOTHING, statement.declared.items());
-    let all = grown(declared, statement.made.items());
+    let declared = with_sorts(NOTHING, statement.declared.items());
+    let all = with_sorts(declared, statement.made.items());
     are_over(declared, statement.given.items()) && are_over(all, statement.shown.items())
 }
 

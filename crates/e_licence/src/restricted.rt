@@ -7,7 +7,7 @@ ghost use Rattle.e_licence.specs.Verdicts.{AreRight};
 ghost use Rattle.e_licence.specs.inner.BlankChoices.{IsKeptChoice, IsWanted, IsRefusedAt};
 ghost use Rattle.e_licence.specs.inner.BlankChoices.{SomeIsWideAt, images_of_choice};
 ghost use Rattle.e_licence.specs.inner.Rows.{IsPair, NoneHas, AreMarked, AreExcluded};
-ghost use Rattle.e_licence.specs.inner.Rows.{choosing, spans_with};
+ghost use Rattle.e_licence.specs.inner.Rows.{choosing_of, spans_with};
 
 use crate::blanks::{Blanks, images};
 use crate::ready::Ready;
@@ -22,7 +22,7 @@ pub struct BlankSearch<'a> {
     pub blanks: &'a Blanks<'a>,
     /// For each blank, for each number, whether it is passed over.
     pub excluded: Items<Items<bool>>,
-    ghost excludes: { AreExcluded (choosing blanks.now) excluded },
+    ghost excludes: { AreExcluded (choosing_of blanks.now) excluded },
 }
 
 /// Two blanks with a number for each.
@@ -95,10 +95,10 @@ impl<'a> Blanks<'a> {
         pair: Pair,
     ) -> Result<bool, AllocError>
         requires memory { AreRight self.now.context.now memory.old }
-        requires spans { spans.now ≡ spans_with (choosing self.now) }
+        requires spans { spans.now ≡ spans_with (choosing_of self.now) }
         requires last { pair.last < length spans.now }
         ensures none { IfOk result (λ b. b ≡ true → Contains self.now.statement.now.given lit.now
-            → NoneHas (choosing self.now) pair.first pair.value) }
+            → NoneHas (choosing_of self.now) pair.first pair.value) }
         ensures memory { OnOk result (AreRight self.now.context.now memory.new) }
     {
         for num in 0..spans[pair.last].to {
@@ -120,8 +120,8 @@ impl<'a> Blanks<'a> {
         value: u16,
     ) -> Result<bool, AllocError>
         requires memory { AreRight self.now.context.now memory.old }
-        requires spans { spans.now ≡ spans_with (choosing self.now) }
-        ensures none { IfOk result (λ b. b ≡ true → NoneHas (choosing self.now) blank value) }
+        requires spans { spans.now ≡ spans_with (choosing_of self.now) }
+        ensures none { IfOk result (λ b. b ≡ true → NoneHas (choosing_of self.now) blank value) }
         ensures memory { OnOk result (AreRight self.now.context.now memory.new) }
     {
         for (at, lit) in self.statement.given.items().iter().enumerate() {
@@ -161,8 +161,8 @@ impl<'a> Blanks<'a> {
         count: u16,
     ) -> Result<Items<bool>, AllocError>
         requires memory { AreRight self.now.context.now memory.old }
-        requires spans { spans.now ≡ spans_with (choosing self.now) }
-        ensures marks { IfOk result (AreMarked (choosing self.now) blank) }
+        requires spans { spans.now ≡ spans_with (choosing_of self.now) }
+        ensures marks { IfOk result (AreMarked (choosing_of self.now) blank) }
         ensures memory { OnOk result (AreRight self.now.context.now memory.new) }
     {
         let mut marks = Items::empty(alloc);
@@ -181,8 +181,8 @@ impl<'a> Blanks<'a> {
         spans: &[Span],
     ) -> Result<Items<Items<bool>>, AllocError>
         requires memory { AreRight self.now.context.now memory.old }
-        requires spans { spans.now ≡ spans_with (choosing self.now) }
-        ensures table { IfOk result (AreExcluded (choosing self.now)) }
+        requires spans { spans.now ≡ spans_with (choosing_of self.now) }
+        ensures table { IfOk result (AreExcluded (choosing_of self.now)) }
         ensures memory { OnOk result (AreRight self.now.context.now memory.new) }
     {
         let mut excluded = Items::empty(alloc);

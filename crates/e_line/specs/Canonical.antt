@@ -98,13 +98,13 @@ sort_word sorts.Line = codes "lines"
 sort_word sorts.Circle = codes "circles"
 
 -- the pieces of a line, with these names at the places of new objects and of arguments
-abbrev pub filled : List Piece → (new args : List (List ℕ)) → List (List ℕ)
-filled [] new args = []
-filled (Word w ∷ ps) new args = w ∷ filled ps new args
-filled (New ∷ ps) (n ∷ new) args = n ∷ filled ps new args
-filled (New ∷ ps) [] args = filled ps [] args
-filled (Argument ∷ ps) new (n ∷ args) = n ∷ filled ps new args
-filled (Argument ∷ ps) new [] = filled ps new []
+abbrev pub filled_pieces : List Piece → (new args : List (List ℕ)) → List (List ℕ)
+filled_pieces [] new args = []
+filled_pieces (Word w ∷ ps) new args = w ∷ filled_pieces ps new args
+filled_pieces (New ∷ ps) (n ∷ new) args = n ∷ filled_pieces ps new args
+filled_pieces (New ∷ ps) [] args = filled_pieces ps [] args
+filled_pieces (Argument ∷ ps) new (n ∷ args) = n ∷ filled_pieces ps new args
+filled_pieces (Argument ∷ ps) new [] = filled_pieces ps new []
 
 -- the pieces of a line: those of the first of its shapes, which all have the same
 abbrev pub line_pieces : List Shape → List Piece
@@ -117,10 +117,10 @@ avoid_words [] = []
 avoid_words (n ∷ ns) = codes "avoid" ∷ n ∷ ns
 
 abbrev pub let_words : RawLet → List (List ℕ)
-let_words l = filled (line_pieces l.shapes) l.new l.args ++ avoid_words l.avoid
+let_words l = filled_pieces (line_pieces l.shapes) l.new l.args ++ avoid_words l.avoid
 
 abbrev pub superpose_words : RawSuperpose → List (List ℕ)
-superpose_words s = filled superpose_pieces s.new s.args ++ lits_words s.shown
+superpose_words s = filled_pieces superpose_pieces s.new s.args ++ lits_words s.shown
 
 -- an argument: a name, or the blank
 abbrev pub argument_word : Option (List ℕ) → List ℕ

@@ -1,11 +1,11 @@
 //! The line of each raw line, with the names that it has, and without its end. It fails only out
 //! of memory.
 ghost use Rattle.std.specs.Prelude.{◌≡◌, ◌++◌, ◌∷◌, [], codes, map, OnOk};
-ghost use Rattle.e_text.specs.Tokens.{spaced};
+ghost use Rattle.e_text.specs.Tokens.{with_spaces};
 ghost use Rattle.e_construct.specs.Views.{piece_view};
 ghost use Rattle.e_line.specs.declared.raw_line.RawLine.TheVariants as rawlines;
 ghost use Rattle.e_line.specs.Superposes.{superpose_pieces};
-ghost use Rattle.e_line.specs.Canonical.{lit_words, lits_words, filled, line_pieces};
+ghost use Rattle.e_line.specs.Canonical.{lit_words, lits_words, filled_pieces, line_pieces};
 ghost use Rattle.e_line.specs.Canonical.{avoid_words, argument_word, made_words, line_of};
 
 use crate::literal::RawLit;
@@ -25,7 +25,7 @@ fn put_citation(
     lit: &RawLit,
 ) -> Result<(), AllocError>
     ensures { OnOk result (out.new.items ≡ out.old.items
-        ++ spaced (rule.now ∷ (names.now ++ codes ":" ∷ lit_words lit.now))) }
+        ++ with_spaces (rule.now ∷ (names.now ++ codes ":" ∷ lit_words lit.now))) }
 {
     put(out, rule)?;
     put_names(out, names)?;
@@ -56,7 +56,7 @@ fn put_pieces(
     args: &[Name],
 ) -> Result<(), AllocError>
     ensures { OnOk result (out.new.items ≡ out.old.items
-        ++ spaced (filled (map piece_view pieces.now) new.now args.now)) }
+        ++ with_spaces (filled_pieces (map piece_view pieces.now) new.now args.now)) }
 {
     let [piece, pieces @ ..] = pieces else {
         return Ok(());
@@ -91,7 +91,7 @@ fn put_shape(
     args: &[Name],
 ) -> Result<(), AllocError>
     ensures { OnOk result (out.new.items ≡ out.old.items
-        ++ spaced (filled (line_pieces shapes.now) new.now args.now)) }
+        ++ with_spaces (filled_pieces (line_pieces shapes.now) new.now args.now)) }
 {
     match shapes {
         [] => Ok(()),
@@ -101,7 +101,7 @@ fn put_shape(
 
 /// The names of the avoided objects, if there are any.
 fn put_avoided(out: &mut Vec<u8>, avoid: &[Name]) -> Result<(), AllocError>
-    ensures { OnOk result (out.new.items ≡ out.old.items ++ spaced (avoid_words avoid.now)) }
+    ensures { OnOk result (out.new.items ≡ out.old.items ++ with_spaces (avoid_words avoid.now)) }
 {
     if avoid.is_empty() {
         return Ok(());
@@ -119,7 +119,7 @@ fn put_construction(
     avoid: &[Name],
 ) -> Result<(), AllocError>
     ensures { OnOk result (out.new.items ≡ out.old.items
-        ++ spaced (filled (line_pieces shapes.now) new.now args.now ++ avoid_words avoid.now)) }
+        ++ with_spaces (filled_pieces (line_pieces shapes.now) new.now args.now ++ avoid_words avoid.now)) }
 {
     put_shape(out, shapes, new, args)?;
     put_avoided(out, avoid)?;
@@ -142,7 +142,7 @@ pub fn put_let(
 }
 
 fn put_arguments(out: &mut Vec<u8>, args: &[Option<Name>]) -> Result<(), AllocError>
-    ensures { OnOk result (out.new.items ≡ out.old.items ++ spaced (map argument_word args.now)) }
+    ensures { OnOk result (out.new.items ≡ out.old.items ++ with_spaces (map argument_word args.now)) }
 {
     for argument in args {
         put_argument(out, *argument)?;
@@ -162,7 +162,7 @@ fn put_argument(out: &mut Vec<u8>, argument: Option<Name>) -> Result<(), AllocEr
 
 /// The names of made objects, if there are any.
 fn put_made(out: &mut Vec<u8>, new: &[Name]) -> Result<(), AllocError>
-    ensures { OnOk result (out.new.items ≡ out.old.items ++ spaced (made_words new.now)) }
+    ensures { OnOk result (out.new.items ≡ out.old.items ++ with_spaces (made_words new.now)) }
 {
     if new.is_empty() {
         return Ok(());
@@ -179,7 +179,7 @@ fn put_use(
     new: &[Name],
 ) -> Result<(), AllocError>
     ensures { OnOk result (out.new.items ≡ out.old.items
-        ++ spaced (title.now ∷ (map argument_word args.now ++ made_words new.now))) }
+        ++ with_spaces (title.now ∷ (map argument_word args.now ++ made_words new.now))) }
 {
     put(out, title)?;
     put_arguments(out, args)?;
@@ -210,7 +210,7 @@ fn put_superposition(
     shown: &[RawLit],
 ) -> Result<(), AllocError>
     ensures { OnOk result (out.new.items ≡ out.old.items
-        ++ spaced (filled superpose_pieces new.now args.now ++ lits_words shown.now)) }
+        ++ with_spaces (filled_pieces superpose_pieces new.now args.now ++ lits_words shown.now)) }
 {
     put_pieces(out, superposition_pieces(), new, args)?;
     put_literals(out, shown)?;
@@ -234,7 +234,7 @@ pub fn put_superpose(
 
 /// Writes a line of a word and names.
 pub fn put_named(out: &mut Vec<u8>, word: &[u8], names: &[Name]) -> Result<(), AllocError>
-    ensures { OnOk result (out.new.items ≡ out.old.items ++ (word.now ++ spaced names.now)) }
+    ensures { OnOk result (out.new.items ≡ out.old.items ++ (word.now ++ with_spaces names.now)) }
 {
     out.extend_from_slice(word)?;
     put_names(out, names)
@@ -243,7 +243,7 @@ pub fn put_named(out: &mut Vec<u8>, word: &[u8], names: &[Name]) -> Result<(), A
 /// Writes a line of a word and literals.
 pub fn put_stated(out: &mut Vec<u8>, word: &[u8], lits: &[RawLit]) -> Result<(), AllocError>
     ensures { OnOk result
-        (out.new.items ≡ out.old.items ++ (word.now ++ spaced (lits_words lits.now))) }
+        (out.new.items ≡ out.old.items ++ (word.now ++ with_spaces (lits_words lits.now))) }
 {
     out.extend_from_slice(word)?;
     put_literals(out, lits)
@@ -252,7 +252,7 @@ pub fn put_stated(out: &mut Vec<u8>, word: &[u8], lits: &[RawLit]) -> Result<(),
 /// Writes a line of a word and a literal.
 pub fn put_word_and_lit(out: &mut Vec<u8>, word: &[u8], lit: &RawLit) -> Result<(), AllocError>
     ensures { OnOk result
-        (out.new.items ≡ out.old.items ++ (word.now ++ spaced (lit_words lit.now))) }
+        (out.new.items ≡ out.old.items ++ (word.now ++ with_spaces (lit_words lit.now))) }
 {
     out.extend_from_slice(word)?;
     put_literal(out, lit)

@@ -1,6 +1,6 @@
 //! Writes terms, sums and literals, with the names that they have.
 ghost use Rattle.std.specs.Prelude.{◌≡◌, ◌++◌, ◌∷◌, [], true, OnOk};
-ghost use Rattle.e_text.specs.Tokens.{spaced};
+ghost use Rattle.e_text.specs.Tokens.{with_spaces};
 ghost use Rattle.e_line.specs.Canonical.{term_words, mono_words, more_monos, sum_words, sums_words};
 ghost use Rattle.e_line.specs.Canonical.{atom_words, not_words, lit_words, more_words, lits_words};
 
@@ -11,7 +11,7 @@ use std::alloc::AllocError;
 
 /// Writes a term, each word after a space. It fails only out of memory.
 pub fn put_term(out: &mut Vec<u8>, term: &RawTerm) -> Result<(), AllocError>
-    ensures { OnOk result (out.new.items ≡ out.old.items ++ spaced (term_words term.now)) }
+    ensures { OnOk result (out.new.items ≡ out.old.items ++ with_spaces (term_words term.now)) }
 {
     match term {
         RawTerm::Seg(x, y) => put_words(out, &[b"seg", x.bytes(), y.bytes()]),
@@ -23,7 +23,7 @@ pub fn put_term(out: &mut Vec<u8>, term: &RawTerm) -> Result<(), AllocError>
 
 #[tactic(auto, using(e_text::proofs::Spaced::spaced_append))]
 fn put_mono(out: &mut Vec<u8>, mono: &RawMono) -> Result<(), AllocError>
-    ensures { OnOk result (out.new.items ≡ out.old.items ++ spaced (mono_words mono.now)) }
+    ensures { OnOk result (out.new.items ≡ out.old.items ++ with_spaces (mono_words mono.now)) }
 {
     put_coefficient(out, mono.coeff)?;
     put_term(out, &mono.term)
@@ -32,7 +32,7 @@ fn put_mono(out: &mut Vec<u8>, mono: &RawMono) -> Result<(), AllocError>
 /// More monomials, each after a plus.
 #[tactic(auto, using(e_text::proofs::Spaced::spaced_append))]
 fn put_more(out: &mut Vec<u8>, monos: &[RawMono]) -> Result<(), AllocError>
-    ensures { OnOk result (out.new.items ≡ out.old.items ++ spaced (more_monos monos.now)) }
+    ensures { OnOk result (out.new.items ≡ out.old.items ++ with_spaces (more_monos monos.now)) }
 {
     for mono in monos {
         put(out, b"+")?;
@@ -44,7 +44,7 @@ fn put_more(out: &mut Vec<u8>, monos: &[RawMono]) -> Result<(), AllocError>
 /// Monomials with a plus between two, and 0 for none.
 #[tactic(auto, using(e_text::proofs::Spaced::spaced_append))]
 fn put_sum(out: &mut Vec<u8>, sum: &[RawMono]) -> Result<(), AllocError>
-    ensures { OnOk result (out.new.items ≡ out.old.items ++ spaced (sum_words sum.now)) }
+    ensures { OnOk result (out.new.items ≡ out.old.items ++ with_spaces (sum_words sum.now)) }
 {
     match sum {
         [] => put(out, b"0"),
@@ -57,7 +57,7 @@ fn put_sum(out: &mut Vec<u8>, sum: &[RawMono]) -> Result<(), AllocError>
 
 /// A sum after a sign.
 fn put_side(out: &mut Vec<u8>, sign: &[u8], sum: &[RawMono]) -> Result<(), AllocError>
-    ensures { OnOk result (out.new.items ≡ out.old.items ++ spaced (sign.now ∷ sum_words sum.now)) }
+    ensures { OnOk result (out.new.items ≡ out.old.items ++ with_spaces (sign.now ∷ sum_words sum.now)) }
 {
     put(out, sign)?;
     put_sum(out, sum)
@@ -71,7 +71,7 @@ fn put_sums(
     right: &[RawMono],
 ) -> Result<(), AllocError>
     ensures { OnOk result
-        (out.new.items ≡ out.old.items ++ spaced (sums_words left.now sign.now right.now)) }
+        (out.new.items ≡ out.old.items ++ with_spaces (sums_words left.now sign.now right.now)) }
 {
     put_sum(out, left)?;
     put_side(out, sign, right)?;
@@ -80,13 +80,13 @@ fn put_sums(
 
 /// A word and three names.
 fn put_of_three(out: &mut Vec<u8>, word: &[u8], x: Name, y: Name, z: Name) -> Result<(), AllocError>
-    ensures { OnOk result (out.new.items ≡ out.old.items ++ spaced (word.now ∷ x ∷ y ∷ z ∷ [])) }
+    ensures { OnOk result (out.new.items ≡ out.old.items ++ with_spaces (word.now ∷ x ∷ y ∷ z ∷ [])) }
 {
     put_words(out, &[word, x.bytes(), y.bytes(), z.bytes()])
 }
 
 fn put_atom(out: &mut Vec<u8>, atom: &RawAtom) -> Result<(), AllocError>
-    ensures { OnOk result (out.new.items ≡ out.old.items ++ spaced (atom_words atom.now)) }
+    ensures { OnOk result (out.new.items ≡ out.old.items ++ with_spaces (atom_words atom.now)) }
 {
     match atom {
         RawAtom::On(x, y) => put_words(out, &[b"on", x.bytes(), y.bytes()]),
@@ -104,7 +104,7 @@ fn put_atom(out: &mut Vec<u8>, atom: &RawAtom) -> Result<(), AllocError>
 
 /// A negated atom: an equality by its sign, and any other atom by a word before it.
 fn put_not(out: &mut Vec<u8>, atom: &RawAtom) -> Result<(), AllocError>
-    ensures { OnOk result (out.new.items ≡ out.old.items ++ spaced (not_words atom.now)) }
+    ensures { OnOk result (out.new.items ≡ out.old.items ++ with_spaces (not_words atom.now)) }
 {
     match atom {
         RawAtom::Equal(x, y) => put_words(out, &[x.bytes(), b"!=", y.bytes()]),
@@ -118,7 +118,7 @@ fn put_not(out: &mut Vec<u8>, atom: &RawAtom) -> Result<(), AllocError>
 
 /// Writes a literal, each word after a space. It fails only out of memory.
 pub fn put_literal(out: &mut Vec<u8>, lit: &RawLit) -> Result<(), AllocError>
-    ensures { OnOk result (out.new.items ≡ out.old.items ++ spaced (lit_words lit.now)) }
+    ensures { OnOk result (out.new.items ≡ out.old.items ++ with_spaces (lit_words lit.now)) }
 {
     if lit.neg {
         put_not(out, &lit.atom)
@@ -129,7 +129,7 @@ pub fn put_literal(out: &mut Vec<u8>, lit: &RawLit) -> Result<(), AllocError>
 
 /// More literals, each after a semicolon.
 fn put_more_literals(out: &mut Vec<u8>, lits: &[RawLit]) -> Result<(), AllocError>
-    ensures { OnOk result (out.new.items ≡ out.old.items ++ spaced (more_words lits.now)) }
+    ensures { OnOk result (out.new.items ≡ out.old.items ++ with_spaces (more_words lits.now)) }
 {
     for lit in lits {
         put(out, b";")?;
@@ -140,7 +140,7 @@ fn put_more_literals(out: &mut Vec<u8>, lits: &[RawLit]) -> Result<(), AllocErro
 
 /// Literals with a semicolon between two.
 pub(crate) fn put_literals(out: &mut Vec<u8>, lits: &[RawLit]) -> Result<(), AllocError>
-    ensures { OnOk result (out.new.items ≡ out.old.items ++ spaced (lits_words lits.now)) }
+    ensures { OnOk result (out.new.items ≡ out.old.items ++ with_spaces (lits_words lits.now)) }
 {
     match lits {
         [] => Ok(()),

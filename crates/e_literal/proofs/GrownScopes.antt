@@ -6,7 +6,7 @@ use Rattle.e_literal.specs.declared.object.Sort.{Sort}
 use Rattle.e_literal.specs.declared.object.Sort.TheVariants.{Point, Line, Circle}
 use Rattle.e_literal.specs.declared.object.Obj.{Obj}
 use Rattle.e_literal.specs.Literal.{count_of}
-use Rattle.e_literal.specs.Scopes.{nothing, with_one, grown, next_objects}
+use Rattle.e_literal.specs.Scopes.{nothing, with_one, with_sorts, next_objects}
 
 -- ---- by one object
 
@@ -38,7 +38,7 @@ total_grows s Line = omega arith
 total_grows s Circle = omega arith
 
 -- there are as many more as the list has sorts
-pub total_grown : (s : Scope) (sorts : List Sort) → total (grown s sorts) ≡ total s + length sorts
+pub total_grown : (s : Scope) (sorts : List Sort) → total (with_sorts s sorts) ≡ total s + length sorts
 total_grown s [] = omega arith
 total_grown s (sort ∷ sorts) = omega (arith, total_grown (with_one s sort) sorts, total_grows s sort)
 
@@ -60,11 +60,11 @@ bounds_then : (s t u : Scope) (n m : ℕ) → m ≡ n + 1 → Bounds s t 1 → B
 bounds_then s t u n m e h k =
     record { points = omega arith; lines = omega arith; circles = omega arith; few_points = omega arith; few_lines = omega arith; few_circles = omega arith }
 
-pub grown_bounds : (s : Scope) (sorts : List Sort) → Bounds s (grown s sorts) (length sorts)
+pub grown_bounds : (s : Scope) (sorts : List Sort) → Bounds s (with_sorts s sorts) (length sorts)
 grown_bounds s [] = record { points = omega arith; lines = omega arith; circles = omega arith; few_points = omega arith; few_lines = omega arith; few_circles = omega arith }
 grown_bounds s (sort ∷ sorts) =
     let more : length (sort ∷ sorts) ≡ length sorts + 1 = omega arith in
-    bounds_then s (with_one s sort) (grown (with_one s sort) sorts) (length sorts) (length (sort ∷ sorts)) more (with_one_bounds s sort) (grown_bounds (with_one s sort) sorts)
+    bounds_then s (with_one s sort) (with_sorts (with_one s sort) sorts) (length sorts) (length (sort ∷ sorts)) more (with_one_bounds s sort) (grown_bounds (with_one s sort) sorts)
 
 -- ---- counts and sorts
 
@@ -78,7 +78,7 @@ count_one s Point = refl
 count_one s Line = refl
 count_one s Circle = refl
 
-pub grown-append : (s : Scope) (xs ys : List Sort) → grown s (xs ++ ys) ≡ grown (grown s xs) ys
+pub grown-append : (s : Scope) (xs ys : List Sort) → with_sorts s (xs ++ ys) ≡ with_sorts (with_sorts s xs) ys
 grown-append s [] ys = refl
 grown-append s (x ∷ xs) ys = grown-append (with_one s x) xs ys
 

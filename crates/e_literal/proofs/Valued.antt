@@ -21,7 +21,7 @@ use Rattle.e_literal.specs.Literal.{kind_of_atom}
 use Rattle.e_literal.specs.Same.{canonical, term_eq, one_term, coeff_of, agree, same_atom, same_neg, same_lit, EqualNormal}
 use Rattle.e_literal.specs.Truth.{value_of, metric_atom_holds, holds}
 use Rattle.e_literal.specs.Rows.{Row, Zero, AtLeast, More, Not, Summands, coefficient, times, is_degenerate, normal_summands, row, plus, minus, negative, row_of_atom, row_of_lit}
-use Rattle.e_literal.specs.Solution.{form_value, IsSo, carried}
+use Rattle.e_literal.specs.Solution.{form_value, IsSo, values_for_all}
 use Rattle.e_literal.proofs.Arith.{sums, neg_mul}
 use Rattle.e_literal.proofs.Terms.{term_eq_is, equal_terms}
 use Rattle.e_literal.proofs.Agreeing.{agree_equal}
@@ -52,15 +52,15 @@ pub difference : (x y : List Mono) (v : Term → ℕ) → form_value (plus x ++ 
 difference x y v = omega (arith, sums, form-append (plus x) (minus y) v, form-plus x v, form-minus y v)
 
 -- a form has the value of its normal form
-pub normal_value : (form : Summands) (w : Term → ℕ) → form_value (normal_summands form) w ≡ form_value form (carried w)
+pub normal_value : (form : Summands) (w : Term → ℕ) → form_value (normal_summands form) w ≡ form_value form (values_for_all w)
 normal_value [] w = refl
 normal_value (p ∷ ps) w = by (is_degenerate p.1) (normal_value ps w)
   where
     rest : Summands
     rest = filter (λ (q : ℤ × Term). not (is_degenerate q.1)) ps
 
-    by : (b : Bool) → form_value (normal_summands ps) w ≡ form_value ps (carried w) → form_value (map (λ (q : ℤ × Term). times q.0 (canonical q.1)) (cond (not b) (p ∷ rest) rest)) w
-        ≡ p.0 *ℤ pos (cond b 0 (w (canonical p.1))) +ℤ form_value ps (carried w)
+    by : (b : Bool) → form_value (normal_summands ps) w ≡ form_value ps (values_for_all w) → form_value (map (λ (q : ℤ × Term). times q.0 (canonical q.1)) (cond (not b) (p ∷ rest) rest)) w
+        ≡ p.0 *ℤ pos (cond b 0 (w (canonical p.1))) +ℤ form_value ps (values_for_all w)
     by true ih = omega (arith, sums, *ℤ-zero p.0, ih)
     by false ih = ap (λ z. p.0 *ℤ pos (w (canonical p.1)) +ℤ z) ih
 
@@ -197,9 +197,9 @@ same_form x y z w h t =
 -- ---- literals that are the same
 
 pub same_difference : (x y z w : List Mono) (u : Term → ℕ) → agree x y z w ≡ true
-    → value_of (carried u) x + value_of (carried u) w ≡ value_of (carried u) z + value_of (carried u) y
+    → value_of (values_for_all u) x + value_of (values_for_all u) w ≡ value_of (values_for_all u) z + value_of (values_for_all u) y
 same_difference x y z w u h =
-    let v = carried u in
+    let v = values_for_all u in
     let e : form_value (plus x ++ minus y) v ≡ form_value (plus z ++ minus w) v =
     sym (normal_value (plus x ++ minus y) u)
     ∙ form_value_same (normal_summands (plus x ++ minus y)) (normal_summands (plus z ++ minus w)) u (same_form x y z w ((agree_equal x y z w).0 h))
@@ -277,13 +277,13 @@ lt_moved : (a b c d : ℕ) → a + d ≡ c + b → nat_lt a b ≡ nat_lt c d
 lt_moved a b c d e = grind (arith, nat_tests)
 
 -- what is the same as a true literal is true
-pub holds_same : (f l : Lit) (u : Term → ℕ) → same_lit f l ≡ true → holds (carried u) f ≡ true → holds (carried u) l ≡ true
+pub holds_same : (f l : Lit) (u : Term → ℕ) → same_lit f l ≡ true → holds (values_for_all u) f ≡ true → holds (values_for_all u) l ≡ true
 holds_same f l u h g =
     let sign : f.neg ≡ l.neg = same_neg_is f.neg l.neg (and_left (same_neg f.neg l.neg) (same_atom f.atom l.atom) h) in
-    atoms (split l.atom) (and_right (same_neg f.neg l.neg) (same_atom f.atom l.atom) h) (sym (ap (metric_atom_holds (carried u) f.atom) sign) ∙ g)
+    atoms (split l.atom) (and_right (same_neg f.neg l.neg) (same_atom f.atom l.atom) h) (sym (ap (metric_atom_holds (values_for_all u) f.atom) sign) ∙ g)
   where
     v : Term → ℕ
-    v = carried u
+    v = values_for_all u
 
     equations : (x y z w : List Mono) → (agree x y z w || agree x y w z) ≡ true → metric_atom_holds v (MagEq x y) l.neg ≡ metric_atom_holds v (MagEq z w) l.neg
     equations x y z w k =
@@ -325,31 +325,31 @@ not_eqb_of a b h = elim (cases_Bool (eqb a b)) [
 
 -- what the row of an atom says is so exactly where the atom is true
 abbrev IsSoWhere : (Term → ℕ) → Atom → Bool → Row → Type 0
-IsSoWhere w a neg r = (metric_atom_holds (carried w) a neg ≡ true → IsSo r.sense (form_value r.form w)) × (IsSo r.sense (form_value r.form w) → metric_atom_holds (carried w) a neg ≡ true)
+IsSoWhere w a neg r = (metric_atom_holds (values_for_all w) a neg ≡ true → IsSo r.sense (form_value r.form w)) × (IsSo r.sense (form_value r.form w) → metric_atom_holds (values_for_all w) a neg ≡ true)
 
-row_value : (w : Term → ℕ) (x y : List Mono) → form_value (normal_summands (plus x ++ minus y)) w ≡ pos (value_of (carried w) x) -ℤ pos (value_of (carried w) y)
-row_value w x y = normal_value (plus x ++ minus y) w ∙ difference x y (carried w)
+row_value : (w : Term → ℕ) (x y : List Mono) → form_value (normal_summands (plus x ++ minus y)) w ≡ pos (value_of (values_for_all w) x) -ℤ pos (value_of (values_for_all w) y)
+row_value w x y = normal_value (plus x ++ minus y) w ∙ difference x y (values_for_all w)
 
 equation_row : (w : Term → ℕ) (x y : List Mono) (neg : Bool) → IsSoWhere w (MagEq x y) neg (row (cond neg Not Zero) (plus x ++ minus y))
 equation_row w x y true = (
-  λ t z. eqb_apart (value_of (carried w) x) (value_of (carried w) y) t (let d = sym (row_value w x y) ∙ z in omega (arith, ints, d)),
-  λ n. not_eqb_of (value_of (carried w) x) (value_of (carried w) y) (λ e. n (row_value w x y ∙ omega (arith, ints, e))),
+  λ t z. eqb_apart (value_of (values_for_all w) x) (value_of (values_for_all w) y) t (let d = sym (row_value w x y) ∙ z in omega (arith, ints, d)),
+  λ n. not_eqb_of (value_of (values_for_all w) x) (value_of (values_for_all w) y) (λ e. n (row_value w x y ∙ omega (arith, ints, e))),
 )
 equation_row w x y false = (
-  λ t. row_value w x y ∙ (let e = eqb-true (value_of (carried w) x) (value_of (carried w) y) t in omega (arith, ints, e)),
-  λ z. eq-eqb (value_of (carried w) x) (value_of (carried w) y) (let d = sym (row_value w x y) ∙ z in omega (arith, ints, d)),
+  λ t. row_value w x y ∙ (let e = eqb-true (value_of (values_for_all w) x) (value_of (values_for_all w) y) t in omega (arith, ints, e)),
+  λ z. eq-eqb (value_of (values_for_all w) x) (value_of (values_for_all w) y) (let d = sym (row_value w x y) ∙ z in omega (arith, ints, d)),
 )
 
 order_row : (w : Term → ℕ) (x y : List Mono) → IsSoWhere w (MagLt x y) false (row More (plus y ++ minus x))
 order_row w x y = (
-  λ t. subst (λ z. pos 0 <ℤ z) (sym (row_value w y x)) (let l = ltb-true (value_of (carried w) x) (value_of (carried w) y) t in omega (arith, sums, l)),
-  λ g. lt-ltb (value_of (carried w) x) (value_of (carried w) y) (let d = row_value w y x in omega (arith, sums, g, d)),
+  λ t. subst (λ z. pos 0 <ℤ z) (sym (row_value w y x)) (let l = ltb-true (value_of (values_for_all w) x) (value_of (values_for_all w) y) t in omega (arith, sums, l)),
+  λ g. lt-ltb (value_of (values_for_all w) x) (value_of (values_for_all w) y) (let d = row_value w y x in omega (arith, sums, g, d)),
 )
 
 not_order_row : (w : Term → ℕ) (x y : List Mono) → IsSoWhere w (MagLt x y) true (row AtLeast (plus x ++ minus y))
 not_order_row w x y = (
-  λ t. subst (λ z. pos 0 ≤ℤ z) (sym (row_value w x y)) (let l = lt_not (value_of (carried w) x) (value_of (carried w) y) t in omega (arith, sums, l)),
-  λ g. not_lt_of (value_of (carried w) x) (value_of (carried w) y) (let d = row_value w x y in omega (arith, sums, g, d)),
+  λ t. subst (λ z. pos 0 ≤ℤ z) (sym (row_value w x y)) (let l = lt_not (value_of (values_for_all w) x) (value_of (values_for_all w) y) t in omega (arith, sums, l)),
+  λ g. not_lt_of (value_of (values_for_all w) x) (value_of (values_for_all w) y) (let d = row_value w x y in omega (arith, sums, g, d)),
 )
 
 row_where : (w : Term → ℕ) (a : Atom) (neg : Bool) (r : Row) → row_of_atom a neg ≡ Some r → (IsMagEq a ⊎ IsMagLt a) ⊎ IsDiagram a → IsSoWhere w a neg r
@@ -368,11 +368,11 @@ row_where w a false r e (inl (inr p)) =
 row_where w a neg r e (inr d) = absurd (none-some r (sym (d.no_row neg) ∙ e))
 
 -- the row of a true literal is so
-pub so_of_holds : (l : Lit) (r : Row) (w : Term → ℕ) → row_of_lit l ≡ Some r → holds (carried w) l ≡ true → IsSo r.sense (form_value r.form w)
+pub so_of_holds : (l : Lit) (r : Row) (w : Term → ℕ) → row_of_lit l ≡ Some r → holds (values_for_all w) l ≡ true → IsSo r.sense (form_value r.form w)
 so_of_holds l r w e h = (row_where w l.atom l.neg r e (split l.atom)).0 h
 
 -- a literal whose row is so is true
-pub holds_of_so : (l : Lit) (r : Row) (w : Term → ℕ) → row_of_lit l ≡ Some r → IsSo r.sense (form_value r.form w) → holds (carried w) l ≡ true
+pub holds_of_so : (l : Lit) (r : Row) (w : Term → ℕ) → row_of_lit l ≡ Some r → IsSo r.sense (form_value r.form w) → holds (values_for_all w) l ≡ true
 holds_of_so l r w e h = (row_where w l.atom l.neg r e (split l.atom)).1 h
 
 -- ---- coefficients of negatives

@@ -29,5 +29,5 @@ pub record HasSolution (rows : List Row) : Type 0 where
 
 -- values of terms that are written one way, for all terms: terms that are one term have one value,
 -- and those that are 0 have 0
-abbrev pub carried : (Term → ℕ) → Term → ℕ
-carried values t = if is_degenerate t then 0 else values (canonical t)
+abbrev pub values_for_all : (Term → ℕ) → Term → ℕ
+values_for_all values t = if is_degenerate t then 0 else values (canonical t)

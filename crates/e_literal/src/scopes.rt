@@ -80,11 +80,11 @@ pub fn with_one(scope: Scope, sort: Sort) -> Scope
 
 /// The scope with one more object for each sort of the list.
 #[tactic(auto, using(crate::proofs::GrownScopes::growing))]
-pub fn grown(scope: Scope, sorts: &[Sort]) -> Scope
+pub fn with_sorts(scope: Scope, sorts: &[Sort]) -> Scope
     requires points { scope.points + length sorts.now < 2 ^ 16 }
     requires lines { scope.lines + length sorts.now < 2 ^ 16 }
     requires circles { scope.circles + length sorts.now < 2 ^ 16 }
-    ensures { result ≡ Scopes.grown scope sorts.now }
+    ensures { result ≡ Scopes.with_sorts scope sorts.now }
 {
     let mut scope = scope;
     for sort in sorts {

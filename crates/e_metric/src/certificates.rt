@@ -148,8 +148,7 @@ fn two_sums(
     row: usize,
     above: &[i128],
     below: &[i128],
-) -> Result<Sums, AllocError>
-{
+) -> Result<Sums, AllocError> {
     let mut first = names.rows_not_zero(alloc, above, Some((row, &RowName::Above)))?;
     add_leasts(&mut first, alloc, rows, above, terms)?;
     let weights = negated_at(alloc, below, row)?;

@@ -56,8 +56,7 @@ fn system_of_prepared(
     names: Vec<RowName>,
     terms: Vec<Term>,
     prepared: Prepared,
-) -> Result<KindSystem, AllocError>
-{
+) -> Result<KindSystem, AllocError> {
     match prepared {
         Prepared::TooWide => {
             let width = system_width(alloc, which, facts, None)?;
@@ -222,5 +221,12 @@ fn with_further_facts(
         rows.push(row)?;
     }
     terms.extend_from_slice(&fresh)?;
-    system_of_prepared(alloc, which, facts, names, terms, solved_rows.with(alloc, rows)?)
+    system_of_prepared(
+        alloc,
+        which,
+        facts,
+        names,
+        terms,
+        solved_rows.with(alloc, rows)?,
+    )
 }

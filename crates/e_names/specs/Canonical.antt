@@ -28,12 +28,12 @@ use Rattle.e_names.specs.TitledStatements.{TitledStatement, title_at}
 -- ---- literals
 
 -- what is written for an object without a name: no object that is in scope is one
-abbrev pub nameless : List ℕ
-nameless = codes "nameless"
+abbrev pub missing_name : List ℕ
+missing_name = codes "nameless"
 
 -- the name of an object
 abbrev pub name_at : List (List ℕ) → ℕ → List ℕ
-name_at names i = slice_index_or names i nameless
+name_at names i = slice_index_or names i missing_name
 
 abbrev pub name_of_object : Names → Obj → List ℕ
 name_of_object ns o = name_at (names_of_sort ns o.sort) o.num

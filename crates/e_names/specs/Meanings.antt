@@ -3,7 +3,7 @@ use Rattle.std.specs.Prelude.{ℕ, ◌+◌, ◌-◌, ◌==◌, List, [], ◌∷�
 use Rattle.std.specs.Prelude.{None, Result, Ok, Err}
 use Rattle.e_literal.specs.declared.literal.Lit.{Lit}
 use Rattle.e_theorem.specs.declared.notion.Notion.{Notion}
-use Rattle.e_theorem.specs.Notions.{expanded}
+use Rattle.e_theorem.specs.Notions.{literals_of_notion}
 use Rattle.e_deriv.specs.declared.names.Names.{Names}
 use Rattle.e_line.specs.declared.fault.FaultKind.{FaultKind}
 use Rattle.e_line.specs.declared.fault.FaultKind.TheVariants.{UnknownName}
@@ -26,7 +26,7 @@ meant_in notions ns most raw = do
   n ← known_notion (notion_of notions raw.title)
   right ← right_count (length raw.args == length n.declared)
   args ← objects_of_sorts ns n.declared raw.args
-  Ok (take most (expanded n args (scope_of_names ns)))
+  Ok (take most (literals_of_notion n args (scope_of_names ns)))
 
 -- what an item means, and how many literals of the line are of notions, of which this many
 -- come before it. One more than a theorem may have is for all that are too many: then the line

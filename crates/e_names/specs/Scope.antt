@@ -78,15 +78,15 @@ known_object None = Err UnknownName
 known_object (Some o) = Ok o
 
 -- a name that is used
-abbrev pub used : Names → List ℕ → Result Obj FaultKind
-used ns name = known_object (object_of ns name)
+abbrev pub used_object : Names → List ℕ → Result Obj FaultKind
+used_object ns name = known_object (object_of ns name)
 
 abbrev pub number_of_sort : Sort → Obj → Result ℕ FaultKind
 number_of_sort sort o = if same_sort o.sort sort then Ok o.num else Err WrongSort
 
 -- the number of an object of this sort
 unfoldable pub number_of_name : Names → Sort → List ℕ → Result ℕ FaultKind
-number_of_name ns sort name = used ns name >>= λ o. number_of_sort sort o
+number_of_name ns sort name = used_object ns name >>= λ o. number_of_sort sort o
 
 -- ---- sums
 
@@ -146,7 +146,7 @@ line_meets l sorts.Circle n = Ok (atoms.MeetLC l n)
 -- what meets: after a line a line or a circle, after a circle a circle
 abbrev pub meets_from : Names → Sort → ℕ → List ℕ → Result Atom FaultKind
 meets_from ns sorts.Point n y = Err WrongSort
-meets_from ns sorts.Line n y = used ns y >>= λ o. line_meets n o.sort o.num
+meets_from ns sorts.Line n y = used_object ns y >>= λ o. line_meets n o.sort o.num
 meets_from ns sorts.Circle n y = number_of_name ns sorts.Circle y >>= λ k. Ok (atoms.MeetCC n k)
 
 -- two equal objects of a sort
@@ -157,7 +157,7 @@ equal_at sorts.Circle a b = atoms.EqC a b
 
 unfoldable pub atom_in : Names → RawAtom → Result Atom FaultKind
 atom_in ns (raw.On x y) =
-    number_of_name ns sorts.Point x >>= λ a. used ns y >>= λ o. on_sort a o.sort o.num
+    number_of_name ns sorts.Point x >>= λ a. used_object ns y >>= λ o. on_sort a o.sort o.num
 atom_in ns (raw.Inside x y) =
     number_of_name ns sorts.Point x >>= λ a. number_of_name ns sorts.Circle y
     >>= λ c. Ok (atoms.Inside a c)
@@ -170,9 +170,9 @@ atom_in ns (raw.Between x y z) =
 atom_in ns (raw.Same x y z) =
     number_of_name ns sorts.Point x >>= λ a. number_of_name ns sorts.Point y
     >>= λ b. number_of_name ns sorts.Line z >>= λ l. Ok (atoms.Same a b l)
-atom_in ns (raw.Meets x y) = used ns x >>= λ o. meets_from ns o.sort o.num y
+atom_in ns (raw.Meets x y) = used_object ns x >>= λ o. meets_from ns o.sort o.num y
 atom_in ns (raw.Equal x y) =
-    used ns x >>= λ o. number_of_name ns o.sort y >>= λ n. Ok (equal_at o.sort o.num n)
+    used_object ns x >>= λ o. number_of_name ns o.sort y >>= λ n. Ok (equal_at o.sort o.num n)
 atom_in ns (raw.SumsEqual x y) = sums_in ns x y >>= λ p. Ok (atoms.MagEq p.0 p.1)
 atom_in ns (raw.SumsLess x y) = sums_in ns x y >>= λ p. Ok (atoms.MagLt p.0 p.1)
 atom_in ns (raw.SumsAtMost x y) = sums_in ns x y >>= λ p. Ok (atoms.MagLt p.1 p.0)
@@ -250,7 +250,7 @@ abbrev pub arguments_in : Names → List Shape → List Obj → List (List ℕ)
     → Result (List Obj) FaultKind
 arguments_in ns shapes found [] = Ok found
 arguments_in ns shapes found (name ∷ names) =
-    used ns name >>= λ o. right_sort (list_any (λ s. takes s (found ++ o ∷ [])) shapes)
+    used_object ns name >>= λ o. right_sort (list_any (λ s. takes s (found ++ o ∷ [])) shapes)
     >>= λ right. arguments_in ns shapes (found ++ o ∷ []) names
 
 abbrev pub construction : Shape → List Obj → List Obj → Construction
@@ -272,7 +272,7 @@ unfoldable pub let_in : Names → RawLet → Result Construction FaultKind
 let_in ns l = do
   free ← fresh ns [] l.new
   args ← arguments_in ns l.shapes [] l.args
-  avoid ← each (used ns) l.avoid
+  avoid ← each (used_object ns) l.avoid
   construction ← first_fitting (scope_of_names ns) args avoid l.shapes
   right ← right_count (length l.new == length (sorts_made construction))
   Ok construction

@@ -11,12 +11,12 @@ pub record Titled : Type 0 where
   pub title : List ℕ
   pub notion : Notion
 
-abbrev pub titled : List ℕ → Notion → Titled
-titled title notion = record { title = title; notion = notion }
+abbrev pub titled_notion : List ℕ → Notion → Titled
+titled_notion title notion = record { title = title; notion = notion }
 
 -- the titles and the notions side by side
 abbrev pub side_by_side : List (List ℕ) → List Notion → List Titled
-side_by_side (t ∷ ts) (n ∷ ns) = titled t n ∷ side_by_side ts ns
+side_by_side (t ∷ ts) (n ∷ ns) = titled_notion t n ∷ side_by_side ts ns
 side_by_side (t ∷ ts) [] = []
 side_by_side [] ns = []
 

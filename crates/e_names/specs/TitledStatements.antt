@@ -12,12 +12,12 @@ pub record TitledStatement : Type 0 where
   pub title : List ℕ
   pub statement : Statement
 
-abbrev pub headed : List ℕ → Statement → TitledStatement
-headed title statement = record { title = title; statement = statement }
+abbrev pub titled_statement : List ℕ → Statement → TitledStatement
+titled_statement title statement = record { title = title; statement = statement }
 
 -- the titles and the statements side by side
 abbrev pub side_by_side : List (List ℕ) → List Statement → List TitledStatement
-side_by_side (t ∷ ts) (s ∷ ss) = headed t s ∷ side_by_side ts ss
+side_by_side (t ∷ ts) (s ∷ ss) = titled_statement t s ∷ side_by_side ts ss
 side_by_side (t ∷ ts) [] = []
 side_by_side [] ss = []
 

@@ -1,9 +1,9 @@
 //! What is known of a book so far: its theorems and its definitions.
 ghost use Rattle.std.specs.Prelude.{◌≡◌, ◌++◌, ◌∷◌, [], OnOk, OnErr, false};
 ghost use Rattle.std.specs.Option.{option_map};
-ghost use Rattle.e_names.specs.TitledStatements.{headed};
+ghost use Rattle.e_names.specs.TitledStatements.{titled_statement};
 ghost use Rattle.e_names.specs.Taken.{nothing_known, is_taken};
-ghost use Rattle.e_names.specs.Titled.{titled, notion_of};
+ghost use Rattle.e_names.specs.Titled.{titled_notion, notion_of};
 
 use crate::notions::Notions;
 use crate::theorems::Theorems;
@@ -40,7 +40,7 @@ impl Known {
     pub fn add(&mut self, title: Title, statement: Statement) -> Result<(), AllocError>
         requires new { is_taken self.old title ≡ false }
         ensures ok { OnOk result (self.new
-            ≡ record self.old { theorems = self.old.theorems ++ headed title statement ∷ [] }) }
+            ≡ record self.old { theorems = self.old.theorems ++ titled_statement title statement ∷ [] }) }
         ensures err { OnErr result (self.new ≡ self.old) }
     {
         self.theorems.add(title, statement)
@@ -50,7 +50,7 @@ impl Known {
     pub fn add_notion(&mut self, title: Title, notion: Notion) -> Result<(), AllocError>
         requires new { is_taken self.old title ≡ false }
         ensures ok { OnOk result (self.new ≡ record self.old {
-          notions = self.old.notions ++ titled title notion ∷ [];
+          notions = self.old.notions ++ titled_notion title notion ∷ [];
         }) }
         ensures err { OnErr result (self.new ≡ self.old) }
     {

@@ -1,6 +1,6 @@
 //! Objects, terms and literals by their names, as a line spells them.
 ghost use Rattle.std.specs.Prelude.{◌≡◌, ◌++◌, map, true, IfOk, OnOk};
-ghost use Rattle.e_names.specs.Canonical.{nameless, name_at, name_of_object, raw_term};
+ghost use Rattle.e_names.specs.Canonical.{missing_name, name_at, name_of_object, raw_term};
 ghost use Rattle.e_names.specs.Canonical.{raw_sum, raw_atom, raw_signed, raw_of};
 
 use e_deriv::Names;
@@ -13,7 +13,7 @@ use std::mem;
 /// What is written for an object without a name.
 #[tactic(auto, unfolding(e_text::specs::Names::reserved_words))]
 fn name_of_none() -> Name
-    ensures { result ≡ nameless }
+    ensures { result ≡ missing_name }
 {
     Name::read(b"nameless").unwrap()
 }

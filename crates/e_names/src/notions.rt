@@ -1,7 +1,7 @@
 //! The defined notions that are known.
 ghost use Rattle.std.specs.Prelude.{◌≡◌, ◌++◌, ◌∷◌, [], OnOk, OnErr, length, false};
 ghost use Rattle.std.specs.Option.{option_map};
-ghost use Rattle.e_names.specs.Titled.{titled, defines, notion_of};
+ghost use Rattle.e_names.specs.Titled.{titled_notion, defines, notion_of};
 
 use e_text::Title;
 use e_theorem::Notion;
@@ -50,7 +50,7 @@ impl Notions {
     /// Puts a notion last. When memory runs out all is as before.
     pub fn add(&mut self, title: Title, notion: Notion) -> Result<(), AllocError>
         requires new { defines self.old title ≡ false }
-        ensures ok { OnOk result (self.new ≡ self.old ++ titled title notion ∷ []) }
+        ensures ok { OnOk result (self.new ≡ self.old ++ titled_notion title notion ∷ []) }
         ensures err { OnErr result (self.new ≡ self.old) }
     {
         if let Err(error) = self.titles.reserve(1) {

@@ -6,7 +6,7 @@ ghost use Rattle.e_clause.specs.Sigs.{sig_of};
 ghost use Rattle.std.specs.List.{list_any};
 ghost use Rattle.e_construct.specs.Lines;
 ghost use Rattle.e_line.specs.Reading.{Gives, Moves, each, with_front};
-ghost use Rattle.e_names.specs.Scope.{object_in, object_of, used, number_of_sort, number_of_name};
+ghost use Rattle.e_names.specs.Scope.{object_in, object_of, used_object, number_of_sort, number_of_name};
 ghost use Rattle.e_names.specs.Scope.{on_sort, line_meets, meets_from, equal_at};
 ghost use Rattle.e_names.specs.Scope.{atom_in, negated_in, lit_in, lits_in, object_as};
 ghost use Rattle.e_names.specs.Scope.{objects_as, is_taken, fresh, args_in, by_in};
@@ -72,7 +72,7 @@ fn object_of(names: &Names, name: Name) -> Option<Obj>
 
 fn object_named(names: &Names, name: Name) -> Result<Obj, LineError>
     requires { FewNames names.now }
-    ensures { Gives (λ o. o) result (used names.now name) }
+    ensures { Gives (λ o. o) result (used_object names.now name) }
 {
     match object_of(names, name) {
         Some(object) => Ok(object),
@@ -375,7 +375,7 @@ fn is_taken_by(shapes: &[Shape], objects: &[Obj]) -> bool
 
 fn objects_used(alloc: Global, names: &Names, of: &[Name]) -> Result<Items<Obj>, LineError>
     requires { FewNames names.now }
-    ensures { Gives (λ l. l) result (each (used names.now) of.now) }
+    ensures { Gives (λ l. l) result (each (used_object names.now) of.now) }
 {
     let mut found = Items::empty(alloc);
     for name in of {

@@ -1,7 +1,7 @@
 //! The theorems that are known.
 ghost use Rattle.std.specs.Prelude.{◌≡◌, ◌++◌, ◌∷◌, [], ◌<◌, ◌≤◌, ◌^◌, OnOk};
 ghost use Rattle.std.specs.Prelude.{OnErr, length, slice_get, Some, false};
-ghost use Rattle.e_names.specs.TitledStatements.{headed, titles, statements};
+ghost use Rattle.e_names.specs.TitledStatements.{titled_statement, titles, statements};
 ghost use Rattle.e_names.specs.TitledStatements.{is_known, place_in, theorem_of};
 ghost use Rattle.e_theorem.specs.Statements.{stated};
 
@@ -52,7 +52,7 @@ impl Theorems {
     /// Puts a theorem last. When memory runs out all is as before.
     pub fn add(&mut self, title: Title, statement: Statement) -> Result<(), AllocError>
         requires new { is_known self.old title ≡ false }
-        ensures ok { OnOk result (self.new ≡ self.old ++ headed title statement ∷ []) }
+        ensures ok { OnOk result (self.new ≡ self.old ++ titled_statement title statement ∷ []) }
         ensures err { OnErr result (self.new ≡ self.old) }
     {
         if let Err(error) = self.titles.reserve(1) {

@@ -13,7 +13,7 @@ use Rattle.e_literal.specs.Literal.{negation}
 use Rattle.e_literal.specs.Same.{same_lit, agree_at}
 use Rattle.e_literal.specs.Facts.{with_fact, with_facts, others}
 use Rattle.e_literal.specs.Rows.{is_degenerate}
-use Rattle.e_literal.specs.Scopes.{grown}
+use Rattle.e_literal.specs.Scopes.{with_sorts}
 use Rattle.e_literal.specs.Use.{StatementView, gives_of_use, scope_of}
 use Rattle.e_clause.specs.declared.cert.RowName.{RowName}
 use Rattle.e_clause.specs.declared.cert.RowName.TheVariants.{Fact, Above, Below, FactAt}
@@ -157,12 +157,12 @@ with_places before (Make construction names certs rest) s facts goal =
     Make construction names
     (certs_with_places facts
     (needs_of before (Make construction names certs rest) s facts goal) certs)
-    (with_places before rest (grown s (sorts_made construction))
+    (with_places before rest (with_sorts s (sorts_made construction))
     (with_facts facts (gives_of_construction construction s)) goal)
 with_places before (Apply theorem args names certs rest) s facts goal =
     Apply theorem args names (certs_with_places facts
     (needs_of before (Apply theorem args names certs rest) s facts goal) certs)
-    (with_places before rest (grown s (theorem_at before theorem).made)
+    (with_places before rest (with_sorts s (theorem_at before theorem).made)
     (with_facts facts (gives_of_use (theorem_at before theorem)
     (args_of (Apply theorem args names certs rest)) s)) goal)
 with_places before (Claim shown inner rest) s facts goal =
@@ -171,7 +171,7 @@ with_places before (Claim shown inner rest) s facts goal =
 with_places before (Superposed superposition names shown certs inner rest) s facts goal =
     Superposed superposition names shown
     (certs_with_places facts (superposing.needs_of_superposition superposition) certs)
-    (with_places before inner (grown s superposing.sorts_copied)
+    (with_places before inner (with_sorts s superposing.sorts_copied)
     (with_facts facts (superposing.gives_of_superposition superposition s)) (goal_of shown))
     (with_places before rest s (with_facts facts shown) goal)
 with_places before (Qed objects certs) s facts goal =

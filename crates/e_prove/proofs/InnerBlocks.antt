@@ -6,7 +6,7 @@ use Rattle.std.proofs.lemmas.Bool.{and_from}
 use Rattle.e_literal.specs.declared.literal.Lit.{Lit}
 use Rattle.e_literal.specs.Literal.{negation, all_in_scope}
 use Rattle.e_literal.specs.Facts.{with_fact, with_facts}
-use Rattle.e_literal.specs.Scopes.{grown}
+use Rattle.e_literal.specs.Scopes.{with_sorts}
 use Rattle.e_literal.specs.Use.{StatementView}
 use Rattle.e_literal.proofs.Booleans.{and_left, and_right, all_left, all_right}
 use Rattle.e_clause.specs.declared.cert.Cert.{Cert}
@@ -187,7 +187,7 @@ superposed_ready before superposition names shown certs inner rest x goal r =
     let facts = x.context.facts in
     let here = Superposed superposition names shown certs inner rest in
     let y = step_from_basis here here x.context goal in
-    let t = grown s superposing.sorts_copied in
+    let t = with_sorts s superposing.sorts_copied in
     let given = with_facts facts (superposing.gives_of_superposition superposition s) in
     let one = placed_steps before inner inner t given (goal_of shown) in
     let other = placed_steps before rest rest s (with_facts facts shown) goal in
@@ -213,7 +213,7 @@ superposed_rest before superposition names shown certs inner derived rest x goal
     let facts = x.context.facts in
     let here = Superposed superposition names shown certs inner rest in
     let y = step_from_basis here here x.context goal in
-    let t = grown s superposing.sorts_copied in
+    let t = with_sorts s superposing.sorts_copied in
     let given = with_facts facts (superposing.gives_of_superposition superposition s) in
     let one = placed_steps before inner inner t given (goal_of shown) in
     let other = placed_steps before rest rest s (with_facts facts shown) goal in
@@ -244,7 +244,7 @@ unfolding placed_steps script_without_certs filled_by has_certs_of
 superposed_derives before superposition names shown written certs inner derived rest more x goal fit over c d m =
     let s = x.context.scope in
     let facts = x.context.facts in
-    let t = grown s superposing.sorts_copied in
+    let t = with_sorts s superposing.sorts_copied in
     let given = with_facts facts (superposing.gives_of_superposition superposition s) in
     record {
       licensed = (
@@ -266,7 +266,7 @@ unfolding placed_steps names_of_steps
 superposed_reaches before superposition names shown written certs inner rest x goal n a i seen fit over c k =
     let s = x.context.scope in
     let facts = x.context.facts in
-    let t = grown s superposing.sorts_copied in
+    let t = with_sorts s superposing.sorts_copied in
     let given = with_facts facts (superposing.gives_of_superposition superposition s) in
     let one = placed_steps before inner k.filled t given (goal_of shown) in
     let other = placed_steps before rest rest s (with_facts facts shown) goal in
@@ -293,7 +293,7 @@ unfolding placed_steps names_of_steps
 superposed_reaches_later before superposition names shown written certs inner derived rest x goal n next a i seen fit over c d count k =
     let s = x.context.scope in
     let facts = x.context.facts in
-    let t = grown s superposing.sorts_copied in
+    let t = with_sorts s superposing.sorts_copied in
     let given = with_facts facts (superposing.gives_of_superposition superposition s) in
     let one = placed_steps before inner derived t given (goal_of shown) in
     let other = placed_steps before rest k.filled s (with_facts facts shown) goal in

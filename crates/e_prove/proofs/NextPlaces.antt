@@ -12,7 +12,7 @@ use Rattle.e_literal.specs.declared.object.Term.{Term}
 use Rattle.e_literal.specs.declared.literal.Lit.{Lit}
 use Rattle.e_literal.specs.Facts.{has, with_fact, with_facts}
 use Rattle.e_literal.specs.declared.object.Obj.{Obj}
-use Rattle.e_literal.specs.Scopes.{grown}
+use Rattle.e_literal.specs.Scopes.{with_sorts}
 use Rattle.e_literal.specs.Use.{StatementView, gives_of_use}
 use Rattle.e_literal.proofs.Booleans.{and_left, and_right}
 use Rattle.e_literal.proofs.GrownScopes.{grown_bounds}
@@ -29,17 +29,17 @@ use Rattle.e_prove.specs.inner.NextPlaces.{after_make, after_apply, after_superp
 
 -- new objects come into scope, and then what is given joins the facts
 pub made_after : (construction : Construction) (names : List (List ℕ)) (x mid after : Place) (sorts : List Sort) (given : List Lit) → sorts ≡ sorts_made construction →
-    given ≡ gives_of_construction construction x.context.scope → mid.context ≡ record x.context { scope = grown x.context.scope sorts } → mid.names ≡ named x.names sorts names →
+    given ≡ gives_of_construction construction x.context.scope → mid.context ≡ record x.context { scope = with_sorts x.context.scope sorts } → mid.names ≡ named x.names sorts names →
     after ≡ record mid { context = record mid.context { facts = with_facts mid.context.facts given } } → after ≡ after_make construction names x
 made_after construction names x mid after sorts given a b c d e = rw (e, c, d, b, a) refl
 
 pub superposed_after : (superposition : Superpose) (names : List (List ℕ)) (x mid after : Place) (sorts : List Sort) (given : List Lit) → sorts ≡ superposing.sorts_copied →
-    given ≡ superposing.gives_of_superposition superposition x.context.scope → mid.context ≡ record x.context { scope = grown x.context.scope sorts } → mid.names ≡ named x.names sorts names →
+    given ≡ superposing.gives_of_superposition superposition x.context.scope → mid.context ≡ record x.context { scope = with_sorts x.context.scope sorts } → mid.names ≡ named x.names sorts names →
     after ≡ record mid { context = record mid.context { facts = with_facts mid.context.facts given } } → after ≡ after_superposed superposition names x
 superposed_after superposition names x mid after sorts given a b c d e = rw (e, c, d, b, a) refl
 
 pub applied_after : (t : StatementView) (args : List Obj) (names : List (List ℕ)) (x mid after : Place) (sorts : List Sort) (given : List Lit) → sorts ≡ t.made →
-    given ≡ gives_of_use t args x.context.scope → mid.context ≡ record x.context { scope = grown x.context.scope sorts } → mid.names ≡ named x.names sorts names →
+    given ≡ gives_of_use t args x.context.scope → mid.context ≡ record x.context { scope = with_sorts x.context.scope sorts } → mid.names ≡ named x.names sorts names →
     after ≡ record mid { context = record mid.context { facts = with_facts mid.context.facts given } } → after ≡ after_apply t args names x
 applied_after t args names x mid after sorts given a b c d e = rw (e, c, d, b, a) refl
 
@@ -57,7 +57,7 @@ joined_end facts all whole i le h =
     sym (ap (with_facts facts) e) ∙ h
 
 -- no object goes when some come
-pub within_grown : (s t : Scope) (sorts : List Sort) → t ≡ grown s sorts → IsWithin s t
+pub within_grown : (s t : Scope) (sorts : List Sort) → t ≡ with_sorts s sorts → IsWithin s t
 within_grown s t sorts e =
     let b = grown_bounds s sorts in
     subst (IsWithin s) (sym e) (record { points = b.points; lines = b.lines; circles = b.circles })
@@ -106,19 +106,19 @@ good_left before x all left l rest same whole split h =
 
 -- what a construction gives may join the facts once its objects are in scope
 pub good_given : (construction : Construction) (x wider : Basis) (sorts : List Sort) (given : List Lit) → sorts ≡ sorts_made construction → given ≡ gives_of_construction construction x.scope →
-    wider ≡ record x { scope = grown x.scope sorts } → are_limited_facts (grown x.scope (sorts_made construction)) (with_facts x.facts (gives_of_construction construction x.scope)) ≡ true →
+    wider ≡ record x { scope = with_sorts x.scope sorts } → are_limited_facts (with_sorts x.scope (sorts_made construction)) (with_facts x.facts (gives_of_construction construction x.scope)) ≡ true →
     are_limited_facts wider.scope (with_facts wider.facts given) ≡ true
 good_given construction x wider sorts given a b c h = rw (c, b, a) h
 
 -- and what a superposition gives
 pub good_superposed : (superposition : Superpose) (x wider : Basis) (sorts : List Sort) (given : List Lit) → sorts ≡ superposing.sorts_copied → given ≡ superposing.gives_of_superposition superposition x.scope →
-    wider ≡ record x { scope = grown x.scope sorts } → are_limited_facts (grown x.scope superposing.sorts_copied) (with_facts x.facts (superposing.gives_of_superposition superposition x.scope)) ≡ true →
+    wider ≡ record x { scope = with_sorts x.scope sorts } → are_limited_facts (with_sorts x.scope superposing.sorts_copied) (with_facts x.facts (superposing.gives_of_superposition superposition x.scope)) ≡ true →
     are_limited_facts wider.scope (with_facts wider.facts given) ≡ true
 good_superposed superposition x wider sorts given a b c h = rw (c, b, a) h
 
 -- what an application gives may join the facts once its objects are in scope
 pub good_applied : (t : StatementView) (args : List Obj) (x wider : Basis) (sorts : List Sort) (given : List Lit) → sorts ≡ t.made → given ≡ gives_of_use t args x.scope →
-    wider ≡ record x { scope = grown x.scope sorts } → are_limited_facts (grown x.scope t.made) (with_facts x.facts (gives_of_use t args x.scope)) ≡ true →
+    wider ≡ record x { scope = with_sorts x.scope sorts } → are_limited_facts (with_sorts x.scope t.made) (with_facts x.facts (gives_of_use t args x.scope)) ≡ true →
     are_limited_facts wider.scope (with_facts wider.facts given) ≡ true
 good_applied t args x wider sorts given a b c h = rw (c, b, a) h
 

@@ -7,7 +7,7 @@ use Rattle.e_literal.specs.declared.object.Scope.{Scope}
 use Rattle.e_literal.specs.declared.literal.Lit.{Lit}
 use Rattle.e_literal.specs.Facts.{with_fact, with_facts}
 use Rattle.e_literal.specs.declared.object.Obj.{Obj}
-use Rattle.e_literal.specs.Scopes.{grown}
+use Rattle.e_literal.specs.Scopes.{with_sorts}
 use Rattle.e_literal.specs.Use.{StatementView, gives_of_use}
 use Rattle.e_literal.proofs.Booleans.{and_left, and_right}
 use Rattle.e_theorem.specs.Choice.{is_choice}
@@ -98,7 +98,7 @@ make_lits before construction names certs rest x goal r =
     let s = x.context.scope in
     let here = Make construction names certs rest in
     let both = (r.lits here).1 (fits_first before here x goal r) in
-    record { needs = both.0; after = first_facts before rest rest (grown s (sorts_made construction)) (with_facts x.context.facts (gives_of_construction construction s)) goal both.1 }
+    record { needs = both.0; after = first_facts before rest rest (with_sorts s (sorts_made construction)) (with_facts x.context.facts (gives_of_construction construction s)) goal both.1 }
 
 pub make_good : (before : List StatementView) (construction : Construction) (names : List (List ℕ)) (certs : List Cert) (x : Place) (n : ℕ) → IsReadyStep before (MakeStep construction names certs) x n →
     LineReady x.context.scope (needs_of_construction construction) (after_make construction names x)
@@ -131,7 +131,7 @@ apply_lits before theorem pattern names certs rest x goal r lt args h =
     let os = written (filled_in args) in
     let low : ltb theorem (length before) ≡ true = and_left (ltb theorem (length before)) (is_pattern t s pattern) (fits_first before (Apply theorem pattern names certs rest) x goal r) in
     let both = (r.lits f).1 (and_from (ltb theorem (length before)) (is_choice t s pattern os) low h) in
-    record { needs = both.0; after = first_facts before rest rest (grown s t.made) (with_facts x.context.facts (gives_of_use t os s)) goal both.1 }
+    record { needs = both.0; after = first_facts before rest rest (with_sorts s t.made) (with_facts x.context.facts (gives_of_use t os s)) goal both.1 }
 
 apply_can : (before : List StatementView) (theorem : ℕ) (pattern : List (Option Obj)) (names : List (List ℕ)) (certs : List Cert) (rest : Script) (x : Place) (goal : Goal) →
     IsReadyFor before (Apply theorem pattern names certs rest) x goal → ApplyReady before theorem pattern x

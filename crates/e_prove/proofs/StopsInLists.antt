@@ -9,7 +9,7 @@ use Rattle.e_literal.specs.declared.object.Scope.{Scope}
 use Rattle.e_literal.specs.declared.literal.Lit.{Lit}
 use Rattle.e_literal.specs.Literal.{negation}
 use Rattle.e_literal.specs.Facts.{with_fact, with_facts}
-use Rattle.e_literal.specs.Scopes.{grown}
+use Rattle.e_literal.specs.Scopes.{with_sorts}
 use Rattle.e_literal.specs.Use.{StatementView, gives_of_use}
 use Rattle.e_construct.specs.Construct.{sorts_made, gives_of_construction}
 use Rattle.e_construct.specs.Superposing as superposing
@@ -199,11 +199,11 @@ tests_again before p b (Hence lit cert rest) f f' s facts facts' goal =
     both_same _ _ _ _ (b.same (Hence lit cert rest) f f' s facts facts' goal) (tests_again before p b rest (rest_of f) (rest_of f') s (with_fact facts lit) (with_fact facts' lit) goal)
 tests_again before p b (Make construction names certs rest) f f' s facts facts' goal =
     both_same _ _ _ _ (b.same (Make construction names certs rest) f f' s facts facts' goal)
-    (tests_again before p b rest (rest_of f) (rest_of f') (grown s (sorts_made construction)) (with_facts facts (gives_of_construction construction s)) (with_facts facts' (gives_of_construction construction s)) goal)
+    (tests_again before p b rest (rest_of f) (rest_of f') (with_sorts s (sorts_made construction)) (with_facts facts (gives_of_construction construction s)) (with_facts facts' (gives_of_construction construction s)) goal)
 tests_again before p b (Apply theorem args names certs rest) f f' s facts facts' goal =
     let t = theorem_at before theorem in
     both_same _ _ _ _ (b.same (Apply theorem args names certs rest) f f' s facts facts' goal)
-    (tests_again before p b rest (rest_of f) (rest_of f') (grown s t.made) (with_facts facts (gives_of_use t (args_of f) s)) (with_facts facts' (gives_of_use t (args_of f') s)) goal)
+    (tests_again before p b rest (rest_of f) (rest_of f') (with_sorts s t.made) (with_facts facts (gives_of_use t (args_of f) s)) (with_facts facts' (gives_of_use t (args_of f') s)) goal)
 tests_again before p b (Claim shown inner rest) f f' s facts facts' goal =
     both_same _ _ _ _ (b.same (Claim shown inner rest) f f' s facts facts' goal)
     (both_lists p (placed_steps before inner (inner_of f) s facts (goal_of shown)) (placed_steps before inner (inner_of f') s facts' (goal_of shown))
@@ -211,7 +211,7 @@ tests_again before p b (Claim shown inner rest) f f' s facts facts' goal =
     (tests_again before p b inner (inner_of f) (inner_of f') s facts facts' (goal_of shown))
     (tests_again before p b rest (rest_of f) (rest_of f') s (with_facts facts shown) (with_facts facts' shown) goal))
 tests_again before p b (Superposed superposition names shown certs inner rest) f f' s facts facts' goal =
-    let g = grown s superposing.sorts_copied in
+    let g = with_sorts s superposing.sorts_copied in
     let given = superposing.gives_of_superposition superposition s in
     both_same _ _ _ _ (b.same (Superposed superposition names shown certs inner rest) f f' s facts facts' goal)
     (both_lists p (placed_steps before inner (inner_of f) g (with_facts facts given) (goal_of shown)) (placed_steps before inner (inner_of f') g (with_facts facts' given) (goal_of shown))

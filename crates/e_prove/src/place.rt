@@ -16,7 +16,7 @@ use e_construct::{Construction, Superpose};
 use e_deriv::Names;
 use e_facts::Facts;
 use e_licence::Context;
-use e_literal::{Lit, NOTHING, Sort, copy, grown, negate};
+use e_literal::{Lit, NOTHING, Sort, copy, negate, with_sorts};
 use e_names::put_names;
 use e_text::Name;
 use e_theorem::Statement;
@@ -44,7 +44,7 @@ impl Place {
             (facts_of_statement (stated statement.now))) }
         ensures { IfOk result (λ x. x ≡ start_with_names (stated statement.now) names.now) }
     {
-        let scope = grown(NOTHING, statement.declared.items());
+        let scope = with_sorts(NOTHING, statement.declared.items());
         let names = names.first(alloc, scope)?;
         let facts = match facts_of(alloc, statement.given.items()) {
             Ok(facts) => facts,
@@ -127,10 +127,10 @@ impl Place {
         requires lines { self.old.context.scope.lines + length sorts.now < 2 ^ 16 }
         requires circles { self.old.context.scope.circles + length sorts.now < 2 ^ 16 }
         ensures scope { OnOk result (self.new.context
-            ≡ record self.old.context { scope = Scopes.grown self.old.context.scope sorts.now }) }
+            ≡ record self.old.context { scope = Scopes.with_sorts self.old.context.scope sorts.now }) }
         ensures names { OnOk result (self.new.names ≡ named self.old.names sorts.now names.now) }
     {
-        let scope = grown(self.context.scope(), sorts);
+        let scope = with_sorts(self.context.scope(), sorts);
         self.context.widen(scope);
         put_names(&mut self.names, sorts, names)
     }

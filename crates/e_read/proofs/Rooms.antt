@@ -2,7 +2,7 @@
 use Rattle.std.proofs.Common.{◌≡◌, ℕ, zero, suc, ◌+◌, ◌≤◌, ◌<◌, ◌^◌, true, List, [], ◌∷◌, length, arith}
 use Rattle.std.specs.List.{list_all}
 use Rattle.std.proofs.lemmas.Bool.{and_parts}
-use Rattle.e_literal.specs.Scopes.{nothing, grown}
+use Rattle.e_literal.specs.Scopes.{nothing, with_sorts}
 use Rattle.e_literal.specs.Use.{StatementView}
 use Rattle.e_literal.proofs.GrownScopes.{total, total_grown}
 use Rattle.e_clause.specs.declared.cert.Version.{Version}
@@ -13,12 +13,12 @@ use Rattle.e_book.specs.declared.parser.TheoremParser.{TheoremParser}
 use Rattle.e_read.specs.inner.Machine.{at_start, FitsParser, FitsReading}
 
 -- the objects that are declared and made have numbers
-pub made_fits : (d : TheoremParser) → FitsParser d → let s = grown nothing d.declared in
+pub made_fits : (d : TheoremParser) → FitsParser d → let s = with_sorts nothing d.declared in
     (s.points + length d.made < 2 ^ 16) × (s.lines + length d.made < 2 ^ 16) × (s.circles + length d.made < 2 ^ 16)
 made_fits d f =
     let t = total_grown nothing d.declared in
     let n = f.scope.names in
-    let few : total (grown nothing d.declared) + length d.made < 2 ^ 16 = omega (arith, t, f.scope.declared, f.made, n.points, n.lines, n.circles) in
+    let few : total (with_sorts nothing d.declared) + length d.made < 2 ^ 16 = omega (arith, t, f.scope.declared, f.made, n.points, n.lines, n.circles) in
     (omega (arith, few), omega (arith, few), omega (arith, few))
 
 -- no line has come yet

@@ -9,7 +9,7 @@ use crate::kept::CertQueue;
 use e_cert::{Certs, StepCerts};
 use e_clause::{Against, Cert};
 use e_deriv::{
-    Block, Close, Step, claim, copy_by, copy_construction, copy_names, cases, superpose,
+    Block, Close, Step, cases, claim, copy_by, copy_construction, copy_names, superpose,
 };
 use e_literal::{Items, copy};
 use std::alloc::{AllocError, Global};

@@ -23,7 +23,7 @@ ghost use Rattle.e_read.specs.inner.Needs.{open_goal, one_each, due_of};
 use e_book::{BlockKind, OpenBlock, TheoremParser};
 use e_cert::{Certs, Obligation};
 use e_line::{LineError, RawApply, RawLine};
-use e_literal::{Items, Lit, Map, NOTHING, Obj, Scope, Sort, grown, next_objects};
+use e_literal::{Items, Lit, Map, NOTHING, Obj, Scope, Sort, next_objects, with_sorts};
 use e_names::{Theorems, apply_in, let_in, lit_in, qed_in, scope_of_names, superpose_in};
 use e_text::Name;
 use e_theorem::{Statement, UseFault, all_renamed, use_of};
@@ -148,7 +148,7 @@ fn whole_goal_with(
     ensures { IfOk result (λ ls. ls ≡ Goal.goal_with
         (goal_of_statement (stated (statement_of_parser parser.now))) objects.now) }
 {
-    let declared = grown(NOTHING, parser.declared.items());
+    let declared = with_sorts(NOTHING, parser.declared.items());
     let made = next_objects(alloc, declared, parser.made.items())?;
     with_objects(alloc, &made, parser.shown.items(), objects)
 }

@@ -10,7 +10,7 @@ use Rattle.e_literal.specs.Use.{StatementView}
 use Rattle.e_clause.specs.declared.cert.Version.{Version}
 use Rattle.e_clause.specs.declared.cert.Version.TheVariants.{One}
 use Rattle.e_theorem.specs.declared.notion.Notion.{Notion}
-use Rattle.e_theorem.specs.Notions.{expanded}
+use Rattle.e_theorem.specs.Notions.{literals_of_notion}
 use Rattle.e_theorem.specs.Statements.{stated}
 use Rattle.e_deriv.specs.Script.{Script, script_without_certs}
 use Rattle.e_deriv.specs.Parts.{filled_by}
@@ -32,9 +32,9 @@ use Rattle.e_book.specs.Open.{Head, Stating}
 use Rattle.e_book.specs.Definitions.{PartialItem, InTheorem, after_listed_line}
 use Rattle.e_book.specs.TheoremViews.{TheoremView}
 use Rattle.e_book.specs.HasSpelling.{HasSpelling}
-use Rattle.e_trim.specs.Trimmed.{trimmed}
+use Rattle.e_trim.specs.Trimmed.{trimmed_script}
 use Rattle.e_read.specs.Text.{Derived, at_start, piece_from}
-use Rattle.e_spell.specs.Spelling.{spelled_lines, spelled}
+use Rattle.e_spell.specs.Spelling.{spelled_lines, spelling}
 use Rattle.e_judgement.specs.declared.judgement.Judgement.TheVariants.{Verified, Garbled}
 use Rattle.e_judgement.specs.Judged.{JudgesText}
 use Rattle.e_roundtrip.specs.Formed.{Formed}
@@ -62,7 +62,7 @@ ItemsAddWhatTheyMean =
     → notion_of known.notions raw.title ≡ Some notion
     → objects_of_sorts h.names notion.declared raw.args ≡ Ok args
     → after_listed_line known (InTheorem (Stating h) n) line (As raw ∷ []) ≡ Ok c →
-    let ls = expanded notion args (scope_of_names h.names)
+    let ls = literals_of_notion notion args (scope_of_names h.names)
     in c ≡ InTheorem (Stating (with_listed line ls h)) (n + length ls)
 
 -- ---- what is read is spelled so
@@ -83,7 +83,7 @@ ReadTextIsSpelled =
     (v : Version) (known : List TitledStatement) (last : ℕ) (t : TheoremView)
     (lines rest : List (Result LineView LineFault))
     → piece_from known last (at_start v) lines ≡ Ok (Derived t, rest)
-    → text_of_lines lines ≡ spelled known t t.script ++ text_of_lines rest
+    → text_of_lines lines ≡ spelling known t t.script ++ text_of_lines rest
 
 -- and the derivation can be spelled, whether its certificates certify or not: so what can be
 -- spelled is what can be read
@@ -132,7 +132,7 @@ TrimmedHasSpelling =
     → IsTrue (has_certs_of One t.script)
     → Certified (stated_by known) (stated t.statement) t.script → HasSpelling known
     (record t {
-      script = script_without_certs (trimmed (stated_by known) (stated t.statement) t.script);
+      script = script_without_certs (trimmed_script (stated_by known) (stated t.statement) t.script);
     })
 
 -- ---- what is written is judged

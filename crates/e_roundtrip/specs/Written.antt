@@ -7,7 +7,7 @@ use Rattle.e_deriv.specs.Proves.{IsProof}
 use Rattle.e_deriv.specs.Certified.{Certified, verdict}
 use Rattle.e_names.specs.TitledStatements.{TitledStatement, stated_by}
 use Rattle.e_book.specs.TheoremViews.{TheoremView}
-use Rattle.e_spell.specs.Spelling.{spelled}
+use Rattle.e_spell.specs.Spelling.{spelling}
 use Rattle.e_roundtrip.specs.Spelled.{CanBeSpelled}
 use Rattle.e_judgement.specs.declared.judgement.Judgement.{Judgement}
 use Rattle.e_judgement.specs.declared.judgement.Judgement.TheVariants.{Verified, Bad}
@@ -48,7 +48,7 @@ judgement_of known (p ∷ ps) =
 -- the blocks of derivations, one after the other
 abbrev pub spelled_blocks : List TitledStatement → List (TheoremView × Script) → List ℕ
 spelled_blocks known [] = []
-spelled_blocks known (p ∷ ps) = spelled known p.0 p.1 ++ spelled_blocks (with_theorem known p.0) ps
+spelled_blocks known (p ∷ ps) = spelling known p.0 p.1 ++ spelled_blocks (with_theorem known p.0) ps
 
 -- the line that comes before the blocks
 abbrev pub version_line : Version → List ℕ

@@ -57,8 +57,7 @@ fn add_multipliers(
     mut seen: Seen,
     tried: usize,
     last: i128,
-) -> Result<Seen, AllocError>
-{
+) -> Result<Seen, AllocError> {
     for row in rows {
         let is_not = is_kept(true, row.sense);
         let weight = weight_at(weights, seen.plain);

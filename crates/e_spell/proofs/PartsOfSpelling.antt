@@ -3,19 +3,23 @@ use Rattle.std.proofs.Common.{◌≡◌, ℕ, List, [], ◌∷◌, ◌++◌, map
 use Rattle.std.specs.Prelude.{codes}
 use Rattle.std.proofs.lemmas.List.{append-nil}
 use Rattle.e_literal.specs.declared.literal.Lit.{Lit}
+use Rattle.e_literal.specs.declared.object.Scope.{Scope}
+use Rattle.e_literal.specs.Use.{scope_of}
 use Rattle.e_deriv.specs.declared.names.Names.{Names}
+use Rattle.e_deriv.specs.Naming.{first_names}
 use Rattle.e_deriv.specs.Script.{Script}
 use Rattle.e_theorem.specs.declared.statement.Statement.{Statement}
+use Rattle.e_theorem.specs.Statements.{stated}
 use Rattle.e_line.specs.declared.raw_line.RawLine.{RawLine}
 use Rattle.e_line.specs.declared.raw_line.RawLine.TheVariants as rawlines
 use Rattle.e_names.specs.TitledStatements.{TitledStatement}
 use Rattle.e_book.specs.TheoremViews.{TheoremView}
-use Rattle.e_text.specs.Tokens.{spaced}
+use Rattle.e_text.specs.Tokens.{with_spaces}
 use Rattle.e_line.specs.Canonical.{line_of, lit_words}
 use Rattle.e_names.specs.Canonical.{raw_of, given_raw_line, show_raw_line, end_raw_line}
-use Rattle.e_book.specs.Canonical.{grouped, declare_raw_line, made_raw_line, declared_objects, made_objects, given_raw_lines, shown_raw_lines, head_raw_lines, names_of_proof, text_of}
+use Rattle.e_book.specs.Canonical.{sort_groups, declare_raw_line, made_raw_line, declared_objects, made_objects, given_raw_lines, shown_raw_lines, head_raw_lines, names_of_proof, text_of}
 use Rattle.e_spell.specs.declared.declarations.Role.TheVariants.{Declared, Made}
-use Rattle.e_spell.specs.Spelling.{script_lines, spelled}
+use Rattle.e_spell.specs.Spelling.{script_lines, spelling}
 use Rattle.e_spell.specs.inner.Parts.{raw_line_text, lits_text, script_text, proof_text, objects_text, title_text, statement_text, head_text, theorem_text}
 use Rattle.e_spell.proofs.ScriptTexts.{of_lines}
 use Rattle.e_spell.proofs.Declared.{text, declared_text, made_text}
@@ -24,8 +28,8 @@ of_forms : (fs gs : List RawLine) → text (fs ++ gs) ≡ text fs ++ text gs
 of_forms [] gs = refl
 of_forms (f ∷ fs) gs = ap (λ (t : List ℕ). (line_of f ++ 10 ∷ []) ++ t) (of_forms fs gs) ∙ sym (append_assoc (line_of f ++ 10 ∷ []) (text fs) (text gs))
 
-one_literal : (word : List ℕ) (words : List (List ℕ)) → (word ++ spaced (words ++ [])) ++ 10 ∷ [] ≡ word ++ (spaced words ++ 10 ∷ [])
-one_literal word words = rw (append-nil words) (append_assoc word (spaced words) (10 ∷ []))
+one_literal : (word : List ℕ) (words : List (List ℕ)) → (word ++ with_spaces (words ++ [])) ++ 10 ∷ [] ≡ word ++ (with_spaces words ++ 10 ∷ [])
+one_literal word words = rw (append-nil words) (append_assoc word (with_spaces words) (10 ∷ []))
 
 given_text : (ns : Names) (ls : List Lit) → lits_text (codes "given") ns ls ≡ text (map (given_raw_line ns) ls)
 given_text ns [] = refl
@@ -43,13 +47,13 @@ title_line title = rw (append-nil title) (sym (append_assoc (codes "theorem") (3
 -- what is given, and what is shown
 of_given : (ns : Names) (t : Statement) → objects_text Declared ns (declared_objects t) ++ lits_text (codes "given") ns t.given ≡ text (given_raw_lines ns t)
 of_given ns t =
-    ap (λ (x : List ℕ). x ++ lits_text (codes "given") ns t.given) (declared_text ns (declared_objects t)) ∙ ap (λ (x : List ℕ). text (map declare_raw_line (grouped ns (declared_objects t))) ++ x) (given_text ns t.given)
-    ∙ sym (of_forms (map declare_raw_line (grouped ns (declared_objects t))) (map (given_raw_line ns) t.given))
+    ap (λ (x : List ℕ). x ++ lits_text (codes "given") ns t.given) (declared_text ns (declared_objects t)) ∙ ap (λ (x : List ℕ). text (map declare_raw_line (sort_groups ns (declared_objects t))) ++ x) (given_text ns t.given)
+    ∙ sym (of_forms (map declare_raw_line (sort_groups ns (declared_objects t))) (map (given_raw_line ns) t.given))
 
 of_shown : (ns : Names) (t : Statement) → objects_text Made ns (made_objects t) ++ lits_text (codes "show") ns t.shown ≡ text (shown_raw_lines ns t)
 of_shown ns t =
-    ap (λ (x : List ℕ). x ++ lits_text (codes "show") ns t.shown) (made_text ns (made_objects t)) ∙ ap (λ (x : List ℕ). text (map made_raw_line (grouped ns (made_objects t))) ++ x) (show_text ns t.shown)
-    ∙ sym (of_forms (map made_raw_line (grouped ns (made_objects t))) (map (show_raw_line ns) t.shown))
+    ap (λ (x : List ℕ). x ++ lits_text (codes "show") ns t.shown) (made_text ns (made_objects t)) ∙ ap (λ (x : List ℕ). text (map made_raw_line (sort_groups ns (made_objects t))) ++ x) (show_text ns t.shown)
+    ∙ sym (of_forms (map made_raw_line (sort_groups ns (made_objects t))) (map (show_raw_line ns) t.shown))
 
 of_statement : (ns : Names) (t : Statement) → statement_text ns t ++ (codes "proof" ++ 10 ∷ []) ≡ text (given_raw_lines ns t ++ (shown_raw_lines ns t ++ rawlines.Proof ∷ []))
 of_statement ns t =
@@ -70,11 +74,19 @@ of_proof : (known : List TitledStatement) (ns : Names) (d : Script) → proof_te
 unfolding script_text
 of_proof known ns d = sym (of_lines (script_lines known ns d) (line_of end_raw_line ∷ []))
 
-pub spelled_parts : (known : List TitledStatement) (t : TheoremView) (d : Script) → theorem_text known t d ≡ spelled known t d
+pub spelled_parts : (known : List TitledStatement) (t : TheoremView) (d : Script) → theorem_text known t d ≡ spelling known t d
 spelled_parts known t d =
     ap (λ (x : List ℕ). x ++ proof_text known (names_of_proof t) d) (of_head t) ∙ ap (λ (x : List ℕ). text (head_raw_lines t) ++ x) (of_proof known (names_of_proof t) d)
     ∙ sym (of_lines (map line_of (head_raw_lines t)) (script_lines known (names_of_proof t) d ++ line_of end_raw_line ∷ []))
 
 -- the parts as they are written one after another
-pub parts_in_turn : (known : List TitledStatement) (t : TheoremView) (d : Script) → ((([] ++ head_text t.title t.names t.statement) ++ script_text known (names_of_proof t) d) ++ raw_line_text end_raw_line) ≡ spelled known t d
-parts_in_turn known t d = append_assoc (head_text t.title t.names t.statement) (script_text known (names_of_proof t) d) (raw_line_text end_raw_line) ∙ spelled_parts known t d
+pub parts_in_turn : (known : List TitledStatement) (t : TheoremView) (d : Script) (scope : Scope) (ns : Names) (none head block all : List ℕ)
+    → none ≡ [] → head ≡ none ++ head_text t.title t.names t.statement → scope ≡ scope_of (stated t.statement) → ns ≡ first_names scope t.names
+    → block ≡ head ++ script_text known ns d → all ≡ block ++ raw_line_text end_raw_line → all ≡ spelling known t d
+parts_in_turn known t d scope ns none head block all en eh es em eb ea =
+    let is_head : head ≡ head_text t.title t.names t.statement = eh ∙ ap (λ (x : List ℕ). x ++ head_text t.title t.names t.statement) en in
+    let are_names : ns ≡ names_of_proof t = em ∙ ap (λ (s : Scope). first_names s t.names) es in
+    let is_block : block ≡ head_text t.title t.names t.statement ++ script_text known (names_of_proof t) d =
+    eb ∙ ap (λ (x : List ℕ). x ++ script_text known ns d) is_head ∙ ap (λ (n : Names). head_text t.title t.names t.statement ++ script_text known n d) are_names in
+    ea ∙ ap (λ (x : List ℕ). x ++ raw_line_text end_raw_line) is_block
+    ∙ append_assoc (head_text t.title t.names t.statement) (script_text known (names_of_proof t) d) (raw_line_text end_raw_line) ∙ spelled_parts known t d

@@ -3,7 +3,7 @@ use Rattle.std.proofs.Common.{◌≡◌, ℕ, List, [], ◌∷◌, ◌++◌, map
 use Rattle.std.specs.Prelude.{codes, Option, Some, None}
 use Rattle.std.specs.Fmt.{decimal}
 use Rattle.std.proofs.lemmas.List.{append-nil}
-use Rattle.e_text.specs.Tokens.{spaced, joined_words}
+use Rattle.e_text.specs.Tokens.{with_spaces, joined_words}
 use Rattle.e_literal.specs.declared.object.Term.{Term}
 use Rattle.e_deriv.specs.declared.names.Names.{Names}
 use Rattle.e_deriv.specs.declared.stop.Wanted.{Wanted}
@@ -12,7 +12,7 @@ use Rattle.e_spell.specs.Spelling.{place_words, value_words, values_words, unlic
 use Rattle.e_spell.specs.inner.Parts.{place_line, wanted_line, value_line, values_text, values_of_text, width_line}
 
 place_text : (what title : List ℕ) (step : ℕ) → place_line what title step ≡ joined_words (place_words what title step) ++ 10 ∷ []
-place_text what title step = sym (append_assoc what (spaced (title ∷ decimal step ∷ [])) (10 ∷ []))
+place_text what title step = sym (append_assoc what (with_spaces (title ∷ decimal step ∷ [])) (10 ∷ []))
 
 of_values : (ns : Names) (vs : List (Term × ℕ)) → values_text ns vs ≡ text_of (map joined_words (map (value_words ns) vs))
 of_values ns [] = refl

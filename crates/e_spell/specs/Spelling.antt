@@ -59,8 +59,8 @@ spelled_lines known t d =
     map line_of (head_raw_lines t)
     ++ (script_lines known (names_of_proof t) d ++ line_of end_raw_line ∷ [])
 
-abbrev pub spelled : List TitledStatement → TheoremView → Script → List ℕ
-spelled known t d = text_of (spelled_lines known t d)
+abbrev pub spelling : List TitledStatement → TheoremView → Script → List ℕ
+spelling known t d = text_of (spelled_lines known t d)
 
 -- what a line lacks
 abbrev pub wanted_words : Names → Wanted → List (List ℕ)

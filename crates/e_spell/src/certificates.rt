@@ -1,7 +1,7 @@
 //! The lines of certificates.
 ghost use Rattle.std.specs.Prelude.{◌≡◌, ◌++◌, ◌∷◌, [], codes, decimal, OnOk};
 ghost use Rattle.std.specs.Option.{option_to_list};
-ghost use Rattle.e_text.specs.Tokens.{spaced};
+ghost use Rattle.e_text.specs.Tokens.{with_spaces};
 ghost use Rattle.e_line.specs.Canonical.{lit_words};
 ghost use Rattle.e_names.specs.Canonical.{raw_of};
 ghost use Rattle.e_spell.specs.Certificates.{named_term, row_words};
@@ -21,7 +21,7 @@ use std::alloc::{AllocError, Global};
 /// A row that is said of a term.
 fn put_term_row(out: &mut Vec<u8>, names: &Names, word: &[u8], term: Term) -> Result<(), AllocError>
     ensures { OnOk result
-        (out.new.items ≡ out.old.items ++ spaced (word.now ∷ named_term names.now term)) }
+        (out.new.items ≡ out.old.items ++ with_spaces (word.now ∷ named_term names.now term)) }
 {
     put(out, word)?;
     put_term(out, names, term)
@@ -34,7 +34,7 @@ fn put_fact_row(
     lit: &Lit,
 ) -> Result<(), AllocError>
     ensures { OnOk result (out.new.items ≡ out.old.items
-        ++ spaced (codes "fact" ∷ lit_words (raw_of names.now lit.now))) }
+        ++ with_spaces (codes "fact" ∷ lit_words (raw_of names.now lit.now))) }
 {
     put(out, b"fact")?;
     put_literal(alloc, out, names, lit)
@@ -43,7 +43,7 @@ fn put_fact_row(
 /// A fact by its place.
 fn put_place(out: &mut Vec<u8>, place: u32) -> Result<(), AllocError>
     ensures { OnOk result
-        (out.new.items ≡ out.old.items ++ spaced (codes "fact" ∷ decimal place ∷ [])) }
+        (out.new.items ≡ out.old.items ++ with_spaces (codes "fact" ∷ decimal place ∷ [])) }
 {
     put(out, b"fact")?;
     put_number(out, place)
@@ -51,7 +51,7 @@ fn put_place(out: &mut Vec<u8>, place: u32) -> Result<(), AllocError>
 
 /// The name of a row.
 fn put_row(alloc: Global, out: &mut Vec<u8>, names: &Names, row: &RowName) -> Result<(), AllocError>
-    ensures { OnOk result (out.new.items ≡ out.old.items ++ spaced (row_words names.now row.now)) }
+    ensures { OnOk result (out.new.items ≡ out.old.items ++ with_spaces (row_words names.now row.now)) }
 {
     match row {
         RowName::Fact(lit) => put_fact_row(alloc, out, names, lit),

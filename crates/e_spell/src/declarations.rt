@@ -2,9 +2,9 @@
 ghost use Rattle.std.specs.Prelude.{◌≡◌, ◌++◌, ◌∷◌, [], ◌≤◌, ◌+◌, ◌-◌};
 ghost use Rattle.std.specs.Prelude.{◌^◌, Some, None, length, OnOk, IfOk};
 ghost use Rattle.e_literal.specs.Literal.{count_of};
-ghost use Rattle.e_literal.specs.Scopes.{with_one, grown, next_objects};
+ghost use Rattle.e_literal.specs.Scopes.{with_one, with_sorts, next_objects};
 ghost use Rattle.e_spell.specs.inner.Counts.{Below, AtMostMore, scope_of_counts};
-ghost use Rattle.e_spell.specs.inner.Parts.{role_words, opening, closing, objects_text};
+ghost use Rattle.e_spell.specs.inner.Parts.{role_words, before_name, last_line_end, objects_text};
 
 use crate::literals::name_of;
 use e_deriv::Names;
@@ -79,7 +79,7 @@ fn put_opening(
     last: Option<Sort>,
     sort: Sort,
 ) -> Result<(), AllocError>
-    ensures { OnOk result (out.new.items ≡ out.old.items ++ opening role last sort) }
+    ensures { OnOk result (out.new.items ≡ out.old.items ++ before_name role last sort) }
 {
     match last {
         None => put_role(out, role, sort),
@@ -94,7 +94,7 @@ fn put_opening(
 }
 
 fn put_closing(out: &mut Vec<u8>, last: Option<Sort>) -> Result<(), AllocError>
-    ensures { OnOk result (out.new.items ≡ out.old.items ++ closing last) }
+    ensures { OnOk result (out.new.items ≡ out.old.items ++ last_line_end last) }
 {
     match last {
         None => Ok(()),
@@ -111,7 +111,7 @@ fn put_object(
     name: &[u8],
 ) -> Result<(), AllocError>
     ensures { OnOk result
-        (out.new.items ≡ out.old.items ++ (opening role last sort ++ 32 ∷ name.now)) }
+        (out.new.items ≡ out.old.items ++ (before_name role last sort ++ 32 ∷ name.now)) }
 {
     put_opening(out, role, last, sort)?;
     put(out, name)
@@ -130,7 +130,7 @@ pub(crate) fn put_objects_of(
     ensures text { OnOk result (out.new.items ≡ out.old.items
         ++ objects_text role names.now (next_objects (scope_of_counts before) sorts.now)) }
     ensures scope { IfOk result
-        (λ after. scope_of_counts after ≡ grown (scope_of_counts before) sorts.now) }
+        (λ after. scope_of_counts after ≡ with_sorts (scope_of_counts before) sorts.now) }
     ensures more { IfOk result (λ after. AtMostMore before after (length sorts.now)) }
 {
     let mut counts = before;

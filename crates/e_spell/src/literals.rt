@@ -2,7 +2,7 @@
 ghost use Rattle.std.specs.Prelude.{◌≡◌, ◌++◌, map, OnOk, IfOk};
 ghost use Rattle.e_literal.specs.declared.object.Sort.TheVariants.{Point, Line};
 ghost use Rattle.e_literal.specs.Literal.{obj};
-ghost use Rattle.e_text.specs.Tokens.{spaced};
+ghost use Rattle.e_text.specs.Tokens.{with_spaces};
 ghost use Rattle.e_deriv.specs.Naming.{names_of_sort};
 ghost use Rattle.e_line.specs.Canonical.{lit_words};
 ghost use Rattle.e_names.specs.Canonical.{raw_of, name_at, name_of_object};
@@ -33,7 +33,7 @@ pub(crate) fn put_objects(
     objects: &[Obj],
 ) -> Result<(), AllocError>
     ensures { OnOk result
-        (out.new.items ≡ out.old.items ++ spaced (map (name_of_object names.now) objects.now)) }
+        (out.new.items ≡ out.old.items ++ with_spaces (map (name_of_object names.now) objects.now)) }
 {
     for object in objects {
         put(out, name_of_object(names, *object).bytes())?;
@@ -124,7 +124,7 @@ pub(crate) fn placed_names(
 
 /// A term by the names of its points.
 pub(crate) fn put_term(out: &mut Vec<u8>, names: &Names, term: Term) -> Result<(), AllocError>
-    ensures { OnOk result (out.new.items ≡ out.old.items ++ spaced (named_term names.now term)) }
+    ensures { OnOk result (out.new.items ≡ out.old.items ++ with_spaces (named_term names.now term)) }
 {
     let raw = raw_term(names, term);
     e_line::put_term(out, &raw)
@@ -138,7 +138,7 @@ pub(crate) fn put_literal(
     lit: &Lit,
 ) -> Result<(), AllocError>
     ensures { OnOk result
-        (out.new.items ≡ out.old.items ++ spaced (lit_words (raw_of names.now lit.now))) }
+        (out.new.items ≡ out.old.items ++ with_spaces (lit_words (raw_of names.now lit.now))) }
 {
     let raw = raw_of(alloc, names, lit)?;
     let put = e_line::put_literal(out, &raw);

@@ -2,7 +2,7 @@
 ghost use Rattle.std.specs.Prelude.{◌≡◌, IfOk};
 ghost use Rattle.e_deriv.specs.Script.{script_of};
 ghost use Rattle.e_book.specs.TheoremViews.{entry_of};
-ghost use Rattle.e_spell.specs.Spelling.{spelled};
+ghost use Rattle.e_spell.specs.Spelling.{spelling};
 
 use crate::head::put_head;
 use crate::proof::put_block;
@@ -30,7 +30,7 @@ pub fn spell(
     deriv: &Block,
 ) -> Result<Vec<u8>, AllocError>
     ensures { IfOk result
-        (λ v. v.items ≡ spelled known.now (entry_of theorem.now) (script_of deriv.now)) }
+        (λ v. v.items ≡ spelling known.now (entry_of theorem.now) (script_of deriv.now)) }
 {
     let mut out = Vec::new(alloc);
     let declared = put_head(

@@ -6,7 +6,7 @@ use Rattle.std.proofs.lemmas.Bool.{not-true, eqb-true, and_parts}
 use Rattle.std.proofs.lemmas.List.{append-nil}
 use Rattle.std.proofs.lemmas.List.Elements.{All-from_recursion}
 use Rattle.std.proofs.lemmas.List.Splits.{slice_split_none, slice_split_at}
-use Rattle.e_text.specs.Tokens.{is_blank, has_bytes, tokens_of, is_token, AreTokens, spaced, joined_words}
+use Rattle.e_text.specs.Tokens.{is_blank, has_bytes, tokens_of, is_token, AreTokens, with_spaces, joined_words}
 use Rattle.e_text.specs.Names.{is_letter, is_name_byte, is_title_byte, is_reserved, is_name, is_title}
 
 no_blank : (w : List ℕ) → list_all (λ b. not (is_blank b)) w ≡ true → AllByRecursion (λ b. is_blank b ≡ false) w
@@ -19,10 +19,10 @@ all_no_blank w e = All-from_recursion (λ b. is_blank b ≡ false) w (no_blank w
 first_kept : (w : List ℕ) (ws : List (List ℕ)) → is_token w ≡ true → filter has_bytes (w ∷ ws) ≡ w ∷ filter has_bytes ws
 first_kept w ws e = let h : has_bytes w ≡ true = (and_parts _ _ e).0 in rw h refl
 
-pub tokens_of-spaced : (w : List ℕ) (ws : List (List ℕ)) → is_token w ≡ true → AreTokens ws → tokens_of (w ++ spaced ws) ≡ w ∷ ws
+pub tokens_of-spaced : (w : List ℕ) (ws : List (List ℕ)) → is_token w ≡ true → AreTokens ws → tokens_of (w ++ with_spaces ws) ≡ w ∷ ws
 tokens_of-spaced w [] e es = ap tokens_of (append-nil w) ∙ ap (filter has_bytes) (slice_split_none is_blank w (all_no_blank w e)) ∙ first_kept w [] e
 tokens_of-spaced w (v ∷ vs) e es =
-    ap (filter has_bytes) (slice_split_at is_blank w 32 (v ++ spaced vs) (all_no_blank w e) refl) ∙ first_kept w (slice_split is_blank (v ++ spaced vs)) e ∙ ap (λ xs. w ∷ xs) (tokens_of-spaced v vs es.0 es.1)
+    ap (filter has_bytes) (slice_split_at is_blank w 32 (v ++ with_spaces vs) (all_no_blank w e) refl) ∙ first_kept w (slice_split is_blank (v ++ with_spaces vs)) e ∙ ap (λ xs. w ∷ xs) (tokens_of-spaced v vs es.0 es.1)
 
 -- the tokens of joined words are these words
 pub tokens_of-joined : (ws : List (List ℕ)) → AreTokens ws → tokens_of (joined_words ws) ≡ ws

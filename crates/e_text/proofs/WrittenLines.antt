@@ -9,7 +9,7 @@ use Rattle.std.proofs.lemmas.List.Splits.{slice_split_at}
 use Rattle.std.proofs.lemmas.List.Sums.{split_at_first}
 use Rattle.e_text.specs.declared.line.LineEnd.TheVariants.{Lf, TextEnd}
 use Rattle.e_text.specs.declared.line.LineFault.{LineFault}
-use Rattle.e_text.specs.Lines.{is_lf, is_allowed, ends_in_cr, Bounds, Spot, LineView, line_or_fault, line_before_lf, ended, lines_of, lines_of_parts, end_bytes, HaveNoFault, AreShort, text_of_lines, lf_text, numbered}
+use Rattle.e_text.specs.Lines.{is_lf, is_allowed, ends_in_cr, Bounds, Spot, LineView, line_or_fault, line_before_lf, split_line_end, lines_of, lines_of_parts, end_bytes, HaveNoFault, AreShort, text_of_lines, lf_text, numbered_lines}
 use Rattle.e_text.proofs.FirstLine.{then_lines, split_more, parts_of, seen-line_or_fault}
 use Rattle.e_text.proofs.LinesOfTexts.{at_lf, next_spot, lines_of-closed, lines_of-open}
 
@@ -25,13 +25,13 @@ cr_part (b ∷ bs) e =
     ap (λ (x : ℕ). take (length part - 1) part ++ x ∷ []) (sym last) ∙ sym (take-suc part (length part - 1) 0 (omega arith)) ∙ take_all (suc (length part - 1)) part (omega arith)
 
 -- what stands before a line feed, with its end
-ended_bytes : (part : List ℕ) (t : Bool) → ends_in_cr part ≡ t → (ended part []).0 ++ end_bytes (ended part []).1 ≡ part ++ 10 ∷ []
+ended_bytes : (part : List ℕ) (t : Bool) → ends_in_cr part ≡ t → (split_line_end part []).0 ++ end_bytes (split_line_end part []).1 ≡ part ++ 10 ∷ []
 ended_bytes part true e = rw e (sym (append_assoc (take (length part - 1) part) (13 ∷ []) (10 ∷ [])) ∙ ap (λ (l : List ℕ). l ++ 10 ∷ []) (cr_part part e))
 ended_bytes part false e = rw e refl
 
 closed_bytes : (w : Bounds) (at : Spot) (part : List ℕ) (l : LineView) → line_before_lf w at part ≡ Ok l → l.bytes ++ end_bytes l.end ≡ part ++ 10 ∷ []
 closed_bytes w at part l e =
-    let is = seen-line_or_fault w at (ended part []).0 (ended part []).1 (at.before + length part + 1) l e in
+    let is = seen-line_or_fault w at (split_line_end part []).0 (split_line_end part []).1 (at.before + length part + 1) l e in
     ap (λ (k : LineView). k.bytes ++ end_bytes k.end) (sym is) ∙ ended_bytes part (ends_in_cr part) refl
 
 put_closed : (r : Result LineView LineFault) (rest : List (Result LineView LineFault)) (part after : List ℕ) → ((l : LineView) → r ≡ Ok l → l.bytes ++ end_bytes l.end ≡ part ++ 10 ∷ []) → (HaveNoFault rest → text_of_lines rest ≡ after)
@@ -104,7 +104,7 @@ lines_of-line w at bytes rest good short within =
     ap (λ ps. lines_of_parts w at ps) split ∙ split_more w at bytes more.0 more.1 (slice_split is_lf rest) more.2 ∙ rw (cr, place, width, good) refl
 
 -- lines that are written are read
-pub lines_of-lf_text : (w : Bounds) (at : Spot) (lines : List (List ℕ)) → AreShort w.longest lines → at.before + length (lf_text lines) ≤ w.most → lines_of w at (lf_text lines) ≡ numbered at.line lines
+pub lines_of-lf_text : (w : Bounds) (at : Spot) (lines : List (List ℕ)) → AreShort w.longest lines → at.before + length (lf_text lines) ≤ w.most → lines_of w at (lf_text lines) ≡ numbered_lines at.line lines
 lines_of-lf_text w at [] h within = refl
 lines_of-lf_text w at (bytes ∷ lines) h within =
     let len = length-append bytes (10 ∷ lf_text lines) in

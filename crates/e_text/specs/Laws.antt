@@ -2,7 +2,7 @@
 use Rattle.std.specs.Prelude.{◌≡◌, ℕ, ◌+◌, ◌-◌, ◌^◌, ◌<◌, ◌≤◌, List, ◌++◌, length, take, Some}
 use Rattle.std.specs.Prelude.{decimal}
 use Rattle.e_text.specs.Lines.{Bounds, Spot, HaveNoFault, AreShort, lines_of, text_of_lines}
-use Rattle.e_text.specs.Lines.{lf_text, numbered, IsClosed, then_more, spot_after}
+use Rattle.e_text.specs.Lines.{lf_text, numbered_lines, IsClosed, then_more, spot_after}
 use Rattle.e_text.specs.Tokens.{AreTokens, tokens_of, joined_words}
 use Rattle.e_text.specs.Numerals.{number_of}
 
@@ -18,7 +18,7 @@ abbrev pub WrittenLinesAreRead : Type 0
 WrittenLinesAreRead =
     (w : Bounds) (at : Spot) (lines : List (List ℕ)) → AreShort w.longest lines
     → at.before + length (lf_text lines) ≤ w.most
-    → lines_of w at (lf_text lines) ≡ numbered at.line lines
+    → lines_of w at (lf_text lines) ≡ numbered_lines at.line lines
 
 -- the lines of a text are known from its bytes up to one after the last that counts
 abbrev pub OneByteMoreIsEnough : Type 0

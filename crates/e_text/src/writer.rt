@@ -2,7 +2,7 @@
 //! written. It fails only when out of memory, and then what was written before is as it was.
 ghost use Rattle.std.specs.Prelude.{◌≡◌, ◌≤◌, ◌++◌, ◌∷◌, [], ◌==◌, if◌then◌else◌};
 ghost use Rattle.std.specs.Prelude.{decimal, length, map, take, OnOk, OnErr};
-ghost use Rattle.e_text.specs.Tokens.{spaced};
+ghost use Rattle.e_text.specs.Tokens.{with_spaces};
 
 use crate::name::Name;
 use itoa::{Buffer, Integer};
@@ -38,7 +38,7 @@ pub fn put(out: &mut Vec<u8>, word: &[u8]) -> Result<(), AllocError>
 /// Writes words in their order, each after a space.
 pub fn put_words(out: &mut Vec<u8>, words: &[&[u8]]) -> Result<(), AllocError>
     ensures ok { OnOk result
-        (out.new.items ≡ out.old.items ++ spaced (map (λ w. w.now) words.now)) }
+        (out.new.items ≡ out.old.items ++ with_spaces (map (λ w. w.now) words.now)) }
     ensures err { OnErr result (out.new.items ≡ out.old.items) }
 {
     let before = out.len();
@@ -60,7 +60,7 @@ pub fn put_number<I: Integer>(out: &mut Vec<u8>, number: I) -> Result<(), AllocE
 /// Writes a coefficient after a space, and nothing for 1.
 pub fn put_coefficient(out: &mut Vec<u8>, coeff: u32) -> Result<(), AllocError>
     ensures ok { OnOk result
-        (out.new.items ≡ out.old.items ++ spaced (if coeff == 1 then [] else decimal coeff ∷ [])) }
+        (out.new.items ≡ out.old.items ++ with_spaces (if coeff == 1 then [] else decimal coeff ∷ [])) }
     ensures err { OnErr result (out.new.items ≡ out.old.items) }
 {
     if coeff == 1 {
@@ -71,7 +71,7 @@ pub fn put_coefficient(out: &mut Vec<u8>, coeff: u32) -> Result<(), AllocError>
 
 /// Writes names in their order, each after a space.
 pub fn put_names(out: &mut Vec<u8>, names: &[Name]) -> Result<(), AllocError>
-    ensures ok { OnOk result (out.new.items ≡ out.old.items ++ spaced names.now) }
+    ensures ok { OnOk result (out.new.items ≡ out.old.items ++ with_spaces names.now) }
     ensures err { OnErr result (out.new.items ≡ out.old.items) }
 {
     let before = out.len();

@@ -12,7 +12,7 @@ use Rattle.e_literal.specs.declared.object.Sort.TheVariants.{Point, Line, Circle
 use Rattle.e_literal.specs.declared.literal.Lit.{Lit}
 use Rattle.e_literal.specs.declared.map.Entry.{Entry}
 use Rattle.e_literal.specs.Literal.{obj, count_of, is_in_scope}
-use Rattle.e_literal.specs.Scopes.{same_sort, nothing, with_one, grown, next_objects, are_of_sorts}
+use Rattle.e_literal.specs.Scopes.{same_sort, nothing, with_one, with_sorts, next_objects, are_of_sorts}
 use Rattle.e_literal.specs.Rename.{same_obj, image_in, pairs_of, with_images}
 use Rattle.e_literal.specs.Use.{StatementView, scope_of, nth_of_sort, image_in_use, are_arguments}
 use Rattle.e_literal.proofs.GrownScopes.{grown_bounds, counts_nothing, sorts_next}
@@ -40,7 +40,7 @@ counted_here s sort x h = counted s sort x ∙ ap (λ b. count_of s x + cond b 1
 pub counted_other : (s : Scope) (sort x : Sort) → same_sort sort x ≡ false → count_of (with_one s sort) x ≡ count_of s x
 counted_other s sort x h = counted s sort x ∙ ap (λ b. count_of s x + cond b 1 0) h ∙ omega arith
 
-pub counts_grow : (s : Scope) (sorts : List Sort) (x : Sort) → count_of s x ≤ count_of (grown s sorts) x
+pub counts_grow : (s : Scope) (sorts : List Sort) (x : Sort) → count_of s x ≤ count_of (with_sorts s sorts) x
 counts_grow s [] x = omega arith
 counts_grow s (sort ∷ sorts) x = omega (arith, counts_grow (with_one s sort) sorts x, counted s sort x)
 
@@ -80,7 +80,7 @@ none_before b (sort ∷ sorts) [] o h = refl
 none_before b (sort ∷ sorts) (t ∷ os) o h =
     next_head o t _ _ (not_before b sort o h) ∙ none_before (with_one b sort) sorts os o (omega (arith, h, counted b sort o.sort))
 
-pub none_after : (b : Scope) (sorts : List Sort) (os : List Obj) (o : Obj) → count_of (grown b sorts) o.sort ≤ o.num → image_in (pairs_of (next_objects b sorts) os) o ≡ None
+pub none_after : (b : Scope) (sorts : List Sort) (os : List Obj) (o : Obj) → count_of (with_sorts b sorts) o.sort ≤ o.num → image_in (pairs_of (next_objects b sorts) os) o ≡ None
 none_after b [] os o h = refl
 none_after b (sort ∷ sorts) [] o h = refl
 none_after b (sort ∷ sorts) (t ∷ os) o h =
@@ -114,7 +114,7 @@ nth_there s b (sort ∷ sorts) (a ∷ args) o d fit is =
         ∙ sym (ap (λ c. slice_get (cond c (a ∷ filter (λ x. same_sort x.sort o.sort) args) (filter (λ x. same_sort x.sort o.sort) args)) (suc d)) kept)
 
 -- the next object of another scope
-pub new_there : (s b : Scope) (sorts : List Sort) (o : Obj) (d : ℕ) → o.num ≡ count_of b o.sort + d → o.num < count_of (grown b sorts) o.sort
+pub new_there : (s b : Scope) (sorts : List Sort) (o : Obj) (d : ℕ) → o.num ≡ count_of b o.sort + d → o.num < count_of (with_sorts b sorts) o.sort
     → image_in (pairs_of (next_objects b sorts) (next_objects s sorts)) o ≡ Some (obj o.sort (count_of s o.sort + d))
 new_there s b [] o d is less = absurd (omega (arith, is, less))
 new_there s b (sort ∷ sorts) o d is less =
@@ -166,7 +166,7 @@ targets t args s = args ++ next_objects s t.made
 
 abbrev pub made_image : StatementView → Scope → Obj → Option Obj
 made_image t s o =
-    cond (nat_lt o.num (count_of (grown (scope_of t) t.made) o.sort)) (Some (obj o.sort (count_of s o.sort + (o.num - count_of (scope_of t) o.sort)))) None
+    cond (nat_lt o.num (count_of (with_sorts (scope_of t) t.made) o.sort)) (Some (obj o.sort (count_of s o.sort + (o.num - count_of (scope_of t) o.sort)))) None
 
 pub imaged : (t : StatementView) (args : List Obj) (s : Scope) (o : Obj) → are_arguments t s args ≡ true → image_in (pairs_of (sources t) (targets t args s)) o ≡ image_in_use t args s o
 imaged t args s o fit =
@@ -184,11 +184,11 @@ imaged t args s o fit =
   where
     made_part : (t : StatementView) (s : Scope) (o : Obj) → count_of (scope_of t) o.sort ≤ o.num → image_in (pairs_of (next_objects (scope_of t) t.made) (next_objects s t.made)) o ≡ made_image t s o
     made_part t s o more =
-        elim (cases_lt o.num (count_of (grown (scope_of t) t.made) o.sort)) [
+        elim (cases_lt o.num (count_of (with_sorts (scope_of t) t.made) o.sort)) [
           | inl less ↦ new_there s (scope_of t) t.made o (o.num - count_of (scope_of t) o.sort) (omega (arith, more)) less
-              ∙ sym (ap (λ b. cond b (Some (obj o.sort (count_of s o.sort + (o.num - count_of (scope_of t) o.sort)))) None) (lt-ltb o.num (count_of (grown (scope_of t) t.made) o.sort) less))
+              ∙ sym (ap (λ b. cond b (Some (obj o.sort (count_of s o.sort + (o.num - count_of (scope_of t) o.sort)))) None) (lt-ltb o.num (count_of (with_sorts (scope_of t) t.made) o.sort) less))
           | inr past ↦ none_after (scope_of t) t.made (next_objects s t.made) o past
-              ∙ sym (ap (λ b. cond b (Some (obj o.sort (count_of s o.sort + (o.num - count_of (scope_of t) o.sort)))) None) (le-ltb o.num (count_of (grown (scope_of t) t.made) o.sort) past))
+              ∙ sym (ap (λ b. cond b (Some (obj o.sort (count_of s o.sort + (o.num - count_of (scope_of t) o.sort)))) None) (le-ltb o.num (count_of (with_sorts (scope_of t) t.made) o.sort) past))
         ]
 
 -- ---- sorts of the pairs
@@ -212,17 +212,17 @@ at_images r m ls t args s lits is same h = is ∙ ap (map (with_images (image_in
 
 -- ---- numbers of 16 bits are enough
 
-pub few_points : (g : Scope) (ss ms sorts made : List Sort) → g ≡ grown nothing ss → ss ≡ sorts → ms ≡ made → length sorts + length made < 2 ^ 16 → g.points + length ms < 2 ^ 16
+pub few_points : (g : Scope) (ss ms sorts made : List Sort) → g ≡ with_sorts nothing ss → ss ≡ sorts → ms ≡ made → length sorts + length made < 2 ^ 16 → g.points + length ms < 2 ^ 16
 few_points g ss ms sorts made is one other h =
     let bounds = grown_bounds nothing sorts in
     rw (is, one, other) (omega (arith, h, bounds.few_points))
 
-pub few_lines : (g : Scope) (ss ms sorts made : List Sort) → g ≡ grown nothing ss → ss ≡ sorts → ms ≡ made → length sorts + length made < 2 ^ 16 → g.lines + length ms < 2 ^ 16
+pub few_lines : (g : Scope) (ss ms sorts made : List Sort) → g ≡ with_sorts nothing ss → ss ≡ sorts → ms ≡ made → length sorts + length made < 2 ^ 16 → g.lines + length ms < 2 ^ 16
 few_lines g ss ms sorts made is one other h =
     let bounds = grown_bounds nothing sorts in
     rw (is, one, other) (omega (arith, h, bounds.few_lines))
 
-pub few_circles : (g : Scope) (ss ms sorts made : List Sort) → g ≡ grown nothing ss → ss ≡ sorts → ms ≡ made → length sorts + length made < 2 ^ 16 → g.circles + length ms < 2 ^ 16
+pub few_circles : (g : Scope) (ss ms sorts made : List Sort) → g ≡ with_sorts nothing ss → ss ≡ sorts → ms ≡ made → length sorts + length made < 2 ^ 16 → g.circles + length ms < 2 ^ 16
 few_circles g ss ms sorts made is one other h =
     let bounds = grown_bounds nothing sorts in
     rw (is, one, other) (omega (arith, h, bounds.few_circles))

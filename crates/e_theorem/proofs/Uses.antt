@@ -10,7 +10,7 @@ use Rattle.e_literal.specs.declared.object.Sort.TheVariants.{Point, Line, Circle
 use Rattle.e_literal.specs.declared.literal.Lit.{Lit}
 use Rattle.e_literal.specs.Literal.{obj, count_of, is_in_scope, objects_of_atom, all_in_scope}
 use Rattle.e_literal.specs.WellFormed.{is_well_formed}
-use Rattle.e_literal.specs.Scopes.{same_sort, nothing, with_one, grown, next_objects, are_of_sorts}
+use Rattle.e_literal.specs.Scopes.{same_sort, nothing, with_one, with_sorts, next_objects, are_of_sorts}
 use Rattle.e_literal.specs.Rename.{same_obj, image_in, pairs_of, with_images}
 use Rattle.e_literal.specs.Use.{StatementView, scope_of, image_in_use, are_arguments, needs_of_use, gives_of_use, nth_of_sort, is_statement}
 use Rattle.e_literal.proofs.WithImages.{is_moved_in, renamed_scope, renamed_well_formed}
@@ -35,7 +35,7 @@ later b sort o differs more =
       | inr other ↦ omega (arith, more, counted_other b sort o.sort other)
     ]
 
-pub lands : (s b : Scope) (sorts : List Sort) (args : List Obj) (o : Obj) → are_of_sorts s sorts args ≡ true → count_of b o.sort ≤ o.num → o.num < count_of (grown b sorts) o.sort
+pub lands : (s b : Scope) (sorts : List Sort) (args : List Obj) (o : Obj) → are_of_sorts s sorts args ≡ true → count_of b o.sort ≤ o.num → o.num < count_of (with_sorts b sorts) o.sort
     → ltb (number_of (image_in (pairs_of (next_objects b sorts) args) o) o.num) (count_of s o.sort) ≡ true
 lands s b [] args o fit more less = absurd (omega (arith, more, less))
 lands s b (sort ∷ sorts) [] o fit more less = absurd (true≢false (sym fit))
@@ -124,49 +124,49 @@ needs_good t args s states fit = ap (are_well_formed_in s) (needs_declared t arg
 
 -- ---- what a use gives is good too, with the made objects in scope
 
-same_growth : (s k : Scope) (sorts : List Sort) (x : Sort) → count_of (grown s sorts) x + count_of k x ≡ count_of (grown k sorts) x + count_of s x
+same_growth : (s k : Scope) (sorts : List Sort) (x : Sort) → count_of (with_sorts s sorts) x + count_of k x ≡ count_of (with_sorts k sorts) x + count_of s x
 same_growth s k [] x = omega arith
 same_growth s k (sort ∷ sorts) x = omega (arith, same_growth (with_one s sort) (with_one k sort) sorts x, counted s sort x, counted k sort x)
 
-made_is : (t : StatementView) (args : List Obj) (s : Scope) (o : Obj) → count_of (scope_of t) o.sort ≤ o.num → is_in_scope (grown (scope_of t) t.made) o ≡ true
+made_is : (t : StatementView) (args : List Obj) (s : Scope) (o : Obj) → count_of (scope_of t) o.sort ≤ o.num → is_in_scope (with_sorts (scope_of t) t.made) o ≡ true
     → image_in_use t args s o ≡ Some (obj o.sort (count_of s o.sort + (o.num - count_of (scope_of t) o.sort)))
 made_is t args s o more all =
     ap (λ b. cond b (nth_of_sort o.sort o.num args) (made_image t s o)) (le-ltb o.num (count_of (scope_of t) o.sort) more)
     ∙ ap (λ b. cond b (Some (obj o.sort (count_of s o.sort + (o.num - count_of (scope_of t) o.sort)))) None) all
 
-shown_lands : (t : StatementView) (args : List Obj) (s : Scope) (o : Obj) → are_arguments t s args ≡ true → is_in_scope (grown (scope_of t) t.made) o ≡ true
-    → is_moved_in (grown s t.made) (image_in_use t args s) o ≡ true
+shown_lands : (t : StatementView) (args : List Obj) (s : Scope) (o : Obj) → are_arguments t s args ≡ true → is_in_scope (with_sorts (scope_of t) t.made) o ≡ true
+    → is_moved_in (with_sorts s t.made) (image_in_use t args s) o ≡ true
 shown_lands t args s o fit all =
     elim (cases_lt o.num (count_of (scope_of t) o.sort)) [
       | inl less ↦
-          ap (λ v. ltb (number_of v o.num) (count_of (grown s t.made) o.sort)) (declared_image t args s o fit (lt-ltb o.num (count_of (scope_of t) o.sort) less))
+          ap (λ v. ltb (number_of v o.num) (count_of (with_sorts s t.made) o.sort)) (declared_image t args s o fit (lt-ltb o.num (count_of (scope_of t) o.sort) less))
           ∙ (let here = ltb-true (number_of (declared_images t args o) o.num) (count_of s o.sort) (lands s nothing t.declared args o fit (nothing_below s o.sort o.num) less) in
-          lt-ltb (number_of (declared_images t args o) o.num) (count_of (grown s t.made) o.sort) (omega (arith, here, counts_grow s t.made o.sort)))
+          lt-ltb (number_of (declared_images t args o) o.num) (count_of (with_sorts s t.made) o.sort) (omega (arith, here, counts_grow s t.made o.sort)))
       | inr more ↦
-          ap (λ v. ltb (number_of v o.num) (count_of (grown s t.made) o.sort)) (made_is t args s o more all)
-          ∙ (let here = ltb-true o.num (count_of (grown (scope_of t) t.made) o.sort) all in
-          lt-ltb (count_of s o.sort + (o.num - count_of (scope_of t) o.sort)) (count_of (grown s t.made) o.sort) (omega (arith, here, more, same_growth s (scope_of t) t.made o.sort)))
+          ap (λ v. ltb (number_of v o.num) (count_of (with_sorts s t.made) o.sort)) (made_is t args s o more all)
+          ∙ (let here = ltb-true o.num (count_of (with_sorts (scope_of t) t.made) o.sort) all in
+          lt-ltb (count_of s o.sort + (o.num - count_of (scope_of t) o.sort)) (count_of (with_sorts s t.made) o.sort) (omega (arith, here, more, same_growth s (scope_of t) t.made o.sort)))
     ]
 
 -- a shown literal
 abbrev is_shown : StatementView → Lit → Bool
-is_shown t l = is_well_formed l && all_in_scope (grown (scope_of t) t.made) l
+is_shown t l = is_well_formed l && all_in_scope (with_sorts (scope_of t) t.made) l
 
-one_gift : (t : StatementView) (args : List Obj) (s : Scope) (l : Lit) → are_arguments t s args ≡ true → is_shown t l ≡ true → is_well_formed_in (grown s t.made) (with_images (image_in_use t args s) l) ≡ true
+one_gift : (t : StatementView) (args : List Obj) (s : Scope) (l : Lit) → are_arguments t s args ≡ true → is_shown t l ≡ true → is_well_formed_in (with_sorts s t.made) (with_images (image_in_use t args s) l) ≡ true
 one_gift t args s l fit shown =
     let f = image_in_use t args s in
     ap (λ b. b && is_well_formed (with_images f l))
-    (renamed_scope (grown s t.made) f l
-    ∙ every (is_in_scope (grown (scope_of t) t.made)) (is_moved_in (grown s t.made) f) (λ o h. shown_lands t args s o fit h)
+    (renamed_scope (with_sorts s t.made) f l
+    ∙ every (is_in_scope (with_sorts (scope_of t) t.made)) (is_moved_in (with_sorts s t.made) f) (λ o h. shown_lands t args s o fit h)
     (objects_of_atom l.atom) (and_right (is_well_formed l) _ shown))
     ∙ renamed_well_formed f l ∙ and_left (is_well_formed l) _ shown
 
 each_gift : (t : StatementView) (args : List Obj) (s : Scope) (ls : List Lit) → are_arguments t s args ≡ true → list_all (is_shown t) ls ≡ true
-    → are_well_formed_in (grown s t.made) (map (with_images (image_in_use t args s)) ls) ≡ true
+    → are_well_formed_in (with_sorts s t.made) (map (with_images (image_in_use t args s)) ls) ≡ true
 each_gift t args s [] fit shown = refl
 each_gift t args s (l ∷ ls) fit shown =
-    ap (λ b. b && are_well_formed_in (grown s t.made) (map (with_images (image_in_use t args s)) ls)) (one_gift t args s l fit (and_left (is_shown t l) _ shown))
+    ap (λ b. b && are_well_formed_in (with_sorts s t.made) (map (with_images (image_in_use t args s)) ls)) (one_gift t args s l fit (and_left (is_shown t l) _ shown))
     ∙ each_gift t args s ls fit (and_right (is_shown t l) _ shown)
 
-pub gives_good : (t : StatementView) (args : List Obj) (s : Scope) → is_statement t ≡ true → are_arguments t s args ≡ true → are_well_formed_in (grown s t.made) (gives_of_use t args s) ≡ true
+pub gives_good : (t : StatementView) (args : List Obj) (s : Scope) → is_statement t ≡ true → are_arguments t s args ≡ true → are_well_formed_in (with_sorts s t.made) (gives_of_use t args s) ≡ true
 gives_good t args s states fit = each_gift t args s t.shown fit (and_right (list_all (is_given t) t.given) _ states)

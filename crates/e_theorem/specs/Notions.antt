@@ -11,8 +11,8 @@ abbrev pub as_stated : Notion → StatementView
 as_stated n = record { declared = n.declared; given = []; made = []; shown = n.means }
 
 -- its literals with the arguments for its declared objects, in order
-abbrev pub expanded : Notion → List Obj → Scope → List Lit
-expanded n args s = gives_of_use (as_stated n) args s
+abbrev pub literals_of_notion : Notion → List Obj → Scope → List Lit
+literals_of_notion n args s = gives_of_use (as_stated n) args s
 
 -- it means something
 abbrev pub means_something : Notion → Bool

@@ -10,13 +10,13 @@ ghost use Rattle.e_literal.specs.Use.{are_arguments, image_in_use, needs_of_use,
 ghost use Rattle.e_literal.specs.Use.{scope_of};
 ghost use Rattle.e_theorem.specs.Statements.{stated};
 ghost use Rattle.e_theorem.specs.Faults.{UseFaultIs};
-ghost use Rattle.e_theorem.specs.Notions.{as_stated, expanded};
+ghost use Rattle.e_theorem.specs.Notions.{as_stated, literals_of_notion};
 ghost use Rattle.e_theorem.specs.declared.application.UseFault.TheVariants.{NoMemory};
 
 use crate::notion::Notion;
 use crate::statement::Statement;
 use e_literal::{
-    Items, Lit, Map, NOTHING, Obj, Scope, Sort, count, grown, next_objects, with_images,
+    Items, Lit, Map, NOTHING, Obj, Scope, Sort, count, next_objects, with_images, with_sorts,
 };
 use std::alloc::{AllocError, Global};
 use thiserror::Error;
@@ -93,7 +93,7 @@ pub fn expand(
 ) -> Result<Items<Lit>, UseFault>
     requires few { length notion.now.declared < 2 ^ 16 }
     ensures fit { IfOk result (λ _. IsTrue (are_arguments (as_stated notion.now) scope args.now)) }
-    ensures lits { IfOk result (λ ls. ls ≡ expanded notion.now args.now scope) }
+    ensures lits { IfOk result (λ ls. ls ≡ literals_of_notion notion.now args.now scope) }
     ensures err { IfErr result (UseFaultIs (as_stated notion.now) args.now scope) }
 {
     expand_first(alloc, notion, args, scope, notion.means.len())
@@ -110,7 +110,7 @@ pub fn expand_first(
 ) -> Result<Items<Lit>, UseFault>
     requires few { length notion.now.declared < 2 ^ 16 }
     ensures fit { IfOk result (λ _. IsTrue (are_arguments (as_stated notion.now) scope args.now)) }
-    ensures lits { IfOk result (λ ls. ls ≡ take most (expanded notion.now args.now scope)) }
+    ensures lits { IfOk result (λ ls. ls ≡ take most (literals_of_notion notion.now args.now scope)) }
     ensures err { IfErr result (UseFaultIs (as_stated notion.now) args.now scope) }
 {
     if !are_of_sorts(scope, notion.declared.items(), args) {
@@ -169,7 +169,7 @@ fn objects(alloc: Global, statement: &Statement) -> Result<Vec<Obj>, AllocError>
 {
     let declared = statement.declared.items();
     let mut objects = next_objects(alloc, NOTHING, declared)?;
-    let made = next_objects(alloc, grown(NOTHING, declared), statement.made.items())?;
+    let made = next_objects(alloc, with_sorts(NOTHING, declared), statement.made.items())?;
     objects.extend_from_slice(&made)?;
     Ok(objects)
 }

@@ -10,7 +10,7 @@ use Rattle.e_literal.specs.declared.object.Term.TheVariants.{Right}
 use Rattle.e_literal.specs.declared.literal.Lit.{Lit}
 use Rattle.e_literal.specs.Facts.{has, is_metric}
 use Rattle.e_literal.specs.Same.{canonical, one_term}
-use Rattle.e_literal.specs.Solution.{carried}
+use Rattle.e_literal.specs.Solution.{values_for_all}
 use Rattle.e_literal.specs.Truth.{holds, all_hold}
 use Rattle.e_literal.proofs.Terms.{term_eq_is}
 use Rattle.e_literal.proofs.Booleans.{and_left, and_right}
@@ -22,19 +22,19 @@ use Rattle.e_transfer.specs.declared.query.Strength.TheVariants as strength
 use Rattle.e_transfer.specs.GivenGoals.{Suffices}
 use Rattle.e_transfer.specs.Models.{fits_term, fits_terms, is_model}
 
-by_one : (w : Term → ℕ) (t u : Term) (b : Bool) → one_term t u ≡ b → cond b (eqb (carried w t) (carried w u)) true ≡ true
-by_one w t u true e = eq-eqb (carried w t) (carried w u) (carried_same w t u (term_eq_is (canonical t) (canonical u) e))
+by_one : (w : Term → ℕ) (t u : Term) (b : Bool) → one_term t u ≡ b → cond b (eqb (values_for_all w t) (values_for_all w u)) true ≡ true
+by_one w t u true e = eq-eqb (values_for_all w t) (values_for_all w u) (carried_same w t u (term_eq_is (canonical t) (canonical u) e))
 by_one w t u false e = refl
 
-agrees : (w : Term → ℕ) (ts : List Term) (t : Term) → agrees_with (carried w) ts t ≡ true
+agrees : (w : Term → ℕ) (ts : List Term) (t : Term) → agrees_with (values_for_all w) ts t ≡ true
 agrees w [] t = refl
-agrees w (u ∷ us) t = and_from (cond (one_term t u) (eqb (carried w t) (carried w u)) true) (agrees_with (carried w) us t) (by_one w t u (one_term t u) refl) (agrees w us t)
+agrees w (u ∷ us) t = and_from (cond (one_term t u) (eqb (values_for_all w t) (values_for_all w u)) true) (agrees_with (values_for_all w) us t) (by_one w t u (one_term t u) refl) (agrees w us t)
 
-all_admissible : (facts : List Lit) (w : Term → ℕ) (all ts : List Term) → fits_terms facts (carried w) ts ≡ true
-    → list_all (λ t. is_within (carried w) t && (is_zero_if_degenerate (carried w) t && (is_positive_if_apart facts (carried w) t && agrees_with (carried w) all t))) ts ≡ true
+all_admissible : (facts : List Lit) (w : Term → ℕ) (all ts : List Term) → fits_terms facts (values_for_all w) ts ≡ true
+    → list_all (λ t. is_within (values_for_all w) t && (is_zero_if_degenerate (values_for_all w) t && (is_positive_if_apart facts (values_for_all w) t && agrees_with (values_for_all w) all t))) ts ≡ true
 all_admissible facts w all [] fit = refl
 all_admissible facts w all (t ∷ ts) fit =
-    let v = carried w in
+    let v = values_for_all w in
     let here = and_left (fits_term facts v t) (fits_terms facts v ts) fit in
     let within = and_left (is_within v t) (is_positive_if_apart facts v t) here in
     let positive = and_right (is_within v t) (is_positive_if_apart facts v t) here in
@@ -46,10 +46,10 @@ all_admissible facts w all (t ∷ ts) fit =
     (all_admissible facts w all ts (and_right (fits_term facts v t) (fits_terms facts v ts) fit))
 
 -- a literal that is false in a model, with values that its terms may have, does not follow
-pub refuted : (facts : List Lit) (l : Lit) (w : Term → ℕ) → is_model facts (carried w) ≡ true → fits_terms facts (carried w) (terms_of_atom l.atom) ≡ true
-    → holds (carried w) l ≡ false → MetricConsequence facts l → ⊥
+pub refuted : (facts : List Lit) (l : Lit) (w : Term → ℕ) → is_model facts (values_for_all w) ≡ true → fits_terms facts (values_for_all w) (terms_of_atom l.atom) ≡ true
+    → holds (values_for_all w) l ≡ false → MetricConsequence facts l → ⊥
 refuted facts l w model fit fails follows =
-    let v = carried w in
+    let v = values_for_all w in
     let rest = and_right (fits_term facts v Right) (fits_terms facts v (terms_of_lits facts) && all_hold v facts) model in
     let right = and_left (fits_term facts v Right) (fits_terms facts v (terms_of_lits facts) && all_hold v facts) model in
     let terms = and_left (fits_terms facts v (terms_of_lits facts)) (all_hold v facts) rest in

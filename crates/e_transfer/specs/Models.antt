@@ -8,7 +8,7 @@ use Rattle.e_literal.specs.declared.literal.Lit.{Lit}
 use Rattle.e_literal.specs.Same.{term_eq}
 use Rattle.e_transfer.specs.declared.models.Filling.{Filling}
 use Rattle.e_transfer.specs.declared.models.Filling.TheVariants.{Ones, Spread, Flat}
-use Rattle.e_literal.specs.Solution.{carried}
+use Rattle.e_literal.specs.Solution.{values_for_all}
 use Rattle.e_literal.specs.Truth.{all_hold}
 use Rattle.e_clause.specs.Assignment.{is_within, is_positive_if_apart, terms_of_lits}
 
@@ -43,7 +43,7 @@ value_when_canonical filling values t =
 -- the same in whatever order the points of the term are written, and 0 for a segment x x and a flat
 -- area
 abbrev pub value_by : Filling → List (Term × ℕ) → Term → ℕ
-value_by filling values t = carried (value_when_canonical filling values) t
+value_by filling values t = values_for_all (value_when_canonical filling values) t
 
 -- what the value of a term of a step has to be
 abbrev pub fits_term : List Lit → (Term → ℕ) → Term → Bool

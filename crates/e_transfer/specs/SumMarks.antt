@@ -10,7 +10,7 @@ use Rattle.e_literal.specs.declared.literal.Atom.{Atom}
 use Rattle.e_literal.specs.declared.literal.Atom.TheVariants.{MagEq, MagLt}
 use Rattle.e_literal.specs.declared.literal.Lit.{Lit}
 use Rattle.e_literal.specs.Truth.{value_of}
-use Rattle.e_literal.specs.Solution.{carried}
+use Rattle.e_literal.specs.Solution.{values_for_all}
 
 -- the square modulo a prime below 2^30
 unfoldable pub mixed_number : ℕ → ℕ
@@ -25,7 +25,7 @@ mark_of_term Right = 1
 
 -- the value of a sum where each term has its number
 abbrev pub mark_total : List Mono → ℕ
-mark_total sum = value_of (carried mark_of_term) sum
+mark_total sum = value_of (values_for_all mark_of_term) sum
 
 -- how far two totals are from each other, folded
 unfoldable pub folded_distance : ℕ → ℕ → ℕ

@@ -2,7 +2,7 @@
 //! fact are seen to be neither before they are made.
 
 ghost use Rattle.std.specs.Prelude.{◌≡◌, ◌*◌, ◌<◌, ◌^◌, IsTrue, length};
-ghost use Rattle.e_literal.specs.Solution.{carried};
+ghost use Rattle.e_literal.specs.Solution.{values_for_all};
 ghost use Rattle.e_transfer.specs.SumMarks;
 ghost use Rattle.e_transfer.specs.SumMarks.{mixed_number, mark_of_term, mark_total};
 ghost use Rattle.e_transfer.specs.SumMarks.{folded_distance, has_sum_mark, have_sum_marks};
@@ -40,7 +40,7 @@ fn number_of_term(term: Term) -> u64
 
 /// The number of a term, however it is written; 0 where it is 0 in itself.
 fn carried_number(term: Term) -> u64
-    ensures value { result ≡ carried mark_of_term term }
+    ensures value { result ≡ values_for_all mark_of_term term }
     ensures bound { result < 2 ^ 30 }
 {
     if is_degenerate(term) {
@@ -52,7 +52,7 @@ fn carried_number(term: Term) -> u64
 
 /// The number of a term, so many times.
 pub fn share(times: u32, term: Term) -> u64
-    ensures value { result ≡ times * carried mark_of_term term }
+    ensures value { result ≡ times * values_for_all mark_of_term term }
     ensures bound { result < 2 ^ 62 }
 {
     u64::from(times) * carried_number(term)

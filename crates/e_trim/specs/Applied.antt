@@ -19,17 +19,17 @@ places_of (Contradiction against) = []
 places_of (Cases lit first second) = places_of first ++ places_of second
 
 -- it is put last, unless it is there
-abbrev pub noted : List ℕ → ℕ → List ℕ
-noted ps p = if list_any (λ q. q == p) ps then ps else ps ++ p ∷ []
+abbrev pub with_new_place : List ℕ → ℕ → List ℕ
+with_new_place ps p = if list_any (λ q. q == p) ps then ps else ps ++ p ∷ []
 
 -- one after the other
-abbrev pub noted_all : List ℕ → List ℕ → List ℕ
-noted_all ps [] = ps
-noted_all ps (q ∷ qs) = noted_all (noted ps q) qs
+abbrev pub with_new_places : List ℕ → List ℕ → List ℕ
+with_new_places ps [] = ps
+with_new_places ps (q ∷ qs) = with_new_places (with_new_place ps q) qs
 
 -- the places in the order of their first use, each once
 abbrev pub applied_by : Script → List ℕ
-applied_by d = noted_all [] (places_of d)
+applied_by d = with_new_places [] (places_of d)
 
 -- those of a step alone, and of the block inside of it
 abbrev pub places_of_step : Step → List ℕ

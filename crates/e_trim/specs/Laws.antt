@@ -7,23 +7,23 @@ use Rattle.e_clause.specs.declared.cert.Version.TheVariants.{One}
 use Rattle.e_deriv.specs.Script.{Script, size, depth}
 use Rattle.e_deriv.specs.Versions.{has_certs_of}
 use Rattle.e_deriv.specs.Certified.{Certified}
-use Rattle.e_trim.specs.Trimmed.{trimmed}
+use Rattle.e_trim.specs.Trimmed.{trimmed_script}
 
 abbrev pub TrimmedIsCertified : Type 0
 TrimmedIsCertified =
     (before : List StatementView) (t : StatementView) (d : Script)
     → IsTrue (list_all is_statement before) → IsTrue (is_statement t) → IsTrue (has_certs_of One d)
     → Certified before t d
-    → Certified before t (trimmed before t d)
+    → Certified before t (trimmed_script before t d)
 
 -- it has no more steps, and no more blocks one inside the other
 abbrev pub TrimmedIsShorter : Type 0
 TrimmedIsShorter =
     (before : List StatementView) (t : StatementView) (d : Script)
-    → (size (trimmed before t d) ≤ size d) × (depth (trimmed before t d) ≤ depth d)
+    → (size (trimmed_script before t d) ≤ size d) × (depth (trimmed_script before t d) ≤ depth d)
 
 -- it is of the same version
 abbrev pub TrimmedKeepsVersion : Type 0
 TrimmedKeepsVersion =
     (v : Version) (before : List StatementView) (t : StatementView) (d : Script)
-    → IsTrue (has_certs_of v d) → IsTrue (has_certs_of v (trimmed before t d))
+    → IsTrue (has_certs_of v d) → IsTrue (has_certs_of v (trimmed_script before t d))

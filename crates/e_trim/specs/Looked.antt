@@ -141,7 +141,7 @@ of_against facts (MetricAgainst m) = of_sums facts None m.sums
 abbrev pub of_citation : By → Wants
 of_citation by =
     wanted_lits
-        (option_map_or (λ lits. map negation (others lits by.lit)) (Inst by.rule by.args) [])
+    (option_map_or (λ lits. map negation (others lits by.lit)) (Inst by.rule by.args) [])
 
 -- beside its certificates for what it needs; a contradiction has a certificate of its own
 abbrev pub of_beside : Script → List Lit → Wants

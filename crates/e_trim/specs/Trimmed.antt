@@ -11,7 +11,7 @@ use Rattle.e_literal.specs.declared.literal.Lit.{Lit}
 use Rattle.e_literal.specs.Literal.{negation, obj, is_in_scope}
 use Rattle.e_literal.specs.Facts.{has, with_fact, with_facts}
 use Rattle.e_literal.specs.Rename.{with_images, term_at, same_obj}
-use Rattle.e_literal.specs.Scopes.{same_sort, nothing, grown, next_objects}
+use Rattle.e_literal.specs.Scopes.{same_sort, nothing, with_sorts, next_objects}
 use Rattle.e_literal.specs.Use.{StatementView, scope_of, gives_of_use}
 use Rattle.e_construct.specs.declared.construction.Construction.{Construction}
 use Rattle.e_construct.specs.declared.superpose.Superpose.{Superpose}
@@ -101,12 +101,12 @@ wants before (Hence lit cert rest) s facts goal =
     (wants before rest s (with_fact facts lit) goal)
 wants before (Make construction names certs rest) s facts goal =
     wants_with_step before (Make construction names certs rest) s facts goal no_wants
-    (wants before rest (grown s (sorts_made construction))
+    (wants before rest (with_sorts s (sorts_made construction))
     (with_facts facts (gives_of_construction construction s)) goal)
 wants before (Apply theorem args names certs rest) s facts goal =
     let here = Apply theorem args names certs rest in
     wants_with_step before here s facts goal no_wants
-    (wants before rest (grown s (theorem_at before theorem).made)
+    (wants before rest (with_sorts s (theorem_at before theorem).made)
     (with_facts facts (joins_at before here s)) goal)
 wants before (Claim shown inner rest) s facts goal =
     wants_with_step before (Claim shown inner rest) s facts goal
@@ -114,7 +114,7 @@ wants before (Claim shown inner rest) s facts goal =
     (wants before rest s (with_facts facts shown) goal)
 wants before (Superposed superposition names shown certs inner rest) s facts goal =
     wants_with_step before (Superposed superposition names shown certs inner rest) s facts goal
-    (wants_outside s facts (wants before inner (grown s superposing.sorts_copied)
+    (wants_outside s facts (wants before inner (with_sorts s superposing.sorts_copied)
     (with_facts facts (superposing.gives_of_superposition superposition s)) (goal_of shown)))
     (wants before rest s (with_facts facts shown) goal)
 wants before (Qed objects certs) s facts goal =
@@ -219,7 +219,7 @@ trimmed_from before kept (Hence lit cert rest) s facts goal =
     then Hence (lit_among_kept kept lit) (option_map (cert_at kept) cert) more else more
 trimmed_from before kept (Make construction names certs rest) s facts goal =
     let after = with_facts facts (gives_of_construction construction s) in
-    let wide = grown s (sorts_made construction) in
+    let wide = with_sorts s (sorts_made construction) in
     if is_kept before (Make construction names certs rest) s facts
     (wants before rest wide after goal)
     then Make (construction_among_kept kept construction) names (map (cert_at kept) certs)
@@ -229,10 +229,10 @@ trimmed_from before kept (Apply theorem args names certs rest) s facts goal =
     let here = Apply theorem args names certs rest in
     let new = (theorem_at before theorem).made in
     let after = with_facts facts (joins_at before here s) in
-    if is_kept before here s facts (wants before rest (grown s new) after goal)
+    if is_kept before here s facts (wants before rest (with_sorts s new) after goal)
     then Apply theorem (args_at kept args) names (map (cert_at kept) certs)
-    (trimmed_from before (kept ++ next_objects s new) rest (grown s new) after goal)
-    else trimmed_from before kept rest (grown s new) after goal
+    (trimmed_from before (kept ++ next_objects s new) rest (with_sorts s new) after goal)
+    else trimmed_from before kept rest (with_sorts s new) after goal
 trimmed_from before kept (Claim shown inner rest) s facts goal =
     let more = trimmed_from before kept rest s (with_facts facts shown) goal in
     if is_kept before (Claim shown inner rest) s facts (wants before rest s
@@ -247,7 +247,7 @@ trimmed_from before kept (Superposed superposition names shown certs inner rest)
     then Superposed (superpose_at kept superposition) names (map (lit_among_kept kept) shown)
     (map (cert_at kept) certs)
     (trimmed_from before (kept ++ next_objects s superposing.sorts_copied) inner
-    (grown s superposing.sorts_copied) opened (goal_of shown)) more
+    (with_sorts s superposing.sorts_copied) opened (goal_of shown)) more
     else more
 trimmed_from before kept (Qed objects certs) s facts goal =
     Qed (map (obj_at kept) objects) (map (cert_at kept) certs)
@@ -262,6 +262,6 @@ abbrev pub declared_of : StatementView → List Obj
 declared_of t = next_objects nothing t.declared
 
 -- of the derivation of a statement
-abbrev pub trimmed : List StatementView → StatementView → Script → Script
-trimmed before t d =
+abbrev pub trimmed_script : List StatementView → StatementView → Script → Script
+trimmed_script before t d =
     trimmed_from before (declared_of t) d (scope_of t) (facts_of_statement t) (goal_of_statement t)

@@ -17,7 +17,7 @@ use crate::numbering::{new_against, new_by, new_certs, new_objects};
 use crate::steps::makes;
 use e_clause::Against;
 use e_deriv::{Block, Close, Step};
-use e_literal::{Obj, Scope, Sort, grown, next_objects};
+use e_literal::{Obj, Scope, Sort, next_objects, with_sorts};
 use e_theorem::Statement;
 use std::alloc::{AllocError, Global};
 use std::mem;
@@ -88,7 +88,7 @@ fn build(
         [] => build_close(alloc, before, close, scope, kept, flags),
         [step, steps @ ..] => {
             let sorts = makes(before, step);
-            let after = grown(scope, sorts);
+            let after = with_sorts(scope, sorts);
             if !take_flag(flags) {
                 return build(alloc, before, steps, close, after, kept, flags, out);
             }
@@ -150,7 +150,14 @@ fn build_step(
         } => {
             let copies = superposition.made();
             let inside = with_next(alloc, kept, scope, copies)?;
-            let inner = build_block(alloc, before, inner, grown(scope, copies), &inside, flags)?;
+            let inner = build_block(
+                alloc,
+                before,
+                inner,
+                with_sorts(scope, copies),
+                &inside,
+                flags,
+            )?;
             new_superposition(
                 alloc,
                 kept,

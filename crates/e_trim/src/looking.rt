@@ -3,7 +3,7 @@
 ghost use Rattle.std.specs.Prelude.{◌≡◌, ◌++◌, ◌<◌, ◌^◌, IfOk, OnOk, IsTrue, length};
 ghost use Rattle.std.specs.List.{list_all};
 ghost use Rattle.e_literal.specs.Facts.{with_facts};
-ghost use Rattle.e_literal.specs.Scopes.{grown};
+ghost use Rattle.e_literal.specs.Scopes.{with_sorts};
 ghost use Rattle.e_theorem.specs.Statements.{all_stated};
 ghost use Rattle.e_deriv.specs.Fitting.{is_small, is_small_statement};
 ghost use Rattle.e_deriv.specs.Script.{script_of, steps_script, close_script};
@@ -158,14 +158,14 @@ fn look_inside(
     requires small { IsTrue (is_small state.old.scope) }
     requires few { length sorts.now < 2 ^ 15 }
     requires ready { IsReady (all_stated before.now) (script_of block.now)
-        (grown state.old.scope sorts.now) (with_facts state.old.facts lits.now)
+        (with_sorts state.old.scope sorts.now) (with_facts state.old.facts lits.now)
         (goal_view goal.now) }
     requires statements { IsTrue (list_all is_small_statement (all_stated before.now)) }
     ensures wanted { IfOk result (λ w. w ≡ wants_outside state.old.scope state.old.facts
-        (wants (all_stated before.now) (script_of block.now) (grown state.old.scope sorts.now)
+        (wants (all_stated before.now) (script_of block.now) (with_sorts state.old.scope sorts.now)
         (with_facts state.old.facts lits.now) (goal_view goal.now))) }
     ensures flags { OnOk result (flags.new.items ≡ flags.old.items
-        ++ flags_of (all_stated before.now) (script_of block.now) (grown state.old.scope sorts.now)
+        ++ flags_of (all_stated before.now) (script_of block.now) (with_sorts state.old.scope sorts.now)
         (with_facts state.old.facts lits.now) (goal_view goal.now)) }
     ensures same { OnOk result (state.new ≡ state.old) }
 {

@@ -19,7 +19,7 @@ fn is_among(places: &[u32], place: u32) -> bool
 /// Puts the place last, unless it is there.
 #[tactic(auto, using(crate::proofs::walks::Places::noting))]
 fn note(places: &mut Vec<u32>, place: u32) -> Result<(), AllocError>
-    ensures { OnOk result (places.new.items ≡ Applied.noted places.old.items place) }
+    ensures { OnOk result (places.new.items ≡ Applied.with_new_place places.old.items place) }
 {
     if !is_among(places, place) {
         places.push(place)?;
@@ -32,7 +32,7 @@ fn note(places: &mut Vec<u32>, place: u32) -> Result<(), AllocError>
 #[tactic(auto, using(crate::proofs::walks::Places::noting))]
 fn note_block(places: &mut Vec<u32>, block: &Block) -> Result<(), AllocError>
     ensures { OnOk result
-        (places.new.items ≡ Applied.noted_all places.old.items (places_of (script_of block.now))) }
+        (places.new.items ≡ Applied.with_new_places places.old.items (places_of (script_of block.now))) }
 {
     for step in &block.steps {
         note_step(places, step)?;
@@ -45,7 +45,7 @@ fn note_block(places: &mut Vec<u32>, block: &Block) -> Result<(), AllocError>
 #[tactic(auto, using(crate::proofs::walks::Places::noting))]
 fn note_step(places: &mut Vec<u32>, step: &Step) -> Result<(), AllocError>
     ensures { OnOk result
-        (places.new.items ≡ Applied.noted_all places.old.items (Applied.places_of_step step.now)) }
+        (places.new.items ≡ Applied.with_new_places places.old.items (Applied.places_of_step step.now)) }
 {
     match step {
         Step::Cite(_) | Step::Hence { .. } | Step::Make { .. } => Ok(()),
@@ -60,7 +60,7 @@ fn note_step(places: &mut Vec<u32>, step: &Step) -> Result<(), AllocError>
 #[tactic(auto, using(crate::proofs::walks::Places::noting))]
 fn note_close(places: &mut Vec<u32>, close: &Close) -> Result<(), AllocError>
     ensures { OnOk result (places.new.items
-        ≡ Applied.noted_all places.old.items (places_of (close_script close.now))) }
+        ≡ Applied.with_new_places places.old.items (places_of (close_script close.now))) }
 {
     match close {
         Close::Qed { .. } | Close::Contradiction { .. } => Ok(()),

@@ -6,7 +6,7 @@ ghost use Rattle.e_deriv.specs.Fitting.{is_small};
 ghost use Rattle.e_trim.specs.inner.StepState.{checkpoint_of, state_at, state_with};
 
 use e_facts::Facts;
-use e_literal::{Lit, Scope, Sort, copy, grown};
+use e_literal::{Lit, Scope, Sort, copy, with_sorts};
 use std::alloc::{AllocError, Global};
 
 /// The scope and the facts before a step.
@@ -49,7 +49,7 @@ impl StepState {
         requires few { length sorts.now < 2 ^ 15 }
         ensures { OnOk result (self.new ≡ state_with sorts.now lits.now self.old) }
     {
-        self.scope = grown(self.scope, sorts);
+        self.scope = with_sorts(self.scope, sorts);
         join_copies(alloc, &mut self.facts, lits)
     }
 }

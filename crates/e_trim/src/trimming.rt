@@ -7,7 +7,7 @@ ghost use Rattle.e_deriv.specs.Certified.{Certified};
 ghost use Rattle.e_deriv.specs.Goal.{goal_of_statement};
 ghost use Rattle.e_deriv.specs.Script.{script_of};
 ghost use Rattle.e_trim.specs.Trimmable.{IsTrimmable};
-ghost use Rattle.e_trim.specs.Trimmed.{trimmed};
+ghost use Rattle.e_trim.specs.Trimmed.{trimmed_script};
 ghost use Rattle.e_trim.specs.inner.Flags as flags;
 ghost use Rattle.e_trim.specs.inner.StepState.{start_of};
 
@@ -17,7 +17,7 @@ use crate::looking::look;
 use crate::step_state::{StepState, join_copies};
 use e_deriv::{Block, Goal};
 use e_facts::Facts;
-use e_literal::{NOTHING, Scope, grown, next_objects};
+use e_literal::{NOTHING, Scope, next_objects, with_sorts};
 use e_theorem::Statement;
 use std::alloc::{AllocError, Global};
 use std::mem;
@@ -45,7 +45,7 @@ fn flags_of(
         (script_of deriv.now) (scope_of (stated statement.now))
         (start_of (stated statement.now)).facts (goal_of_statement (stated statement.now))) }
 {
-    let scope = grown(NOTHING, statement.declared.items());
+    let scope = with_sorts(NOTHING, statement.declared.items());
     let made = next_objects(alloc, scope, statement.made.items())?;
     let mut state = begin(alloc, scope, statement)?;
     let goal = Goal {
@@ -80,7 +80,7 @@ pub fn trim(
 ) -> Result<Block, AllocError>
     requires { IsTrimmable (all_stated before.now) (stated statement.now) (script_of deriv.now) }
     ensures trimmed { IfOk result (λ b. script_of b
-        ≡ trimmed (all_stated before.now) (stated statement.now) (script_of deriv.now)) }
+        ≡ trimmed_script (all_stated before.now) (stated statement.now) (script_of deriv.now)) }
     ensures certified { IfOk result
         (λ b. Certified (all_stated before.now) (stated statement.now) (script_of b)) }
 {
@@ -91,7 +91,7 @@ pub fn trim(
         alloc,
         before,
         deriv,
-        grown(NOTHING, declared),
+        with_sorts(NOTHING, declared),
         &kept,
         &mut flags,
     )?;

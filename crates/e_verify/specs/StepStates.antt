@@ -2,7 +2,7 @@
 use Rattle.std.specs.Prelude.{List, length, take}
 use Rattle.e_literal.specs.declared.literal.Lit.{Lit}
 use Rattle.e_literal.specs.Facts.{with_facts}
-use Rattle.e_literal.specs.Scopes.{grown}
+use Rattle.e_literal.specs.Scopes.{with_sorts}
 use Rattle.e_literal.specs.Use.{StatementView, scope_of}
 use Rattle.e_construct.specs.declared.construction.Construction.{Construction}
 use Rattle.e_construct.specs.Construct.{sorts_made, gives_of_construction}
@@ -24,20 +24,20 @@ state_with_facts facts x = record x { facts = facts }
 abbrev pub state_after_make : Construction → StepState → StepState
 state_after_make construction x =
     record {
-      scope = grown x.scope (sorts_made construction);
+      scope = with_sorts x.scope (sorts_made construction);
       facts = with_facts x.facts (gives_of_construction construction x.scope);
     }
 
 -- after a use of a statement that gives these literals
 abbrev pub state_after_use : StatementView → List Lit → StepState → StepState
 state_after_use t gives x =
-    record { scope = grown x.scope t.made; facts = with_facts x.facts gives }
+    record { scope = with_sorts x.scope t.made; facts = with_facts x.facts gives }
 
 -- what the block of a superposition begins with
 abbrev pub state_after_superposed : Superpose → StepState → StepState
 state_after_superposed superposition x =
     record {
-      scope = grown x.scope superposing.sorts_copied;
+      scope = with_sorts x.scope superposing.sorts_copied;
       facts = with_facts x.facts (superposing.gives_of_superposition superposition x.scope);
     }
 

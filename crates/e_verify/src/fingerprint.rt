@@ -2,9 +2,9 @@
 //! once.
 
 ghost use Rattle.std.specs.Prelude.{◌≡◌, ◌*◌, ◌<◌, ◌≤◌, ◌^◌};
-ghost use Rattle.e_literal.specs.Solution.{carried};
+ghost use Rattle.e_literal.specs.Solution.{values_for_all};
 ghost use Rattle.e_verify.specs.inner.Fingerprint.{square_residue, term_number};
-ghost use Rattle.e_verify.specs.inner.Fingerprint.{sum_weight, packed, atom_fingerprint};
+ghost use Rattle.e_verify.specs.inner.Fingerprint.{sum_weight, packed_number, atom_fingerprint};
 
 use crate::key::pack;
 use e_literal::{Atom, Lit, Mono, Term, canonical, is_degenerate};
@@ -36,7 +36,7 @@ fn number_of(term: Term) -> u64
 
 /// The number of a term, however it is written; 0 where it is 0 in itself.
 fn carried_number(term: Term) -> u64
-    ensures value { result ≡ carried term_number term }
+    ensures value { result ≡ values_for_all term_number term }
     ensures bound { result < 2 ^ 30 }
 {
     if is_degenerate(term) {
@@ -48,7 +48,7 @@ fn carried_number(term: Term) -> u64
 
 /// The number of a term as often as the sum has it.
 fn share(mono: &Mono) -> u64
-    ensures value { result ≡ mono.now.coeff * carried term_number mono.now.term }
+    ensures value { result ≡ mono.now.coeff * values_for_all term_number mono.now.term }
     ensures bound { result < 2 ^ 62 }
 {
     u64::from(mono.coeff) * carried_number(mono.term)
@@ -67,7 +67,7 @@ fn weight_of(sum: &[Mono]) -> u128
 
 /// A kind of atom and its objects as one number.
 fn number_for(kind: u16, a: u16, b: u16, c: u16) -> u128
-    ensures { result ≡ packed kind a b c }
+    ensures { result ≡ packed_number kind a b c }
 {
     u128::from(pack(kind, a, b, c))
 }

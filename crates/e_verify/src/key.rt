@@ -1,7 +1,7 @@
 //! Terms as numbers, which are compared at once.
 
 ghost use Rattle.std.specs.Prelude.{◌≡◌, IsTrue};
-ghost use Rattle.e_verify.specs.inner.Fingerprint.{packed};
+ghost use Rattle.e_verify.specs.inner.Fingerprint.{packed_number};
 ghost use Rattle.e_verify.specs.inner.Totals.{term_key, is_narrow};
 
 use e_literal::Term;
@@ -21,7 +21,7 @@ pub fn key_of(term: Term) -> u64
 
 /// Four numbers as one.
 pub fn pack(kind: u16, a: u16, b: u16, c: u16) -> u64
-    ensures { result ≡ packed kind a b c }
+    ensures { result ≡ packed_number kind a b c }
 {
     let front = (u64::from(kind) * 0x1_0000 + u64::from(a)) * 0x1_0000 + u64::from(b);
     front * 0x1_0000 + u64::from(c)

@@ -98,7 +98,7 @@ fn row_not_zero<'a>(
     requires wanted { IsTrue (option_map_or is_well_formed (option_copied wanted) true) }
     requires name { IsTrue (is_writable_name name.now) }
     ensures row { option_map comparison_view result
-        ≡ MetricCertificate.differing facts.now (option_copied wanted.entry) name.now }
+        ≡ MetricCertificate.differing_row facts.now (option_copied wanted.entry) name.now }
     ensures small { IfSome result (λ c. IsTrue (is_short c)) }
 {
     match name {

@@ -11,7 +11,7 @@ ghost use Rattle.e_verify.specs.StepStates.{state_after_superposed, state_after_
 
 use crate::facts::Facts;
 use e_construct::{Construction, Superpose};
-use e_literal::{Lit, Scope, copy, grown, negate};
+use e_literal::{Lit, Scope, copy, negate, with_sorts};
 use e_theorem::Statement;
 use std::alloc::{AllocError, Global};
 
@@ -72,7 +72,7 @@ impl StepState {
         let scope = self.scope;
         let given = construction.gives(alloc, scope)?;
         self.facts.join(given)?;
-        self.scope = grown(scope, construction.made());
+        self.scope = with_sorts(scope, construction.made());
         Ok(())
     }
 
@@ -84,7 +84,7 @@ impl StepState {
         let scope = self.scope;
         let given = superposition.gives(alloc, scope)?;
         self.facts.join(given)?;
-        self.scope = grown(scope, superposition.made());
+        self.scope = with_sorts(scope, superposition.made());
         Ok(())
     }
 
@@ -101,7 +101,7 @@ impl StepState {
             (self.new ≡ state_after_use (stated statement.now) gives.now self.old) }
     {
         let scope = self.scope;
-        self.scope = grown(scope, statement.made.items());
+        self.scope = with_sorts(scope, statement.made.items());
         self.assume_all(alloc, gives)
     }
 

@@ -15,7 +15,7 @@ use crate::facts::Facts;
 use crate::reject::Reject;
 use crate::step_state::StepState;
 use e_deriv::{Block, Goal};
-use e_literal::{NOTHING, Scope, grown, next_objects};
+use e_literal::{NOTHING, Scope, next_objects, with_sorts};
 use e_theorem::Statement;
 use std::alloc::{AllocError, Global};
 
@@ -37,7 +37,7 @@ pub fn verify(
     ensures bad { IfErr result
         (RejectIs (verdict (all_stated before.now) (stated statement.now) (script_of deriv.now))) }
 {
-    let scope = grown(NOTHING, statement.declared.items());
+    let scope = with_sorts(NOTHING, statement.declared.items());
     let made = next_objects(alloc, scope, statement.made.items())?;
     let mut state = state_at_start(alloc, scope, statement)?;
     let goal = Goal {

@@ -147,7 +147,11 @@ fn what_follows(rt: HostRuntime) -> Result<(), Fail> {
         let facts = facts_of(rt.alloc(), parts.next().unwrap_or(""))?;
         let goal = parts.next().unwrap_or("");
         let wanted = parts.next().unwrap_or("");
-        assert_eq!(rt; word_for_goal(&rt, rt.alloc(), &facts, goal)?, wanted, "{line}");
+        assert_eq!(rt;
+            word_for_goal(&rt, rt.alloc(), &facts, goal)?,
+            wanted,
+            "{line}"
+        );
         assert_eq!(rt;
             answered_by_known(&rt, rt.alloc(), &facts, goal)?,
             wanted,

@@ -10,7 +10,7 @@ use Rattle.e_line.specs.declared.fault.BookFault.TheVariants as faults
 use Rattle.e_line.specs.Reading.{◌>>=◌}
 use Rattle.e_names.specs.declared.known.Known.{Known}
 use Rattle.e_book.specs.Grammar.{is_skipped, Rest}
-use Rattle.e_book.specs.Definitions.{BookItem, PartialItem, Answer, whole, whole_or, at_end, put_there, item_after_words, item_from}
+use Rattle.e_book.specs.Definitions.{BookItem, PartialItem, Answer, item_ended, whole_or, at_end, put_there, item_after_words, item_from}
 use Rattle.e_book.specs.FirstFault.{Leaves, IsFaulty, BreaksAt, IsFirst}
 
 abbrev wrong : BookFault → Answer
@@ -27,7 +27,7 @@ by_case false x y z P e t f = f refl e
 
 -- what follows a line
 abbrev after : Known → ℕ → Rest → PartialItem → Answer
-after known last lines n = whole_or (whole n) lines (item_from known last (Some n) lines)
+after known last lines n = whole_or (item_ended n) lines (item_from known last (Some n) lines)
 
 pub front_fault : (known : Known) (o left : Option PartialItem) (front : Rest) (line : Result LineView LineFault) (fault : BookFault) → Leaves known o front left → IsFaulty known left line fault
     → (last : ℕ) (other : Rest) → item_from known last o (front ++ line ∷ other) ≡ wrong fault
@@ -56,16 +56,16 @@ unended last (Some n) fault e = (n, refl, cc)
 abbrev read_partial : PartialItem → Result PartialItem FaultKind
 read_partial n = Ok n
 
-unfinished : (known : Known) (last : ℕ) (n : PartialItem) (ls : Rest) (fault : BookFault) (t : Option BookItem) → whole n ≡ t → whole_or t ls (item_from known last (Some n) ls) ≡ wrong fault
-    → (whole n ≡ None) × (item_from known last (Some n) ls ≡ wrong fault)
+unfinished : (known : Known) (last : ℕ) (n : PartialItem) (ls : Rest) (fault : BookFault) (t : Option BookItem) → item_ended n ≡ t → whole_or t ls (item_from known last (Some n) ls) ≡ wrong fault
+    → (item_ended n ≡ None) × (item_from known last (Some n) ls ≡ wrong fault)
 unfinished known last n ls fault None is e = (is, e)
 unfinished known last n ls fault (Some t) is e = absurd cc
 
 -- what a line made of it, where it ends in a fault
 went : (known : Known) (last : ℕ) (l : LineView) (ls : Rest) (r : Result PartialItem FaultKind) (fault : BookFault) → (put_there l.number r >>= λ n. after known last ls n) ≡ wrong fault
-    → (put_there l.number r ≡ Err fault) ⊎ ((n : PartialItem) × (r ≡ read_partial n) × (whole n ≡ None) × (item_from known last (Some n) ls ≡ wrong fault))
+    → (put_there l.number r ≡ Err fault) ⊎ ((n : PartialItem) × (r ≡ read_partial n) × (item_ended n ≡ None) × (item_from known last (Some n) ls ≡ wrong fault))
 went known last l ls (Err k) fault e = inl cc
-went known last l ls (Ok n) fault e = let u = unfinished known last n ls fault (whole n) refl e in inr (n, refl, u.0, u.1)
+went known last l ls (Ok n) fault e = let u = unfinished known last n ls fault (item_ended n) refl e in inr (n, refl, u.0, u.1)
 
 pub first_fault : (known : Known) (last : ℕ) (o : Option PartialItem) (lines : Rest) (fault : BookFault) → item_from known last o lines ≡ wrong fault → IsFirst known last o lines fault
 first_fault known last o [] fault e = let u = unended last o fault e in inr (u.0, u.1, u.2)

@@ -8,7 +8,7 @@ use Rattle.e_text.specs.declared.line.LineFault.{LineFault}
 use Rattle.e_literal.specs.declared.object.Scope.{Scope}
 use Rattle.e_literal.specs.declared.literal.Lit.{Lit}
 use Rattle.e_literal.specs.Literal.{all_in_scope}
-use Rattle.e_literal.specs.Scopes.{nothing, grown}
+use Rattle.e_literal.specs.Scopes.{nothing, with_sorts}
 use Rattle.e_literal.specs.Use.{scope_of}
 use Rattle.e_literal.proofs.GrownScopes.{sorts_next}
 use Rattle.e_theorem.specs.Statements.{stated}
@@ -32,7 +32,7 @@ use Rattle.e_book.specs.Book.{line_step, is_done, read_from}
 use Rattle.e_line.specs.Limits.{count_monomials}
 use Rattle.e_line.specs.Canonical.{raw_line_words, line_of}
 use Rattle.e_names.specs.Canonical.{given_raw_line, show_raw_line}
-use Rattle.e_book.specs.Canonical.{declare_raw_line, made_raw_line, grouped, declared_objects, made_objects, given_raw_lines, shown_raw_lines, head_raw_lines, script_raw_lines, names_of_proof, raw_lines_of}
+use Rattle.e_book.specs.Canonical.{declare_raw_line, made_raw_line, sort_groups, declared_objects, made_objects, given_raw_lines, shown_raw_lines, head_raw_lines, script_raw_lines, names_of_proof, raw_lines_of}
 use Rattle.e_book.specs.HasSpelling.{HasSpelling}
 use Rattle.e_book.specs.Laws.{Shows}
 use Rattle.e_line.proofs.read_again.Respelled.{GoodForm, as_read, form_again}
@@ -86,22 +86,22 @@ run_statement known t h o =
     let given : Option TheoremParser = Some (given_parser t.title dn st.declared st.given) in
     let made : Option TheoremParser = Some (making t.title st.declared st.given ns st.made) in
     let f4 : List RawLine = rawlines.Proof ∷ [] in
-    let f3 : List RawLine = map made_raw_line (grouped ns (made_objects st)) ++ map (show_raw_line ns) st.shown in
+    let f3 : List RawLine = map made_raw_line (sort_groups ns (made_objects st)) ++ map (show_raw_line ns) st.shown in
     let f2 : List RawLine = f3 ++ f4 in
-    let f1 : List RawLine = map declare_raw_line (grouped ns (declared_objects st)) ++ map (given_raw_line ns) st.given in
-    let run_declared : Runs known titled (map declare_raw_line (grouped ns (declared_objects st))) declared =
+    let f1 : List RawLine = map declare_raw_line (sort_groups ns (declared_objects st)) ++ map (given_raw_line ns) st.given in
+    let run_declared : Runs known titled (map declare_raw_line (sort_groups ns (declared_objects st))) declared =
     run_from known rawlines.Declare (declaring t.title) (declared_lines known t.title) ns nothing [] st.declared st.made o few h.fits.scope in
     let plain : Plain dn st.given = record { within = subst (λ (z : Scope). list_all (all_in_scope z) st.given ≡ true) (sym (declared_scope (stated st) ns h.fits.scope)) h.fits.given; good = h.fits.good_given } in
     let run_given : Runs known declared (map (given_raw_line ns) st.given) given =
     subst (λ (fs : List RawLine). Runs known declared fs given) (given_forms_of s ns st.given h.fits.given)
     (run_all_given known t.title dn st.declared st.given (first_in_order s ns o) plain h.fits.given_facts h.fits.given_terms) in
-    let whole : first_names (grown s st.made) ns ≡ ns = ap (λ (z : Scope). first_names z ns) h.fits.scope ∙ all_first ns in
-    let run_made : Runs known given (map made_raw_line (grouped ns (made_objects st))) made =
-    subst (λ (m : Names). Runs known given (map made_raw_line (grouped ns (made_objects st))) (Some (making t.title st.declared st.given m st.made))) whole
+    let whole : first_names (with_sorts s st.made) ns ≡ ns = ap (λ (z : Scope). first_names z ns) h.fits.scope ∙ all_first ns in
+    let run_made : Runs known given (map made_raw_line (sort_groups ns (made_objects st))) made =
+    subst (λ (m : Names). Runs known given (map made_raw_line (sort_groups ns (made_objects st))) (Some (making t.title st.declared st.given m st.made))) whole
     (run_from known rawlines.Made (making t.title st.declared st.given) (made_lines known t.title st.declared st.given) ns s [] st.made [] o few h.fits.scope) in
     let run_shown : Runs known made (map (show_raw_line ns) st.shown) (Some (started t)) = run_all_shown known t.title ns st.declared st.given st.made st.shown o (record { within = h.fits.shown; good = h.fits.good_shown }) h.some_shown in
-    let stating : Runs known titled f1 given = runs_append known titled declared given (map declare_raw_line (grouped ns (declared_objects st))) (map (given_raw_line ns) st.given) run_declared run_given in
-    let showing : Runs known given f3 (Some (started t)) = runs_append known given made (Some (started t)) (map made_raw_line (grouped ns (made_objects st))) (map (show_raw_line ns) st.shown) run_made run_shown in
+    let stating : Runs known titled f1 given = runs_append known titled declared given (map declare_raw_line (sort_groups ns (declared_objects st))) (map (given_raw_line ns) st.given) run_declared run_given in
+    let showing : Runs known given f3 (Some (started t)) = runs_append known given made (Some (started t)) (map made_raw_line (sort_groups ns (made_objects st))) (map (show_raw_line ns) st.shown) run_made run_shown in
     runs_append known titled given end f1 f2 stating (runs_append known given (Some (started t)) end f3 f4 showing (run_proof known t))
 
 run_head : (known : List TitledStatement) (t : TheoremView) → HasSpelling known t → InOrder t.names → Runs known None (head_raw_lines t) (Some (proving (started t) (begins t)))

@@ -7,7 +7,7 @@ use Rattle.e_literal.specs.declared.object.Sort.{Sort}
 use Rattle.e_literal.specs.declared.object.Sort.TheVariants.{Point, Line, Circle}
 use Rattle.e_literal.specs.declared.object.Scope.{Scope}
 use Rattle.e_literal.specs.Literal.{count_of}
-use Rattle.e_literal.specs.Scopes.{same_sort, with_one, grown, next_objects}
+use Rattle.e_literal.specs.Scopes.{same_sort, with_one, with_sorts, next_objects}
 use Rattle.e_literal.proofs.Sorts.{same_sort_is}
 use Rattle.e_literal.proofs.GrownScopes.{count_one}
 use Rattle.e_deriv.specs.declared.names.Names.{Names}
@@ -22,7 +22,7 @@ use Rattle.e_names.specs.Scope.{scope_of_names, fresh}
 use Rattle.e_book.specs.Steps.{with_declared, step, begin}
 use Rattle.e_book.specs.Book.{is_done}
 use Rattle.e_names.specs.Canonical.{name_at}
-use Rattle.e_book.specs.Canonical.{Group, group, grouped_before, grouped}
+use Rattle.e_book.specs.Canonical.{Group, group, grouped_before, sort_groups}
 use Rattle.e_line.specs.HasSpelling.{AreNames}
 use Rattle.e_names.proofs.distinct_names.Differ.{apart_at, has_not_in_front, not_before}
 use Rattle.e_names.proofs.read_lines.Building.{grows}
@@ -175,19 +175,19 @@ next ns s sort o f lt = record { named = named_at ns sort (count_of s sort) o (l
 
 -- the lines of the objects from some scope on, after which more objects come
 pub run_from : (known : List TitledStatement) (say : Sort → List (List ℕ) → RawLine) (at : Names → List Sort → TheoremParser) (l : LinesOfNames known say at) (ns : Names) (s : Scope) (before more after : List Sort) → InOrder ns → Few ns
-    → grown (grown s more) after ≡ scope_of_names ns → Runs known (Some (at (first_names s ns) before)) (map (says say) (grouped ns (next_objects s more))) (Some (at (first_names (grown s more) ns) (before ++ more)))
+    → with_sorts (with_sorts s more) after ≡ scope_of_names ns → Runs known (Some (at (first_names s ns) before)) (map (says say) (sort_groups ns (next_objects s more))) (Some (at (first_names (with_sorts s more) ns) (before ++ more)))
 run_from known say at l ns s before [] after o f e = ap (λ (x : List Sort). Some (at (first_names s ns) x)) (sym (append-nil before))
 run_from known say at l ns s before (sort ∷ more) after o f e =
     let first_grows = grows (with_one s sort) more sort in
-    let more_grows = grows (grown (with_one s sort) more) after sort in
-    let final : count_of (grown (grown (with_one s sort) more) after) sort ≡ count_of (scope_of_names ns) sort = ap (λ (x : Scope). count_of x sort) e in
+    let more_grows = grows (with_sorts (with_one s sort) more) after sort in
+    let final : count_of (with_sorts (with_sorts (with_one s sort) more) after) sort ≡ count_of (scope_of_names ns) sort = ap (λ (x : Scope). count_of x sort) e in
     let lt : count_of s sort < count_of (scope_of_names ns) sort = omega (arith, first_grows, more_grows, final, count_one s sort) in
     let name : List ℕ = name_at (names_of_sort ns sort) (count_of s sort) in
-    let gs : List Group = grouped ns (next_objects (with_one s sort) more) in
-    let u : Option TheoremParser = Some (at (first_names (grown (with_one s sort) more) ns) (before ++ sort ∷ more)) in
+    let gs : List Group = sort_groups ns (next_objects (with_one s sort) more) in
+    let u : Option TheoremParser = Some (at (first_names (with_sorts (with_one s sort) more) ns) (before ++ sort ∷ more)) in
     let rest = run_from known say at l ns (with_one s sort) (before ++ sort ∷ []) more after o f e in
     let last : Runs known (Some (at (first_names (with_one s sort) ns) (before ++ sort ∷ []))) (map (says say) gs) u =
-    subst (λ (x : List Sort). Runs known (Some (at (first_names (with_one s sort) ns) (before ++ sort ∷ []))) (map (says say) gs) (Some (at (first_names (grown (with_one s sort) more) ns) x))) (append_assoc before (sort ∷ []) more) rest in
+    subst (λ (x : List Sort). Runs known (Some (at (first_names (with_one s sort) ns) (before ++ sort ∷ []))) (map (says say) gs) (Some (at (first_names (with_sorts (with_one s sort) more) ns) x))) (append_assoc before (sort ∷ []) more) rest in
     let first : Runs known (Some (at (plus (first_names s ns) sort name) (before ++ sort ∷ []))) (map (says say) gs) u =
     subst (λ (x : Names). Runs known (Some (at x (before ++ sort ∷ []))) (map (says say) gs) u) (sym (plus_first ns s sort lt)) last in
     run_before known say at l (first_names s ns) before sort name gs u (next ns s sort o f lt) first

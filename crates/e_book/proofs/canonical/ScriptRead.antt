@@ -11,7 +11,7 @@ use Rattle.e_literal.specs.declared.object.Scope.{Scope}
 use Rattle.e_literal.specs.declared.literal.Lit.{Lit}
 use Rattle.e_literal.specs.Literal.{negation, all_in_scope}
 use Rattle.e_literal.specs.WellFormed.{is_well_formed}
-use Rattle.e_literal.specs.Scopes.{grown, are_of_sorts}
+use Rattle.e_literal.specs.Scopes.{with_sorts, are_of_sorts}
 use Rattle.e_literal.specs.Facts.{with_fact, with_facts}
 use Rattle.e_literal.specs.Use.{gives_of_use}
 use Rattle.e_theorem.specs.Pattern.{is_pattern}
@@ -197,7 +197,7 @@ unfolding placed_steps NewNamesFit
 make_good known d i construction names rest given goal r =
     let s = scope_of_names i.in_scope in
     record {
-      fits = (and_parts (fits_construction construction s) (list_all (line_fits (stated_by known)) (placed_steps (stated_by known) rest rest (grown s (sorts_made construction)) (with_facts given (gives_of_construction construction s)) goal)) r.fitting).0;
+      fits = (and_parts (fits_construction construction s) (list_all (line_fits (stated_by known)) (placed_steps (stated_by known) rest rest (with_sorts s (sorts_made construction)) (with_facts given (gives_of_construction construction s)) goal)) r.fitting).0;
       free = r.new_names.0;
       count = r.new_names.1;
     }
@@ -210,20 +210,20 @@ make_ready known d i construction names rest given goal r =
     let after = named i.in_scope (sorts_made construction) names in
     let facts = with_facts given (gives_of_construction construction s) in
     let n = i.facts + gifts i construction in
-    let scope : grown s (sorts_made construction) ≡ scope_of_names after = named_scope i.in_scope (sorts_made construction) names r.new_names.1 in
+    let scope : with_sorts s (sorts_made construction) ≡ scope_of_names after = named_scope i.in_scope (sorts_made construction) names r.new_names.1 in
     let p = and_parts (list_all is_name names) (is_plain rest) r.plain in
     record {
       order = named_in_order i.in_scope (sorts_made construction) names r.order (list_names names p.0) r.new_names.0;
       goal_sorts = r.goal_sorts;
       plain = p.1;
-      fitting = subst (λ (z : Scope). list_all (line_fits (stated_by known)) (placed_steps (stated_by known) rest rest z facts goal) ≡ true) scope (and_parts (fits_construction construction s) (list_all (line_fits (stated_by known)) (placed_steps (stated_by known) rest rest (grown s (sorts_made construction)) facts goal)) r.fitting).1;
+      fitting = subst (λ (z : Scope). list_all (line_fits (stated_by known)) (placed_steps (stated_by known) rest rest z facts goal) ≡ true) scope (and_parts (fits_construction construction s) (list_all (line_fits (stated_by known)) (placed_steps (stated_by known) rest rest (with_sorts s (sorts_made construction)) facts goal)) r.fitting).1;
       new_names = r.new_names.3;
       few = omega (arith, r.few);
       shallow = r.shallow;
       good = r.good;
       theorems = r.theorems;
       blanks = r.blanks;
-      facts = subst (λ (z : Scope). few_facts (stated_by known) n z rest ≡ true) scope (and_parts (leb n most_facts) (few_facts (stated_by known) n (grown s (sorts_made construction)) rest) r.facts).1;
+      facts = subst (λ (z : Scope). few_facts (stated_by known) n z rest ≡ true) scope (and_parts (leb n most_facts) (few_facts (stated_by known) n (with_sorts s (sorts_made construction)) rest) r.facts).1;
       terms = subst (λ (z : Scope). few_terms (stated_by known) i.terms z rest ≡ true) scope r.terms;
     }
 
@@ -234,7 +234,7 @@ make_taken known d i construction names rest given goal r t =
     let s = scope_of_names i.in_scope in
     let n = i.facts + gifts i construction in
     let good = make_good known d i construction names rest given goal r in
-    let most = leb-true _ _ (and_parts (leb n most_facts) (few_facts (stated_by known) n (grown s (sorts_made construction)) rest) r.facts).0 in
+    let most = leb-true _ _ (and_parts (leb n most_facts) (few_facts (stated_by known) n (with_sorts s (sorts_made construction)) rest) r.facts).0 in
     record {
       last = t.last;
       lines = omega (arith, t.lines);
@@ -268,13 +268,13 @@ apply_parts known d i theorem args names rest given goal r =
     let facts = with_facts given (gives_of_use t (written_args args) s) in
     let n = i.facts + length t.shown in
     let m = i.terms + count_monomials t.shown in
-    let scope : grown s t.made ≡ scope_of_names after.in_scope = named_scope i.in_scope t.made names r.new_names.1 in
+    let scope : with_sorts s t.made ≡ scope_of_names after.in_scope = named_scope i.in_scope t.made names r.new_names.1 in
     let p = and_parts (list_all is_name names) (is_plain rest) r.plain in
-    let f = and_parts (ltb theorem (length before) && is_pattern t s args) (list_all (line_fits before) (placed_steps before rest rest (grown s t.made) facts goal)) r.fitting in
+    let f = and_parts (ltb theorem (length before) && is_pattern t s args) (list_all (line_fits before) (placed_steps before rest rest (with_sorts s t.made) facts goal)) r.fitting in
     let e = and_parts (ltb theorem (length before)) (is_pattern t s args) f.0 in
     let h = and_parts (is_named_by_title known theorem) (names_theorems known rest) r.theorems in
-    let k = and_parts (leb n most_facts) (few_facts before n (grown s t.made) rest) r.facts in
-    let j = and_parts (leb m most_terms) (few_terms before m (grown s t.made) rest) r.terms in
+    let k = and_parts (leb n most_facts) (few_facts before n (with_sorts s t.made) rest) r.facts in
+    let j = and_parts (leb m most_terms) (few_terms before m (with_sorts s t.made) rest) r.terms in
     let b = and_parts (leb (count_blanks args) most_blanks) (few_blanks rest) r.blanks in
     record {
       good = record { title = h.0; entries = e.1; free = r.new_names.0; count = r.new_names.1 };
@@ -474,7 +474,7 @@ pub copy_parts : (known : List TitledStatement) (d : TheoremParser) (i : Inside)
 unfolding is_plain placed_steps NewNamesFit has_well_formed_literals few_facts few_terms names_theorems few_blanks
 copy_parts known d i superposition names shown inner rest given goal r =
     let s = scope_of_names i.in_scope in
-    let t = grown s superposing.sorts_copied in
+    let t = with_sorts s superposing.sorts_copied in
     let gives = superposing.gives_of_superposition superposition s in
     let begun = with_facts given gives in
     let scope : t ≡ scope_of_names (named i.in_scope superposing.sorts_copied names) = named_scope i.in_scope superposing.sorts_copied names r.new_names.1 in

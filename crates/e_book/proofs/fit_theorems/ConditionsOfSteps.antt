@@ -17,7 +17,7 @@ use Rattle.e_literal.specs.declared.literal.Atom.{Atom}
 use Rattle.e_literal.specs.declared.literal.Atom.TheVariants as atoms
 use Rattle.e_literal.specs.declared.literal.Lit.{Lit}
 use Rattle.e_literal.specs.Literal.{negation, is_in_scope, objects_of_atom, all_in_scope}
-use Rattle.e_literal.specs.Scopes.{grown, next_objects, are_of_sorts}
+use Rattle.e_literal.specs.Scopes.{with_sorts, next_objects, are_of_sorts}
 use Rattle.e_literal.specs.WellFormed.{is_well_formed}
 use Rattle.e_literal.specs.Facts.{has, with_fact, with_facts}
 use Rattle.e_literal.specs.Rename.{mono_at, atom_at, number_at, with_images, image_in, pairs_of}
@@ -121,20 +121,20 @@ good_more s t w ls h = every (is_well_formed_in s) (is_well_formed_in t) one ls 
 
 -- the goal of a statement with these made objects, whose literals are over all its objects
 pub record GoodGoal (before : Scope) (sorts : List Sort) (shown : List Lit) : Type 0 where
-  pub within : list_all (all_in_scope (grown before sorts)) shown ≡ true
+  pub within : list_all (all_in_scope (with_sorts before sorts)) shown ≡ true
   pub good : list_all is_well_formed shown ≡ true
 
 abbrev pub goal_for : Scope → List Sort → List Lit → Goal
 goal_for before sorts shown = record { made = next_objects before sorts; shown = shown }
 
-good_goal : (before s : Scope) (sorts : List Sort) (os : List Obj) (shown : List Lit) → Within before s → are_of_sorts s sorts os ≡ true → list_all (all_in_scope (grown before sorts)) shown ≡ true → list_all is_well_formed shown ≡ true
+good_goal : (before s : Scope) (sorts : List Sort) (os : List Obj) (shown : List Lit) → Within before s → are_of_sorts s sorts os ≡ true → list_all (all_in_scope (with_sorts before sorts)) shown ≡ true → list_all is_well_formed shown ≡ true
     → are_well_formed_in s (goal_with (goal_for before sorts shown) os) ≡ true
 good_goal before s sorts os [] w f h k = refl
 good_goal before s sorts os (l ∷ shown) w f h k =
-    let p = and_parts (all_in_scope (grown before sorts) l) (list_all (all_in_scope (grown before sorts)) shown) h in
+    let p = and_parts (all_in_scope (with_sorts before sorts) l) (list_all (all_in_scope (with_sorts before sorts)) shown) h in
     let q = and_parts (is_well_formed l) (list_all is_well_formed shown) k in
     let image = image_in (pairs_of (next_objects before sorts) os) in
-    let here = moved_lit s image l (every (is_in_scope (grown before sorts)) (is_moved_in s image) (λ o i. made_moved before s sorts os o f i (in_more before s w o)) (objects_of_atom l.atom) p.0) in
+    let here = moved_lit s image l (every (is_in_scope (with_sorts before sorts)) (is_moved_in s image) (λ o i. made_moved before s sorts os o f i (in_more before s w o)) (objects_of_atom l.atom) p.0) in
     rw (here, renamed_good image l q.0, good_goal before s sorts os shown w f p.1 q.1) refl
 
 -- ---- earlier theorems
@@ -186,10 +186,10 @@ room n b h = let p = and_parts (leb n most_terms) b h in (leb-true n most_terms 
 
 -- what a line gives that uses an earlier theorem
 good_gifts : (bs : List StatementView) (k : ℕ) (s : Scope) (args : List Obj) (facts : List Lit) (n : ℕ) → list_all is_statement bs ≡ true → ltb k (length bs) ≡ true → are_arguments (theorem_at bs k) s args ≡ true → GoodFacts s facts n
-    → GoodFacts (grown s (theorem_at bs k).made) (with_facts facts (gives_of_use (theorem_at bs k) args s)) (n + count_monomials (theorem_at bs k).shown)
+    → GoodFacts (with_sorts s (theorem_at bs k).made) (with_facts facts (gives_of_use (theorem_at bs k) args s)) (n + count_monomials (theorem_at bs k).shown)
 good_gifts bs k s args facts n states lt fit g =
     let t = theorem_at bs k in
-    let u = grown s t.made in
+    let u = with_sorts s t.made in
     let given = gives_of_use t args s in
     let start : GoodFacts u facts n = record { good = good_more s u (grows s t.made) facts g.good; few = g.few } in
     let next = all_joined u facts given n start (gives_of_use_good t args s (stated_at bs k states lt) fit) in
@@ -221,7 +221,7 @@ lines_good bs states before sorts shown goal (Hence lit cert rest) g f s other f
       ),
     )
 lines_good bs states before sorts shown goal (Make construction names certs rest) g f s other facts n good w le few h fit =
-    let t = grown s (sorts_made construction) in
+    let t = with_sorts s (sorts_made construction) in
     let more = with_facts facts (gives_of_construction construction s) in
     let p = and_parts (fits_construction construction s) (list_all (line_fits bs) (placed_steps bs rest (rest_of g) t (with_facts other (gives_of_construction construction s)) (goal_for before sorts shown))) fit in
     let larger : Within s t = grows s (sorts_made construction) in
@@ -236,7 +236,7 @@ lines_good bs states before sorts shown goal (Make construction names certs rest
     )
 lines_good bs states before sorts shown goal (Apply theorem pattern names certs rest) g f s other facts n good w le few h fit =
     let t = theorem_at bs theorem in
-    let u = grown s t.made in
+    let u = with_sorts s t.made in
     let m = n + count_monomials t.shown in
     let p = and_parts (ltb theorem (length bs) && is_pattern t s pattern) (list_all (line_fits bs) (placed_steps bs rest (rest_of g) u (with_facts other (gives_of_use t (args_of g) s)) (goal_for before sorts shown))) fit in
     let earlier : ltb theorem (length bs) ≡ true = (and_parts (ltb theorem (length bs)) (is_pattern t s pattern) p.0).0 in
@@ -272,7 +272,7 @@ lines_good bs states before sorts shown goal (Claim claimed inner rest) g f s ot
       ),
     )
 lines_good bs states before sorts shown goal (Superposed superposition names copied certs inner rest) g f s other facts n good w le few h fit =
-    let t = grown s superposing.sorts_copied in
+    let t = with_sorts s superposing.sorts_copied in
     let given = superposing.gives_of_superposition superposition s in
     let i = n + count_monomials given in
     let m = n + count_monomials copied in

@@ -8,7 +8,7 @@ use Rattle.e_literal.specs.declared.object.Sort.TheVariants as sorts
 use Rattle.e_literal.specs.declared.object.Scope.{Scope}
 use Rattle.e_literal.specs.declared.literal.Lit.{Lit}
 use Rattle.e_literal.specs.Literal.{negation, all_in_scope}
-use Rattle.e_literal.specs.Scopes.{grown}
+use Rattle.e_literal.specs.Scopes.{with_sorts}
 use Rattle.e_literal.specs.WellFormed.{is_well_formed}
 use Rattle.e_literal.specs.Facts.{with_fact, with_facts}
 use Rattle.e_literal.specs.Use.{StatementView, scope_of, is_statement, gives_of_use}
@@ -28,7 +28,7 @@ use Rattle.e_deriv.specs.Fitting.{all_objects, is_small, is_small_statement, Lit
 use Rattle.e_line.specs.declared.fault.What.TheVariants as limits
 use Rattle.e_line.specs.Reading.{◌>>=◌}
 use Rattle.e_line.specs.Limits.{most_of, within, count_monomials}
-use Rattle.e_names.specs.TitledStatements.{TitledStatement, headed, stated_by}
+use Rattle.e_names.specs.TitledStatements.{TitledStatement, titled_statement, stated_by}
 use Rattle.e_names.specs.Scope.{scope_of_names}
 use Rattle.e_book.specs.LineLimits.{FewNamed, few_objects}
 use Rattle.e_book.specs.TheoremViews.{TheoremView}
@@ -64,7 +64,7 @@ small_scopes bs (Make construction names certs rest) f ns facts goal few fit =
     let s = scope_of_names ns in
     let after = named ns (sorts_made construction) names in
     let more = with_facts facts (gives_of_construction construction s) in
-    let scopes : grown s (sorts_made construction) ≡ scope_of_names after = named_scope ns (sorts_made construction) names fit.1 in
+    let scopes : with_sorts s (sorts_made construction) ≡ scope_of_names after = named_scope ns (sorts_made construction) names fit.1 in
     and_from _ _ (few_is_small ns few)
     (subst (λ (z : Scope). list_all is_small_line (placed_steps bs rest (rest_of f) z more goal) ≡ true) (sym scopes) (small_scopes bs rest (rest_of f) after more goal (few_named after fit.2) fit.3))
 small_scopes bs (Apply theorem args names certs rest) f ns facts goal few fit =
@@ -72,7 +72,7 @@ small_scopes bs (Apply theorem args names certs rest) f ns facts goal few fit =
     let t = theorem_at bs theorem in
     let after = named ns t.made names in
     let more = with_facts facts (gives_of_use t (args_of f) s) in
-    let scopes : grown s t.made ≡ scope_of_names after = named_scope ns t.made names fit.1 in
+    let scopes : with_sorts s t.made ≡ scope_of_names after = named_scope ns t.made names fit.1 in
     and_from _ _ (few_is_small ns few)
     (subst (λ (z : Scope). list_all is_small_line (placed_steps bs rest (rest_of f) z more goal) ≡ true) (sym scopes) (small_scopes bs rest (rest_of f) after more goal (few_named after fit.2) fit.3))
 small_scopes bs (Claim shown inner rest) f ns facts goal few fit =
@@ -83,11 +83,11 @@ small_scopes bs (Superposed superposition names shown certs inner rest) f ns fac
     let s = scope_of_names ns in
     let after = named ns superposing.sorts_copied names in
     let more = with_facts facts (superposing.gives_of_superposition superposition s) in
-    let scopes : grown s superposing.sorts_copied ≡ scope_of_names after = named_scope ns superposing.sorts_copied names fit.1 in
-    let inside : list_all is_small_line (placed_steps bs inner (inner_of f) (grown s superposing.sorts_copied) more (goal_of shown)) ≡ true =
+    let scopes : with_sorts s superposing.sorts_copied ≡ scope_of_names after = named_scope ns superposing.sorts_copied names fit.1 in
+    let inside : list_all is_small_line (placed_steps bs inner (inner_of f) (with_sorts s superposing.sorts_copied) more (goal_of shown)) ≡ true =
     subst (λ (z : Scope). list_all is_small_line (placed_steps bs inner (inner_of f) z more (goal_of shown)) ≡ true) (sym scopes) (small_scopes bs inner (inner_of f) after more (goal_of shown) (few_named after fit.2) fit.3) in
     and_from _ _ (few_is_small ns few)
-    (all_both is_small_line (placed_steps bs inner (inner_of f) (grown s superposing.sorts_copied) more (goal_of shown)) _ inside (small_scopes bs rest (rest_of f) ns (with_facts facts shown) goal few fit.4))
+    (all_both is_small_line (placed_steps bs inner (inner_of f) (with_sorts s superposing.sorts_copied) more (goal_of shown)) _ inside (small_scopes bs rest (rest_of f) ns (with_facts facts shown) goal few fit.4))
 small_scopes bs (Qed objects certs) f ns facts goal few fit = and_from _ _ (few_is_small ns few) refl
 small_scopes bs (Contradiction against) f ns facts goal few fit = and_from _ _ (few_is_small ns few) refl
 small_scopes bs (Cases lit first second) f ns facts goal few fit =
@@ -192,7 +192,7 @@ reading_states known last ahead rest t e = small_statement known t (reading_fits
 
 -- one more statement is known
 pub one_more_stated : (known : List TitledStatement) (title : List ℕ) (t : Statement) → list_all is_small_statement (stated_by known) ≡ true → is_small_statement (stated t) ≡ true
-    → list_all is_small_statement (stated_by (known ++ headed title t ∷ [])) ≡ true
+    → list_all is_small_statement (stated_by (known ++ titled_statement title t ∷ [])) ≡ true
 one_more_stated [] title t h k = and_from _ _ k refl
 one_more_stated (x ∷ known) title t h k =
     let p = and_parts (is_small_statement (stated x.statement)) (list_all is_small_statement (stated_by known)) h in

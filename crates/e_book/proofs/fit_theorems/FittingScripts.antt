@@ -10,7 +10,7 @@ use Rattle.e_literal.specs.declared.object.Scope.{Scope}
 use Rattle.e_literal.specs.declared.literal.Lit.{Lit}
 use Rattle.e_literal.specs.Literal.{negation, all_in_scope}
 use Rattle.e_literal.specs.Facts.{with_fact, with_facts}
-use Rattle.e_literal.specs.Scopes.{grown, are_of_sorts}
+use Rattle.e_literal.specs.Scopes.{with_sorts, are_of_sorts}
 use Rattle.e_literal.specs.WellFormed.{is_well_formed}
 use Rattle.e_literal.specs.Use.{StatementView, gives_of_use}
 use Rattle.e_literal.proofs.Booleans.{all_both}
@@ -164,7 +164,7 @@ unfolding placed_steps NewNamesFit has_well_formed_literals few_facts few_terms 
 fits_made at sorts level construction names certs rest g objects le r =
     let s = scope_at at in
     let n = at.facts + length (gives_of_construction construction s) in
-    let scopes : grown s (sorts_made construction) ≡ scope_of_names (named at.names (sorts_made construction) names) = named_scope at.names (sorts_made construction) names g.count in
+    let scopes : with_sorts s (sorts_made construction) ≡ scope_of_names (named at.names (sorts_made construction) names) = named_scope at.names (sorts_made construction) names g.count in
     record {
       forms = λ f known goal m. let more = with_facts known (gives_of_construction construction s) in
           and_from _ _ g.fits (subst (λ (z : Scope). list_all (line_fits at.before) (placed_steps at.before rest (rest_of f) z more goal) ≡ true) (sym scopes) (r.forms (rest_of f) more goal m));
@@ -182,7 +182,7 @@ unfolding placed_steps NewNamesFit has_well_formed_literals few_facts few_terms 
 fits_applied at sorts level theorem args names certs rest u r =
     let s = scope_at at in
     let t = theorem_at at.before theorem in
-    let scopes : grown s t.made ≡ scope_of_names (named at.names t.made names) = named_scope at.names t.made names u.count in
+    let scopes : with_sorts s t.made ≡ scope_of_names (named at.names t.made names) = named_scope at.names t.made names u.count in
     record {
       forms = λ f known goal m. let more = with_facts known (gives_of_use t (args_of f) s) in
           and_from _ _ (and_from _ _ u.earlier u.entries) (subst (λ (z : Scope). list_all (line_fits at.before) (placed_steps at.before rest (rest_of f) z more goal) ≡ true) (sym scopes) (r.forms (rest_of f) more goal m));
@@ -216,12 +216,12 @@ fits_copied at sorts level superposition names shown certs inner rest c s i le l
     let given = superposing.gives_of_superposition superposition scope in
     let n = at.facts + length given in
     let t = at.terms + count_monomials given in
-    let scopes : grown scope superposing.sorts_copied ≡ scope_of_names (named at.names superposing.sorts_copied names) = named_scope at.names superposing.sorts_copied names c.count in
-    let inside : (f : Script) (known : List Lit) → list_all (line_fits at.before) (placed_steps at.before inner f (grown scope superposing.sorts_copied) (with_facts known given) (goal_of shown)) ≡ true = λ f known.
+    let scopes : with_sorts scope superposing.sorts_copied ≡ scope_of_names (named at.names superposing.sorts_copied names) = named_scope at.names superposing.sorts_copied names c.count in
+    let inside : (f : Script) (known : List Lit) → list_all (line_fits at.before) (placed_steps at.before inner f (with_sorts scope superposing.sorts_copied) (with_facts known given) (goal_of shown)) ≡ true = λ f known.
     subst (λ (z : Scope). list_all (line_fits at.before) (placed_steps at.before inner f z (with_facts known given) (goal_of shown)) ≡ true) (sym scopes) (i.forms f (with_facts known given) (goal_of shown) refl) in
     record {
       forms = λ f known goal m. and_from _ _ (and_from _ _ c.fits s.over)
-          (all_both (line_fits at.before) (placed_steps at.before inner (inner_of f) (grown scope superposing.sorts_copied) (with_facts known given) (goal_of shown)) _ (inside (inner_of f) known) (r.forms (rest_of f) (with_facts known shown) goal m));
+          (all_both (line_fits at.before) (placed_steps at.before inner (inner_of f) (with_sorts scope superposing.sorts_copied) (with_facts known given) (goal_of shown)) _ (inside (inner_of f) known) (r.forms (rest_of f) (with_facts known shown) goal m));
       new_names = (c.free, c.count, c.objects, i.new_names, r.new_names);
       literals = and_from _ _ s.good (and_from _ _ i.literals r.literals);
       facts = few _ _ _ c.facts (and_from _ _ (subst (λ (z : Scope). few_facts at.before n z inner ≡ true) (sym scopes) i.facts) (few _ _ _ le r.facts));

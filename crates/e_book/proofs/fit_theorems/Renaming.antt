@@ -8,7 +8,7 @@ use Rattle.e_literal.specs.declared.object.Obj.{Obj}
 use Rattle.e_literal.specs.declared.object.Scope.{Scope}
 use Rattle.e_literal.specs.declared.literal.Lit.{Lit}
 use Rattle.e_literal.specs.Literal.{obj, count_of, is_in_scope}
-use Rattle.e_literal.specs.Scopes.{same_sort, with_one, grown, next_objects, are_of_sorts}
+use Rattle.e_literal.specs.Scopes.{same_sort, with_one, with_sorts, next_objects, are_of_sorts}
 use Rattle.e_literal.specs.WellFormed.{is_well_formed}
 use Rattle.e_literal.specs.Rename.{with_images, same_obj, image_in, pairs_of}
 use Rattle.e_literal.proofs.WithImages.{is_moved_in, renamed_well_formed}
@@ -46,7 +46,7 @@ first_or c n t rest true h k = h refl
 first_or c n t rest false h k = k refl
 
 -- with objects in scope for the made ones, where all others are in scope
-pub made_moved : (before s : Scope) (sorts : List Sort) (os : List Obj) (o : Obj) → are_of_sorts s sorts os ≡ true → is_in_scope (grown before sorts) o ≡ true → (is_in_scope before o ≡ true → is_in_scope s o ≡ true)
+pub made_moved : (before s : Scope) (sorts : List Sort) (os : List Obj) (o : Obj) → are_of_sorts s sorts os ≡ true → is_in_scope (with_sorts before sorts) o ≡ true → (is_in_scope before o ≡ true → is_in_scope s o ≡ true)
     → is_moved_in s (image_in (pairs_of (next_objects before sorts) os)) o ≡ true
 made_moved before s [] [] o f i w = w i
 made_moved before s [] (t ∷ os) o f i w = absurd cc

@@ -37,7 +37,7 @@ use Rattle.e_names.specs.Meanings.{items_in}
 use Rattle.e_book.specs.Open.{Head, Open, Stating, Proving, BySuperposition}
 use Rattle.e_book.specs.Counts.{context_at, limits_kept, all_kept}
 use Rattle.e_book.specs.Grammar.{empty_head, begins, with_new, none_given, none_made, at_its_place, states, goes_on as goes_on_there, next, line_after, is_empty, Rest, is_skipped, put_at}
-use Rattle.e_book.specs.Definitions.{BookItem, PartialItem, InTheorem, InDefinition, Defined, has_notion_title, after_first_line, says_more, still_defined, ends_definition, plain_line, written_out, counted, after_listed_line, next_line, item_after_words, Answer, OfTheorem, OfNotion, whole, whole_or, item_from}
+use Rattle.e_book.specs.Definitions.{BookItem, PartialItem, InTheorem, InDefinition, Defined, has_notion_title, after_first_line, says_more, still_defined, ends_definition, plain_line, written_out, with_more_literals, after_listed_line, next_line, item_after_words, Answer, OfTheorem, OfNotion, item_ended, whole_or, item_from}
 use Rattle.e_line.specs.Faults.{at_line}
 use Rattle.e_book.specs.Book.{is_last}
 use Rattle.e_book.specs.ParserViews.{statement_of_parser, entry_of_parser}
@@ -448,19 +448,19 @@ limit_by : (known : Known) (f : Held) (n : PartialItem) (a : ℕ) → AlikeParti
 limit_by known f n a h =
     by_test (λ (over under : Bool). AlikePartial known (cond over (Err (Limit limits.Expanded)) (read_ok tt) >>= λ few. Ok f) (all_kept ((under, limits.Expanded) ∷ []) >>= λ kept. Ok n)) a most_expanded refl (λ le. h)
 
-counted_by : (known : Known) (e : Held) (k : ℕ) (b : Bool) → e.defines ≡ b → GoesOn e → TiedBy known.theorems b e.parser → AlikePartial known (add_count k e) (counted k (said_by b e.parser e.expanded))
+counted_by : (known : Known) (e : Held) (k : ℕ) (b : Bool) → e.defines ≡ b → GoesOn e → TiedBy known.theorems b e.parser → AlikePartial known (add_count k e) (with_more_literals k (said_by b e.parser e.expanded))
 counted_by known e k false t on tied =
     limit_by known (record e { expanded = e.expanded + k }) (InTheorem (open_of e.parser) (e.expanded + k)) (e.expanded + k)
     (ap (λ (b : Bool). said_by b e.parser (e.expanded + k)) t, subst (λ (b : Bool). TiedBy known.theorems b e.parser) (sym t) tied)
 counted_by known e k true t (inl h) tied = absurd (let no : true ≡ false = sym t ∙ h in cc)
 counted_by known e k true t (inr st) tied =
     let is : said_by true e.parser e.expanded ≡ InDefinition (head_of e.parser) e.expanded = definition_at e.parser e.expanded e.parser.section st in
-    subst (λ (n : PartialItem). AlikePartial known (add_count k e) (counted k n)) (sym is)
+    subst (λ (n : PartialItem). AlikePartial known (add_count k e) (with_more_literals k n)) (sym is)
     (limit_by known (record e { expanded = e.expanded + k }) (InDefinition (head_of e.parser) (e.expanded + k)) (e.expanded + k)
     (ap (λ (b : Bool). said_by b e.parser (e.expanded + k)) t ∙ definition_at e.parser (e.expanded + k) e.parser.section st, subst (λ (b : Bool). TiedBy known.theorems b e.parser) (sym t) tied))
 
-then_counted : (known : Known) (k : ℕ) (r : Result Held FaultKind) (q : Result PartialItem FaultKind) → ((e : Held) → r ≡ Ok e → GoesOn e) → AlikePartial known r q → AlikePartial known (r >>= λ e. add_count k e) (q >>= λ n. counted k n)
-then_counted known k (Ok e) (Ok n) on a = subst (λ (x : PartialItem). AlikePartial known (add_count k e) (counted k x)) a.0 (counted_by known e k e.defines refl (on e refl) a.1)
+then_counted : (known : Known) (k : ℕ) (r : Result Held FaultKind) (q : Result PartialItem FaultKind) → ((e : Held) → r ≡ Ok e → GoesOn e) → AlikePartial known r q → AlikePartial known (r >>= λ e. add_count k e) (q >>= λ n. with_more_literals k n)
+then_counted known k (Ok e) (Ok n) on a = subst (λ (x : PartialItem). AlikePartial known (add_count k e) (with_more_literals k x)) a.0 (counted_by known e k e.defines refl (on e refl) a.1)
 then_counted known k (Err i) (Err j) on a = a
 then_counted known k (Ok e) (Err j) on a = absurd a
 then_counted known k (Err i) (Ok n) on a = absurd a
@@ -496,13 +496,13 @@ abbrev take_out : Known → Held → Listing → List RawItem → Result Held Fa
 take_out known c line is = line_written_out known.notions c.parser line is >>= λ w. goes_on known c w.0 >>= λ e. add_count w.1 e
 
 abbrev take_said : Known → Open → PartialItem → Listing → List RawItem → Result PartialItem FaultKind
-take_said known o n line is = written_out known o line is >>= λ w. plain_line known n w.0 >>= λ x. counted w.1 x
+take_said known o n line is = written_out known o line is >>= λ w. plain_line known n w.0 >>= λ x. with_more_literals w.1 x
 
 listed_on : (known : Known) (c : Held) (o : Open) (line : Listing) (is : List RawItem) (n : PartialItem) → are_notions known.notions ≡ true → 0 < length is → TiedPartial known c → said_of c ≡ n → (c.defines ≡ true → is_show line ≡ true)
     → line_written_out known.notions c.parser line is ≡ written_out known o line is → AlikePartial known (take_out known c line is) (take_said known o n line is)
 listed_on known c o line is n all some tied said show same =
     subst (λ (r : Result (RawLine × ℕ) FaultKind). AlikePartial known (r >>= λ w. goes_on known c w.0 >>= λ e. add_count w.1 e) (take_said known o n line is)) (sym same)
-    (both known (written_out known o line is) (λ w. goes_on known c w.0 >>= λ e. add_count w.1 e) (λ w. plain_line known n w.0 >>= λ x. counted w.1 x)
+    (both known (written_out known o line is) (λ w. goes_on known c w.0 >>= λ e. add_count w.1 e) (λ w. plain_line known n w.0 >>= λ x. with_more_literals w.1 x)
     (λ w q. then_counted known w.1 (goes_on known c w.0) (plain_line known n w.0) (λ e h. goes_on_stays known c e w.0 (λ t. out_shows known o line is w (show t) q) h)
     (subst (λ (x : PartialItem). AlikePartial known (goes_on known c w.0) (plain_line known x w.0)) said (plain_alike known c w.0 tied (out_has known o line is w all some q)))))
 
@@ -626,26 +626,26 @@ abbrev wrong_at : ℕ → FaultKind → Answer
 wrong_at number kind = Err (at_line number kind)
 
 -- it ends, or its lines go on
-theorem_ends : (d : TheoremParser) (n : ℕ) (p : Section) (lines : Rest) (x y : Answer) → x ≡ y → cond (is_last p) (found (OfTheorem (entry_of_parser d)) lines) x ≡ whole_or (whole (InTheorem (open_there d p) n)) lines y
+theorem_ends : (d : TheoremParser) (n : ℕ) (p : Section) (lines : Rest) (x y : Answer) → x ≡ y → cond (is_last p) (found (OfTheorem (entry_of_parser d)) lines) x ≡ whole_or (item_ended (InTheorem (open_there d p) n)) lines y
 theorem_ends d n places.Done lines x y e = refl
 theorem_ends d n p lines x y e = e
 
-definition_ends : (d : TheoremParser) (n : ℕ) (p : Section) (lines : Rest) (x y : Answer) → x ≡ y → cond (is_last p) (found (OfNotion (notion_of_parser d)) lines) x ≡ whole_or (whole (definition_there d n p)) lines y
+definition_ends : (d : TheoremParser) (n : ℕ) (p : Section) (lines : Rest) (x y : Answer) → x ≡ y → cond (is_last p) (found (OfNotion (notion_of_parser d)) lines) x ≡ whole_or (item_ended (definition_there d n p)) lines y
 definition_ends d n places.Done lines x y e = refl
 definition_ends d n p lines x y e = e
 
 partial_ends : (b : Bool) (d : TheoremParser) (n : ℕ) (lines : Rest) (x y : Answer) → x ≡ y
-    → cond (is_last d.section) (found (cond b (OfNotion (notion_of_parser d)) (OfTheorem (entry_of_parser d))) lines) x ≡ whole_or (whole (said_by b d n)) lines y
+    → cond (is_last d.section) (found (cond b (OfNotion (notion_of_parser d)) (OfTheorem (entry_of_parser d))) lines) x ≡ whole_or (item_ended (said_by b d n)) lines y
 partial_ends true d n lines x y e = definition_ends d n d.section lines x y e
 partial_ends false d n lines x y e = theorem_ends d n d.section lines x y e
 
 after_alike : (known : Known) (last number : ℕ) (lines : Rest) (r : Result Held FaultKind) (q : Result PartialItem FaultKind) → AlikePartial known r q
     → ((e : Held) → TiedPartial known e → machine.item_from known last (Some e) lines ≡ item_from known last (Some (said_of e)) lines)
     → (put_at number r >>= λ c. cond (machine.is_done c) (found (item_of_partial c) lines) (machine.item_from known last (Some c) lines))
-    ≡ (put_at number q >>= λ n. whole_or (whole n) lines (item_from known last (Some n) lines))
+    ≡ (put_at number q >>= λ n. whole_or (item_ended n) lines (item_from known last (Some n) lines))
 after_alike known last number lines (Ok e) (Ok n) a more =
     partial_ends e.defines e.parser e.expanded lines (machine.item_from known last (Some e) lines) (item_from known last (Some (said_of e)) lines) (more e a.1)
-    ∙ ap (λ (x : PartialItem). whole_or (whole x) lines (item_from known last (Some x) lines)) a.0
+    ∙ ap (λ (x : PartialItem). whole_or (item_ended x) lines (item_from known last (Some x) lines)) a.0
 after_alike known last number lines (Err j) (Err k) a more = ap (λ (x : FaultKind). wrong_at number x) a
 after_alike known last number lines (Ok e) (Err k) a more = absurd a
 after_alike known last number lines (Err j) (Ok n) a more = absurd a
@@ -659,7 +659,7 @@ read_alike known last None (Ok line ∷ lines) all t =
     let words = tokens_of line.bytes in
     in_case (is_skipped words) (machine.item_from known last None lines)
     (put_at line.number (line_step known None words) >>= λ c. cond (machine.is_done c) (found (item_of_partial c) lines) (machine.item_from known last (Some c) lines))
-    (item_from known last None lines) (put_at line.number (item_after_words known None words) >>= λ n. whole_or (whole n) lines (item_from known last (Some n) lines))
+    (item_from known last None lines) (put_at line.number (item_after_words known None words) >>= λ n. whole_or (item_ended n) lines (item_from known last (Some n) lines))
     (read_alike known last None lines all t)
     (after_alike known last line.number lines (line_step known None words) (item_after_words known None words) (words_alike known None words all t) (λ e u. read_alike known last (Some e) lines all u))
 read_alike known last (Some c) (Ok line ∷ lines) all t =
@@ -667,7 +667,7 @@ read_alike known last (Some c) (Ok line ∷ lines) all t =
     let n : PartialItem = said_of c in
     in_case (is_skipped words) (machine.item_from known last (Some c) lines)
     (put_at line.number (line_step known (Some c) words) >>= λ x. cond (machine.is_done x) (found (item_of_partial x) lines) (machine.item_from known last (Some x) lines))
-    (item_from known last (Some n) lines) (put_at line.number (item_after_words known (Some n) words) >>= λ x. whole_or (whole x) lines (item_from known last (Some x) lines))
+    (item_from known last (Some n) lines) (put_at line.number (item_after_words known (Some n) words) >>= λ x. whole_or (item_ended x) lines (item_from known last (Some x) lines))
     (read_alike known last (Some c) lines all t)
     (after_alike known last line.number lines (line_step known (Some c) words) (item_after_words known (Some n) words) (words_alike known (Some c) words all t) (λ e u. read_alike known last (Some e) lines all u))
 

@@ -4,7 +4,7 @@ use Rattle.std.specs.List.{list_all}
 use Rattle.e_literal.specs.declared.object.Sort.{Sort}
 use Rattle.e_literal.specs.declared.literal.Lit.{Lit}
 use Rattle.e_literal.specs.Literal.{all_in_scope}
-use Rattle.e_literal.specs.Scopes.{nothing, grown}
+use Rattle.e_literal.specs.Scopes.{nothing, with_sorts}
 use Rattle.e_literal.specs.WellFormed.{is_well_formed}
 use Rattle.e_theorem.specs.Statements.{stated}
 use Rattle.e_deriv.specs.declared.names.Names.{Names}
@@ -27,10 +27,10 @@ use Rattle.e_book.proofs.parsers.OpenBlocks.{Open}
 -- the title, the names and the statement, so far
 pub record Head (known : List TitledStatement) (title : List ℕ) (ns : Names) (declared : List Sort) (gs : List Lit) (made : List Sort) (ls : List Lit) : Type 0 where
   pub new : is_known known title ≡ false
-  pub scope : grown (grown nothing declared) made ≡ scope_of_names ns
+  pub scope : with_sorts (with_sorts nothing declared) made ≡ scope_of_names ns
   pub differ : NamesDiffer ns
   pub few : FewNamed ns
-  pub given : list_all (all_in_scope (grown nothing declared)) gs ≡ true
+  pub given : list_all (all_in_scope (with_sorts nothing declared)) gs ≡ true
   pub shown : list_all (all_in_scope (scope_of_names ns)) ls ≡ true
   pub good_given : list_all is_well_formed gs ≡ true
   pub good_shown : list_all is_well_formed ls ≡ true

@@ -6,7 +6,7 @@ use Rattle.e_literal.specs.declared.object.Sort.TheVariants.{Point, Line, Circle
 use Rattle.e_literal.specs.declared.object.Scope.{Scope}
 use Rattle.e_literal.specs.declared.literal.Lit.{Lit}
 use Rattle.e_literal.specs.Literal.{all_in_scope}
-use Rattle.e_literal.specs.Scopes.{nothing, with_one, grown}
+use Rattle.e_literal.specs.Scopes.{nothing, with_one, with_sorts}
 use Rattle.e_literal.specs.WellFormed.{is_well_formed}
 use Rattle.e_literal.specs.Use.{scope_of}
 use Rattle.e_literal.proofs.GrownScopes.{grown-append, sorts_next}
@@ -64,7 +64,7 @@ more s Point n = record { points = s.points + n; lines = s.lines; circles = s.ci
 more s Line n = record { points = s.points; lines = s.lines + n; circles = s.circles }
 more s Circle n = record { points = s.points; lines = s.lines; circles = s.circles + n }
 
-grown-replicate : (s : Scope) (sort : Sort) (n : ℕ) → grown s (replicate n sort) ≡ more s sort n
+grown-replicate : (s : Scope) (sort : Sort) (n : ℕ) → with_sorts s (replicate n sort) ≡ more s sort n
 grown-replicate s Point zero = ap (λ k. record { points = k; lines = s.lines; circles = s.circles }) (omega arith)
 grown-replicate s Line zero = ap (λ k. record { points = s.points; lines = k; circles = s.circles }) (omega arith)
 grown-replicate s Circle zero = ap (λ k. record { points = s.points; lines = s.lines; circles = k }) (omega arith)
@@ -142,15 +142,15 @@ keeps_declare known d e sort ns good a h =
     let n = bind_ok (with_declared d.names sort ns) (λ names. read_ok (record d { names = names; declared = d.declared ++ more_sorts })) e h in
     let w = grows d.names sort ns n.0 g.few g.differ n.1 in
     let at = declaring known d.section d sort ns a good.body in
-    let none : (s : Scope) → grown s d.made ≡ s = λ s. ap (grown s) at.2 in
-    let was : grown nothing d.declared ≡ scope_of_names d.names = sym (none (grown nothing d.declared)) ∙ g.scope in
+    let none : (s : Scope) → with_sorts s d.made ≡ s = λ s. ap (with_sorts s) at.2 in
+    let was : with_sorts nothing d.declared ≡ scope_of_names d.names = sym (none (with_sorts nothing d.declared)) ∙ g.scope in
     let x-is : x ≡ e = ap (λ (m : Names). record d { names = m; declared = d.declared ++ more_sorts }) w.is ∙ ok_is (record d { names = n.0; declared = d.declared ++ more_sorts }) e n.2 in
     let head : HeadOf known x = record {
       new = g.new;
-      scope = none (grown nothing (d.declared ++ more_sorts)) ∙ grown-append nothing d.declared more_sorts ∙ ap (λ (s : Scope). grown s more_sorts) was ∙ grown-replicate (scope_of_names d.names) sort (length ns) ∙ more_names d.names sort ns;
+      scope = none (with_sorts nothing (d.declared ++ more_sorts)) ∙ grown-append nothing d.declared more_sorts ∙ ap (λ (s : Scope). with_sorts s more_sorts) was ∙ grown-replicate (scope_of_names d.names) sort (length ns) ∙ more_names d.names sort ns;
       differ = w.differ;
       few = w.few;
-      given = nothing_at (all_in_scope (grown nothing (d.declared ++ more_sorts))) d.given at.1;
+      given = nothing_at (all_in_scope (with_sorts nothing (d.declared ++ more_sorts))) d.given at.1;
       shown = nothing_at (all_in_scope (scope_of_names now)) d.shown at.3;
       good_given = g.good_given;
       good_shown = g.good_shown;
@@ -172,7 +172,7 @@ keeps_given known d e raws good a said h =
     let n = each_length (lit_in d.names) raws ls.0 ls.1 in
     let m = lits_count d.names raws ls.0 ls.1 in
     let at = giving known d.section d raws a good.body in
-    let was : scope_of_names d.names ≡ grown nothing d.declared = sym g.scope ∙ ap (grown (grown nothing d.declared)) at.0 in
+    let was : scope_of_names d.names ≡ with_sorts nothing d.declared = sym g.scope ∙ ap (with_sorts (with_sorts nothing d.declared)) at.0 in
     let gs = d.given ++ ls.0 in
     let t = terms_added (then gs) e raws (ap (λ (l : List Lit). with_terms (then l) raws) (ok_is gs all.0 ls.2) ∙ w.2) in
     let x : TheoremParser = record (then gs) { terms = d.terms + count_monos raws } in
@@ -184,7 +184,7 @@ keeps_given known d e raws good a said h =
       scope = g.scope;
       differ = g.differ;
       few = g.few;
-      given = all_both (all_in_scope (grown nothing d.declared)) d.given ls.0 g.given (subst (λ (s : Scope). list_all (all_in_scope s) ls.0 ≡ true) was (lits_within d.names raws ls.0 ls.1));
+      given = all_both (all_in_scope (with_sorts nothing d.declared)) d.given ls.0 g.given (subst (λ (s : Scope). list_all (all_in_scope s) ls.0 ≡ true) was (lits_within d.names raws ls.0 ls.1));
       shown = g.shown;
       good_given = all_both is_well_formed d.given ls.0 g.good_given (good_lits d.names raws ls.0 ls.1 said t.few.short t.few.small);
       good_shown = g.good_shown;
@@ -207,7 +207,7 @@ keeps_made known d e sort ns good a h =
     let x-is : x ≡ e = ap (λ (m : Names). record d { names = m; made = d.made ++ more_sorts; section = Making }) w.is ∙ ok_is (record d { names = n.0; made = d.made ++ more_sorts; section = Making }) e n.2 in
     let head : HeadOf known x = record {
       new = g.new;
-      scope = grown-append (grown nothing d.declared) d.made more_sorts ∙ ap (λ (s : Scope). grown s more_sorts) g.scope ∙ grown-replicate (scope_of_names d.names) sort (length ns) ∙ more_names d.names sort ns;
+      scope = grown-append (with_sorts nothing d.declared) d.made more_sorts ∙ ap (λ (s : Scope). with_sorts s more_sorts) g.scope ∙ grown-replicate (scope_of_names d.names) sort (length ns) ∙ more_names d.names sort ns;
       differ = w.differ;
       few = w.few;
       given = g.given;

@@ -7,7 +7,7 @@ use Rattle.e_literal.specs.declared.object.Sort.{Sort}
 use Rattle.e_literal.specs.declared.object.Scope.{Scope}
 use Rattle.e_literal.specs.declared.literal.Lit.{Lit}
 use Rattle.e_literal.specs.Literal.{all_in_scope}
-use Rattle.e_literal.specs.Scopes.{nothing, grown}
+use Rattle.e_literal.specs.Scopes.{nothing, with_sorts}
 use Rattle.e_literal.specs.WellFormed.{is_well_formed}
 use Rattle.e_literal.specs.Use.{is_statement}
 use Rattle.e_text.specs.Tokens.{tokens_of}
@@ -292,9 +292,9 @@ definition_good : (known : Known) (d : TheoremParser) → GoodDefinition known d
 definition_good known d g a =
     let n = (notion_of_parser d).notion in
     let some : 0 < length d.shown = subst (λ (p : Section). MeansThere p d.shown) (last_is d.section a) g.means in
-    let scope : grown nothing d.declared ≡ scope_of_names d.names = sym (ap (grown (grown nothing d.declared)) g.made) ∙ g.head.scope in
-    let shown : list_all (all_in_scope (grown nothing d.declared)) d.shown ≡ true = subst (λ (s : Scope). list_all (all_in_scope s) d.shown ≡ true) (sym scope) g.head.shown in
-    let states : is_statement (as_stated n) ≡ true = each_shown is_well_formed (all_in_scope (grown nothing d.declared)) d.shown g.head.good_shown shown in
+    let scope : with_sorts nothing d.declared ≡ scope_of_names d.names = sym (ap (with_sorts (with_sorts nothing d.declared)) g.made) ∙ g.head.scope in
+    let shown : list_all (all_in_scope (with_sorts nothing d.declared)) d.shown ≡ true = subst (λ (s : Scope). list_all (all_in_scope s) d.shown ≡ true) (sym scope) g.head.shown in
+    let states : is_statement (as_stated n) ≡ true = each_shown is_well_formed (all_in_scope (with_sorts nothing d.declared)) d.shown g.head.good_shown shown in
     let few = g.head.few in
     let small : is_small (all_objects (as_stated n)) ≡ true =
     subst (λ (s : Scope). is_small s ≡ true) (sym scope)

@@ -26,7 +26,7 @@ use Rattle.e_book.specs.declared.partial_item.PartialItem.{PartialItem}
 use Rattle.e_line.specs.Reading.{◌>>=◌}
 use Rattle.e_line.specs.Faults.{line_fault}
 use Rattle.e_names.specs.Taken.{is_taken}
-use Rattle.e_names.specs.Titled.{Titled, titled}
+use Rattle.e_names.specs.Titled.{Titled, titled_notion}
 use Rattle.e_line.specs.Limits.{most_theorems, most_notions, most_expanded, within}
 use Rattle.e_names.specs.Scope.{right_count, fresh}
 use Rattle.e_names.specs.Superposes.{placed_in}
@@ -150,7 +150,7 @@ abbrev pub is_done : PartialItem → Bool
 is_done c = is_last c.parser.section
 
 abbrev pub notion_of_parser : TheoremParser → Titled
-notion_of_parser d = titled d.title (record { declared = d.declared; means = d.shown })
+notion_of_parser d = titled_notion d.title (record { declared = d.declared; means = d.shown })
 
 -- what the lines make
 abbrev pub item_of_partial : PartialItem → BookItem

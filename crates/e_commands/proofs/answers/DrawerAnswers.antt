@@ -11,7 +11,7 @@ use Rattle.e_book.specs.Grammar.{BookFails}
 use Rattle.e_line.proofs.base.Bound.{bind_ok}
 use Rattle.e_drawing.specs.Plans.{no_plan}
 use Rattle.e_drawing.specs.Texts.{lines_of_figure_text, plan_from}
-use Rattle.e_drawing.specs.Answers.{answered, drawn_of}
+use Rattle.e_drawing.specs.Answers.{answer_text, drawn_of}
 use Rattle.e_drawing.proofs.PlanLines.{good_plan}
 use Rattle.e_commands.specs.declared.status.Status.{Status}
 use Rattle.e_commands.specs.declared.status.Status.TheVariants as status
@@ -28,7 +28,7 @@ use Rattle.e_commands.specs.Wrote.{Wrote}
 
 -- what is written of these lines
 abbrev drawn_by : List (Result LineView LineFault) → Result (ℕ × List ℕ) BookFault
-drawn_by lines = plan_from (1 + length lines) no_plan lines >>= λ p. Ok (length p.shown, answered p)
+drawn_by lines = plan_from (1 + length lines) no_plan lines >>= λ p. Ok (length p.shown, answer_text p)
 
 -- one byte more than may count is enough
 drawn_front : (text : List ℕ) → drawn_of (take 4194305 text) ≡ drawn_of text
@@ -58,7 +58,7 @@ read_figure (Some text) read answer e d = (text, refl, alike read text answer (a
 short_figure : (text : List ℕ) (d : ℕ × List ℕ) → drawn_of text ≡ Ok d → length text ≤ 4194304
 short_figure text d e =
     let lines = lines_of_figure_text text in
-    let a = bind_ok (plan_from (1 + length lines) no_plan lines) (λ p. Ok (length p.shown, answered p)) d e in
+    let a = bind_ok (plan_from (1 + length lines) no_plan lines) (λ p. Ok (length p.shown, answer_text p)) d e in
     let good = good_plan (1 + length lines) no_plan a.0 lines a.1 in
     omega (arith, short_by_size (length text) (record { longest = 1600; most = 4194304 }) (record { line = 1; before = 0 }) text (omega arith) (omega arith) good)
 

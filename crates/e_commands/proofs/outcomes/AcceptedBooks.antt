@@ -7,7 +7,7 @@ use Rattle.e_text.specs.declared.line.LineEnd.{LineEnd}
 use Rattle.e_text.specs.declared.line.LineEnd.TheVariants.{TextEnd}
 use Rattle.e_text.specs.declared.line.LineFault.{LineFault}
 use Rattle.e_text.specs.Tokens.{tokens_of}
-use Rattle.e_text.specs.Lines.{is_lf, Bounds, Spot, LineView, HaveNoFault, line_or_fault, line_before_lf, ended, lines_of}
+use Rattle.e_text.specs.Lines.{is_lf, Bounds, Spot, LineView, HaveNoFault, line_or_fault, line_before_lf, split_line_end, lines_of}
 use Rattle.e_text.proofs.FirstLine.{then_lines}
 use Rattle.e_text.proofs.LinesOfTexts.{lines_of-closed, lines_of-open, next_spot}
 use Rattle.e_line.specs.declared.fault.BookFault.{BookFault}
@@ -17,7 +17,7 @@ use Rattle.e_book.specs.TheoremViews.{TheoremView}
 use Rattle.e_book.specs.Grammar.{is_skipped, put_at, Rest}
 use Rattle.e_names.specs.Taken.{nothing_known}
 use Rattle.e_names.specs.Titled.{Titled}
-use Rattle.e_book.specs.Definitions.{BookItem, OfTheorem, OfNotion, PartialItem, item_after_words, whole, whole_or, at_end, item_from}
+use Rattle.e_book.specs.Definitions.{BookItem, OfTheorem, OfNotion, PartialItem, item_after_words, item_ended, whole_or, at_end, item_from}
 use Rattle.e_line.proofs.base.Bound.{bind_ok}
 use Rattle.e_commands.specs.Outcome.{and_theorem, and_notion, Defines, Takes, Accepted, IsOutcome, end_line_number, lines_of_book}
 use Rattle.e_commands.specs.declared.blocks.BookResult.{BookResult}
@@ -66,10 +66,10 @@ good_before known last s [] i rest h good = absurd (at_end_found last s i rest h
 good_before known last s (Err f ∷ lines) i rest h good = absurd cc
 good_before known last s (Ok l ∷ lines) i rest h good =
     let words = tokens_of l.bytes in
-    by_skip (HaveNoFault lines) (is_skipped words) (item_from known last s lines) (put_at l.number (item_after_words known s words) >>= λ c. whole_or (whole c) lines (item_from known last (Some c) lines)) (found i rest) h
+    by_skip (HaveNoFault lines) (is_skipped words) (item_from known last s lines) (put_at l.number (item_after_words known s words) >>= λ c. whole_or (item_ended c) lines (item_from known last (Some c) lines)) (found i rest) h
     (λ skip e. good_before known last s lines i rest e good)
-    (λ q. let a = bind_ok (put_at l.number (item_after_words known s words)) (λ c. whole_or (whole c) lines (item_from known last (Some c) lines)) (Some (i, rest)) q in
-    by_found (HaveNoFault lines) (whole a.0) i lines rest (item_from known last (Some a.0) lines) a.2 (λ ends e. subst HaveNoFault (sym e) good) (λ e. good_before known last (Some a.0) lines i rest e good))
+    (λ q. let a = bind_ok (put_at l.number (item_after_words known s words)) (λ c. whole_or (item_ended c) lines (item_from known last (Some c) lines)) (Some (i, rest)) q in
+    by_found (HaveNoFault lines) (item_ended a.0) i lines rest (item_from known last (Some a.0) lines) a.2 (λ ends e. subst HaveNoFault (sym e) good) (λ e. good_before known last (Some a.0) lines i rest e good))
 
 -- where none is read any more, all lines are good
 good_at_end : (known : Known) (last : ℕ) (s : Option PartialItem) (lines : Rest) → item_from known last s lines ≡ none_left → HaveNoFault lines
@@ -77,10 +77,10 @@ good_at_end known last s [] h = tt
 good_at_end known last s (Err f ∷ lines) h = absurd cc
 good_at_end known last s (Ok l ∷ lines) h =
     let words = tokens_of l.bytes in
-    by_skip (HaveNoFault lines) (is_skipped words) (item_from known last s lines) (put_at l.number (item_after_words known s words) >>= λ c. whole_or (whole c) lines (item_from known last (Some c) lines)) none_left h
+    by_skip (HaveNoFault lines) (is_skipped words) (item_from known last s lines) (put_at l.number (item_after_words known s words) >>= λ c. whole_or (item_ended c) lines (item_from known last (Some c) lines)) none_left h
     (λ skip e. good_at_end known last s lines e)
-    (λ q. let a = bind_ok (put_at l.number (item_after_words known s words)) (λ c. whole_or (whole c) lines (item_from known last (Some c) lines)) None q in
-    by_none (HaveNoFault lines) (whole a.0) lines (item_from known last (Some a.0) lines) a.2 (λ e. good_at_end known last (Some a.0) lines e))
+    (λ q. let a = bind_ok (put_at l.number (item_after_words known s words)) (λ c. whole_or (item_ended c) lines (item_from known last (Some c) lines)) None q in
+    by_none (HaveNoFault lines) (item_ended a.0) lines (item_from known last (Some a.0) lines) a.2 (λ e. good_at_end known last (Some a.0) lines e))
 
 good_defined : (last : ℕ) (known : Known) (lines : Rest) (ns : List Titled) (now : Known) (rest : Rest) → Defines last known lines ns now rest → HaveNoFault rest → HaveNoFault lines
 good_defined last known lines [] now rest d good = subst HaveNoFault (sym d.1) good
@@ -126,7 +126,7 @@ short_by_size (suc size) w at (b ∷ bs) le within good =
           let after = drop (n + 1) text in
           let split = subst HaveNoFault (lines_of-closed w at text lt) good in
           elim (cases_lt w.most (at.before + length part + 1)) [
-            | inl far ↦ absurd (not_passed w at (ended part []).0 (ended part []).1 (at.before + length part + 1) (lines_of w (next_spot at (length part)) after) far split)
+            | inl far ↦ absurd (not_passed w at (split_line_end part []).0 (split_line_end part []).1 (at.before + length part + 1) (lines_of w (next_spot at (length part)) after) far split)
             | inr near ↦
                 let more = short_by_size size w (next_spot at (length part)) after (omega (arith, length-drop (n + 1) text)) near (good_rest (line_before_lf w at part) (lines_of w (next_spot at (length part)) after) split) in
                 omega (arith, more, length-drop (n + 1) text)

@@ -17,7 +17,7 @@ use Rattle.e_deriv.specs.Naming.{names_of_steps, declared_names}
 use Rattle.std.specs.Prelude.{slice_get}
 use Rattle.e_commands.specs.Outcome.{and_theorem, and_notion, IsLicensed, Defines, AreDefined, Takes, Begins, end_line_number}
 use Rattle.e_commands.specs.Outcome as outcome
-use Rattle.e_spell.specs.Spelling.{spelled}
+use Rattle.e_spell.specs.Spelling.{spelling}
 use Rattle.e_commands.specs.Answers.{Derived, IsDerived, AllDerived, OutcomeAfter, Refuses, Widens, theorems_of, steps_of, blocks_of}
 use Rattle.e_commands.specs.inner.BookResults.{BlocksUpTo, BookResultIs, BreaksOff, BreaksInside, result_of_stop}
 use Rattle.e_commands.specs.inner.Progress.{History, Handles}
@@ -92,7 +92,7 @@ steps_more (e ∷ es) d = omega (arith, steps_more es d)
 
 -- the block of a derivation
 abbrev block_of : List TitledStatement → Derived → List ℕ
-block_of known d = spelled known d.theorem d.derivation
+block_of known d = spelling known d.theorem d.derivation
 
 blocks_more : (last : ℕ) (known : Known) (lines : Rest) (ds : List Derived) (now : Known) (rest : Rest) (d : Derived)
     → Takes last known lines (theorems_of ds) now rest → blocks_of known.theorems (ds ++ d ∷ []) ≡ blocks_of known.theorems ds ++ block_of now.theorems d

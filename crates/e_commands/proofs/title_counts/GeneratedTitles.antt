@@ -12,7 +12,7 @@ use Rattle.std.proofs.Math.Seq.{take-append-add}
 use Rattle.e_text.specs.declared.line.LineEnd.{LineEnd}
 use Rattle.e_text.specs.declared.line.LineEnd.TheVariants.{Lf, CrLf}
 use Rattle.e_text.specs.declared.line.LineFault.{LineFault}
-use Rattle.e_text.specs.Lines.{is_lf, IsOpen, ends_in_cr, Bounds, Spot, LineView, HaveNoFault, ended, line_before_lf, lines_of, lines_of_parts}
+use Rattle.e_text.specs.Lines.{is_lf, IsOpen, ends_in_cr, Bounds, Spot, LineView, HaveNoFault, split_line_end, line_before_lf, lines_of, lines_of_parts}
 use Rattle.e_text.specs.Names.{is_digit}
 use Rattle.e_text.specs.Numerals.{is_numeral}
 use Rattle.e_text.specs.Tokens.{is_blank, has_bytes, is_token, tokens_of}
@@ -20,7 +20,7 @@ use Rattle.e_text.proofs.FirstLine.{then_lines, split_more, parts_of, seen-line_
 use Rattle.e_text.proofs.LinesOfTexts.{next_spot}
 use Rattle.e_text.proofs.TokenWords.{tokens_of-spaced}
 use Rattle.e_text.proofs.NumeralWords.{is_numeral-decimal}
-use Rattle.e_generate.specs.Generated.{numbers, point, segment, between, points_to, points_line, given_between_line, plus_segment, show_sum, show_less, apply_previous_line, earlier, turned, run, cites, hence_line, last, statement, proof, generated_theorem_text, generated_text}
+use Rattle.e_generate.specs.Generated.{numbers, point, segment, between, points_to, points_line, given_between_line, plus_segment, show_sum, show_less, apply_previous_line, line_before, turned_line, run, cites, hence_line, last, statement, proof, generated_theorem_text, generated_text}
 use Rattle.e_commands.specs.Outcome.{lines_of_book}
 use Rattle.e_commands.proofs.title_counts.Titles.{has_title, one_if, titles}
 use Rattle.e_commands.proofs.outcomes.AcceptedBooks.{good_rest}
@@ -54,7 +54,7 @@ abbrev made : List ℕ → LineEnd → List ℕ × LineEnd × List ℕ
 made bytes end = (bytes, end, [])
 
 -- and where it is what stands before a line feed
-starts_ended : (w rest : List ℕ) → is_token w ≡ true → Starts w (ended (w ++ 32 ∷ rest) []).0
+starts_ended : (w rest : List ℕ) → is_token w ≡ true → Starts w (split_line_end (w ++ 32 ∷ rest) []).0
 starts_ended w rest e =
     let part : List ℕ = w ++ 32 ∷ rest in
     let count : length part - 1 ≡ length w + length rest = omega (arith, length-append w (32 ∷ rest)) in
@@ -146,15 +146,15 @@ titles_by : (r : Result LineView LineFault) (more : Rest) (bytes : List ℕ) (k 
 titles_by (Ok l) more bytes k same c good = ap (λ (x : ℕ). x + titles more) (ap (λ (b : List ℕ). one_if (has_title (tokens_of b))) (same l refl) ∙ c)
 titles_by (Err f) more bytes k same c good = absurd good
 
-closed_bytes : (w : Bounds) (at : Spot) (part : List ℕ) (l : LineView) → line_before_lf w at part ≡ Ok l → l.bytes ≡ (ended part []).0
-closed_bytes w at part l e = ap (λ (x : LineView). x.bytes) (sym (seen-line_or_fault w at (ended part []).0 (ended part []).1 (at.before + length part + 1) l e))
+closed_bytes : (w : Bounds) (at : Spot) (part : List ℕ) (l : LineView) → line_before_lf w at part ≡ Ok l → l.bytes ≡ (split_line_end part []).0
+closed_bytes w at part l e = ap (λ (x : LineView). x.bytes) (sym (seen-line_or_fault w at (split_line_end part []).0 (split_line_end part []).1 (at.before + length part + 1) l e))
 
-adds_line : (part : List ℕ) (k : ℕ) → IsOpen part → one_if (has_title (tokens_of (ended part []).0)) ≡ k → Adds k (part ++ 10 ∷ [])
+adds_line : (part : List ℕ) (k : ℕ) → IsOpen part → one_if (has_title (tokens_of (split_line_end part []).0)) ≡ k → Adds k (part ++ 10 ∷ [])
 adds_line part k h c = λ w at rest good.
     let next = next_spot at (length part) in
     let e = ap (λ (t : List ℕ). lines_of w at t) (append_assoc part (10 ∷ []) rest) ∙ lines_front w at part rest h in
     let split : HaveNoFault (then_lines (line_before_lf w at part) (lines_of w next rest)) = subst HaveNoFault e good in
-    (next, good_rest (line_before_lf w at part) (lines_of w next rest) split, ap titles e ∙ titles_by (line_before_lf w at part) (lines_of w next rest) (ended part []).0 k (closed_bytes w at part) c split)
+    (next, good_rest (line_before_lf w at part) (lines_of w next rest) split, ap titles e ∙ titles_by (line_before_lf w at part) (lines_of w next rest) (split_line_end part []).0 k (closed_bytes w at part) c split)
 
 -- ---- a line by its first word
 
@@ -184,8 +184,8 @@ adds_word : (w text : List ℕ) (k : ℕ) → is_token w ≡ true → IsOpen w �
 adds_word w text k token h c o s =
     let part = o.0 in
     let p = spaced_part part text s o.2 in
-    let first : Starts w (ended (w ++ part) []).0 = subst (λ (q : List ℕ). Starts w (ended (w ++ q) []).0) (sym p.1) (starts_ended w p.0 token) in
-    let count : one_if (has_title (tokens_of (ended (w ++ part) []).0)) ≡ k = ap (λ (ws : List (List ℕ)). one_if (has_title ws)) first.1 ∙ c in
+    let first : Starts w (split_line_end (w ++ part) []).0 = subst (λ (q : List ℕ). Starts w (split_line_end (w ++ q) []).0) (sym p.1) (starts_ended w p.0 token) in
+    let count : one_if (has_title (tokens_of (split_line_end (w ++ part) []).0)) ≡ k = ap (λ (ws : List (List ℕ)). one_if (has_title ws)) first.1 ∙ c in
     let line : Adds k ((w ++ part) ++ 10 ∷ []) = adds_line (w ++ part) k (open_append w part h o.1) count in
     subst (λ (t : List ℕ). Adds k t) (append_assoc w part (10 ∷ []) ∙ ap (λ (t : List ℕ). w ++ t) (sym o.2)) line
 
@@ -262,7 +262,7 @@ earlier_by : (b : Bool) (k m : ℕ) → k < 1000 → m < 900 → Adds 0 (cond b 
 earlier_by true k m small lt = adds_apply k m small lt
 earlier_by false k m small lt = adds_none
 
-adds_turned : (i j k : ℕ) → i < 1000 → j < 1000 → k < 1000 → Adds 0 (turned i j k)
+adds_turned : (i j k : ℕ) → i < 1000 → j < 1000 → k < 1000 → Adds 0 (turned_line i j k)
 adds_turned i j k a b c =
     let end : List ℕ = between k j i ++ codes "\n" in
     let colon : List ℕ = codes " :" ++ end in
@@ -292,8 +292,8 @@ adds_run i lt =
 
 adds_cites : (i : ℕ) → i < 900 → Adds 0 (cites i)
 adds_cites i lt =
-    adds_append 0 0 (turned (i - 1) i (i + 1)) (run i ++ turned (i + 1) i 0) (adds_turned (i - 1) i (i + 1) (omega (arith, lt)) (omega (arith, lt)) (omega (arith, lt)))
-    (adds_append 0 0 (run i) (turned (i + 1) i 0) (adds_run i lt) (adds_turned (i + 1) i 0 (omega (arith, lt)) (omega (arith, lt)) (omega arith)))
+    adds_append 0 0 (turned_line (i - 1) i (i + 1)) (run i ++ turned_line (i + 1) i 0) (adds_turned (i - 1) i (i + 1) (omega (arith, lt)) (omega (arith, lt)) (omega (arith, lt)))
+    (adds_append 0 0 (run i) (turned_line (i + 1) i 0) (adds_run i lt) (adds_turned (i + 1) i 0 (omega (arith, lt)) (omega (arith, lt)) (omega arith)))
 
 adds_hence : (i : ℕ) → i < 900 → Adds 0 (hence_line i)
 adds_hence i lt =
@@ -313,13 +313,13 @@ adds_proof k m small lt =
     let first : List ℕ = codes "by b1b p1 p2 p3 : p1 != p2\n" in
     let lengths : List ℕ = flat_map hence_line (numbers 1 (m - 1)) ++ codes "qed\nend\n" in
     let steps : List ℕ = flat_map cites (numbers 2 (m - 2)) ++ lengths in
-    let cited : List ℕ = turned 0 1 2 ++ steps in
+    let cited : List ℕ = turned_line 0 1 2 ++ steps in
     let a1 : Adds 0 lengths = adds_append 0 0 (flat_map hence_line (numbers 1 (m - 1))) (codes "qed\nend\n") (adds_flat hence_line 1 (m - 1) (λ i le. adds_hence i (omega (arith, lt, le)))) adds_last in
     let a2 : Adds 0 steps = adds_append 0 0 (flat_map cites (numbers 2 (m - 2))) lengths (adds_flat cites 2 (m - 2) (λ i le. adds_cites i (omega (arith, lt, le)))) a1 in
-    let a3 : Adds 0 cited = adds_append 0 0 (turned 0 1 2) steps (adds_turned 0 1 2 (omega arith) (omega arith) (omega arith)) a2 in
+    let a3 : Adds 0 cited = adds_append 0 0 (turned_line 0 1 2) steps (adds_turned 0 1 2 (omega arith) (omega arith) (omega arith)) a2 in
     let a4 : Adds 0 (first ++ cited) = adds_append 0 0 first cited (adds_line (codes "by b1b p1 p2 p3 : p1 != p2") 0 refl refl) a3 in
-    let a5 : Adds 0 (earlier k m ++ (first ++ cited)) = adds_append 0 0 (earlier k m) (first ++ cited) (earlier_by (ltb 3 m) k m small lt) a4 in
-    adds_append 0 0 (codes "proof\n") (earlier k m ++ (first ++ cited)) (adds_line (codes "proof") 0 refl refl) a5
+    let a5 : Adds 0 (line_before k m ++ (first ++ cited)) = adds_append 0 0 (line_before k m) (first ++ cited) (earlier_by (ltb 3 m) k m small lt) a4 in
+    adds_append 0 0 (codes "proof\n") (line_before k m ++ (first ++ cited)) (adds_line (codes "proof") 0 refl refl) a5
 
 -- ---- the whole
 

@@ -35,7 +35,7 @@ use Rattle.e_line.specs.Items.{has_item, items_of, define_of, placing_of, line_w
 use Rattle.e_book.specs.Open.{Open, Head, Stating, Proving, Splitting, Proved, Ended}
 use Rattle.e_book.specs.Counts.{all_kept, limits_kept}
 use Rattle.e_book.specs.Grammar.{begins, empty_head, is_empty, next, line_after, theorem_ended, is_skipped, put_at, Rest}
-use Rattle.e_book.specs.Definitions.{BookItem, OfTheorem, OfNotion, PartialItem, InTheorem, InDefinition, Defined, has_notion_title, after_first_line, says_more, still_defined, meant, ends_definition, plain_line, written_out, counted, after_listed_line, next_line, item_after_words, whole, whole_or, item_from}
+use Rattle.e_book.specs.Definitions.{BookItem, OfTheorem, OfNotion, PartialItem, InTheorem, InDefinition, Defined, has_notion_title, after_first_line, says_more, still_defined, notion_of_head, ends_definition, plain_line, written_out, with_more_literals, after_listed_line, next_line, item_after_words, item_ended, whole_or, item_from}
 use Rattle.e_line.proofs.base.Bound.{bind_ok, ok_is, read_ok}
 use Rattle.e_line.proofs.base.Choices.{either, passed, of_reading}
 use Rattle.e_names.proofs.titles.FreshTitles.{was_free}
@@ -260,7 +260,7 @@ first_kind known (Define t) c e =
 first_kind known (Listed line is) c e = absurd cc
 
 -- what comes goes on as what it is
-counted_kind : (n : ℕ) (b c : PartialItem) → counted n b ≡ Ok c → says_theorem b ≡ says_theorem c
+counted_kind : (n : ℕ) (b c : PartialItem) → with_more_literals n b ≡ Ok c → says_theorem b ≡ says_theorem c
 counted_kind n (InTheorem o m) c e =
     of_reading (λ d. true ≡ says_theorem d) (all_kept ((nat_le (m + n) most_expanded, limits.Expanded) ∷ [])) (λ kept. InTheorem o (m + n)) c (λ kept k. refl) e
 counted_kind n (InDefinition h m) c e =
@@ -272,7 +272,7 @@ still_kind n (Stating h) c e = ap says_theorem (sym (ok_is (InDefinition h n) c 
 still_kind n o c e = absurd cc
 
 ended_kind : (h : Head) (f : RawLine) (c : PartialItem) → ends_definition h f ≡ Ok c → says_theorem c ≡ false
-ended_kind h rawlines.End c e = either (λ d. says_theorem d ≡ false) (is_empty h.statement.shown) (refusal_of Malformed) (partial_ok (Defined (meant h))) c e (λ k. absurd cc) (λ k. ap says_theorem (sym (ok_is (Defined (meant h)) c k)))
+ended_kind h rawlines.End c e = either (λ d. says_theorem d ≡ false) (is_empty h.statement.shown) (refusal_of Malformed) (partial_ok (Defined (notion_of_head h))) c e (λ k. absurd cc) (λ k. ap says_theorem (sym (ok_is (Defined (notion_of_head h)) c k)))
 ended_kind h f c e = absurd cc
 
 plain_kind : (known : Known) (b : PartialItem) (f : RawLine) (c : PartialItem) → plain_line known b f ≡ Ok c → says_theorem b ≡ says_theorem c
@@ -284,18 +284,18 @@ plain_kind known (InDefinition h n) f c e =
     (ended_kind h f c))
 plain_kind known (Defined t) f c e = absurd cc
 
-then_counted : (known : Known) (b : PartialItem) (w : RawLine × ℕ) (c : PartialItem) → (plain_line known b w.0 >>= λ d. counted w.1 d) ≡ Ok c → says_theorem b ≡ says_theorem c
+then_counted : (known : Known) (b : PartialItem) (w : RawLine × ℕ) (c : PartialItem) → (plain_line known b w.0 >>= λ d. with_more_literals w.1 d) ≡ Ok c → says_theorem b ≡ says_theorem c
 then_counted known b w c e =
-    let d = bind_ok (plain_line known b w.0) (λ d. counted w.1 d) c e in
+    let d = bind_ok (plain_line known b w.0) (λ d. with_more_literals w.1 d) c e in
     plain_kind known b w.0 d.0 d.1 ∙ counted_kind w.1 d.0 c d.2
 
 listed_kind : (known : Known) (b : PartialItem) (line : Listing) (is : List RawItem) (c : PartialItem) → after_listed_line known b line is ≡ Ok c → says_theorem b ≡ says_theorem c
 listed_kind known (InTheorem o n) line is c e =
-    let w = bind_ok (written_out known o line is) (λ w. plain_line known (InTheorem o n) w.0 >>= λ d. counted w.1 d) c e in
+    let w = bind_ok (written_out known o line is) (λ w. plain_line known (InTheorem o n) w.0 >>= λ d. with_more_literals w.1 d) c e in
     then_counted known (InTheorem o n) w.0 c w.2
 listed_kind known (InDefinition h n) line is c e =
-    let p = passed (is_show line) (written_out known (Stating h) line is >>= λ w. plain_line known (InDefinition h n) w.0 >>= λ d. counted w.1 d) c e in
-    let w = bind_ok (written_out known (Stating h) line is) (λ w. plain_line known (InDefinition h n) w.0 >>= λ d. counted w.1 d) c p.1 in
+    let p = passed (is_show line) (written_out known (Stating h) line is >>= λ w. plain_line known (InDefinition h n) w.0 >>= λ d. with_more_literals w.1 d) c e in
+    let w = bind_ok (written_out known (Stating h) line is) (λ w. plain_line known (InDefinition h n) w.0 >>= λ d. with_more_literals w.1 d) c p.1 in
     then_counted known (InDefinition h n) w.0 c w.2
 listed_kind known (Defined t) line is c e = absurd cc
 
@@ -367,7 +367,7 @@ ended_theorem : (o : Option TheoremView) (i : BookItem) → option_map OfTheorem
 ended_theorem None i e = absurd cc
 ended_theorem (Some t) i e = let j : OfTheorem t ≡ i = cc in ap is_theorem j
 
-whole_kind : (c : PartialItem) (i : BookItem) → whole c ≡ Some i → says_theorem c ≡ is_theorem i
+whole_kind : (c : PartialItem) (i : BookItem) → item_ended c ≡ Some i → says_theorem c ≡ is_theorem i
 whole_kind (InTheorem o n) i e = ended_theorem (theorem_ended o) i e
 whole_kind (InDefinition h n) i e = absurd cc
 whole_kind (Defined t) i e = let j : OfNotion t ≡ i = cc in ap is_theorem j
@@ -383,15 +383,15 @@ count_found known last s (Err f ∷ lines) i rest h = absurd cc
 count_found known last s (Ok l ∷ lines) i rest h =
     let words = tokens_of l.bytes in
     let all : titles (Ok l ∷ lines) ≡ one_if (has_title words) + titles lines = refl in
-    by_skip (Counts s (Ok l ∷ lines) i rest) (is_skipped words) (item_from known last s lines) (put_at l.number (item_after_words known s words) >>= λ c. whole_or (whole c) lines (item_from known last (Some c) lines)) (found i rest) h
+    by_skip (Counts s (Ok l ∷ lines) i rest) (is_skipped words) (item_from known last s lines) (put_at l.number (item_after_words known s words) >>= λ c. whole_or (item_ended c) lines (item_from known last (Some c) lines)) (found i rest) h
     (λ skip e.
     let none : one_if (has_title words) ≡ 0 = ap one_if (skipped_title words skip) in
     let more = count_found known last s lines i rest e in
     record { count = omega (arith, all, none, more.count); same = more.same })
     (λ q.
-    let a = bind_ok (put_at l.number (item_after_words known s words)) (λ c. whole_or (whole c) lines (item_from known last (Some c) lines)) (Some (i, rest)) q in
+    let a = bind_ok (put_at l.number (item_after_words known s words)) (λ c. whole_or (item_ended c) lines (item_from known last (Some c) lines)) (Some (i, rest)) q in
     let said = put_is l.number (item_after_words known s words) a.0 a.1 in
-    by_found (Counts s (Ok l ∷ lines) i rest) (whole a.0) i lines rest (item_from known last (Some a.0) lines) a.2
+    by_found (Counts s (Ok l ∷ lines) i rest) (item_ended a.0) i lines rest (item_from known last (Some a.0) lines) a.2
     (λ ends e.
     let b = line_begun known s words a.0 i said (whole_kind a.0 i ends) in
     record { count = omega (arith, all, b.0, ap titles e); same = b.1 })
@@ -407,11 +407,11 @@ never_none known last c [] h = absurd cc
 never_none known last c (Err f ∷ lines) h = absurd cc
 never_none known last c (Ok l ∷ lines) h =
     let words = tokens_of l.bytes in
-    by_skip ⊥ (is_skipped words) (item_from known last (Some c) lines) (put_at l.number (item_after_words known (Some c) words) >>= λ d. whole_or (whole d) lines (item_from known last (Some d) lines)) none_left h
+    by_skip ⊥ (is_skipped words) (item_from known last (Some c) lines) (put_at l.number (item_after_words known (Some c) words) >>= λ d. whole_or (item_ended d) lines (item_from known last (Some d) lines)) none_left h
     (λ skip e. never_none known last c lines e)
     (λ q.
-    let a = bind_ok (put_at l.number (item_after_words known (Some c) words)) (λ d. whole_or (whole d) lines (item_from known last (Some d) lines)) None q in
-    by_none ⊥ (whole a.0) lines (item_from known last (Some a.0) lines) a.2 (λ e. never_none known last a.0 lines e))
+    let a = bind_ok (put_at l.number (item_after_words known (Some c) words)) (λ d. whole_or (item_ended d) lines (item_from known last (Some d) lines)) None q in
+    by_none ⊥ (item_ended a.0) lines (item_from known last (Some a.0) lines) a.2 (λ e. never_none known last a.0 lines e))
 
 -- and where none is read any more, no line has a title
 count_end : (known : Known) (last : ℕ) (lines : Rest) → item_from known last None lines ≡ none_left → titles lines ≡ 0
@@ -420,13 +420,13 @@ count_end known last (Err f ∷ lines) h = absurd cc
 count_end known last (Ok l ∷ lines) h =
     let words = tokens_of l.bytes in
     let all : titles (Ok l ∷ lines) ≡ one_if (has_title words) + titles lines = refl in
-    by_skip (titles (Ok l ∷ lines) ≡ 0) (is_skipped words) (item_from known last None lines) (put_at l.number (item_after_words known None words) >>= λ c. whole_or (whole c) lines (item_from known last (Some c) lines)) none_left h
+    by_skip (titles (Ok l ∷ lines) ≡ 0) (is_skipped words) (item_from known last None lines) (put_at l.number (item_after_words known None words) >>= λ c. whole_or (item_ended c) lines (item_from known last (Some c) lines)) none_left h
     (λ skip e.
     let none : one_if (has_title words) ≡ 0 = ap one_if (skipped_title words skip) in
     omega (arith, all, none, count_end known last lines e))
     (λ q.
-    let a = bind_ok (put_at l.number (item_after_words known None words)) (λ c. whole_or (whole c) lines (item_from known last (Some c) lines)) None q in
-    absurd (by_none ⊥ (whole a.0) lines (item_from known last (Some a.0) lines) a.2 (λ e. never_none known last a.0 lines e)))
+    let a = bind_ok (put_at l.number (item_after_words known None words)) (λ c. whole_or (item_ended c) lines (item_from known last (Some c) lines)) None q in
+    absurd (by_none ⊥ (item_ended a.0) lines (item_from known last (Some a.0) lines) a.2 (λ e. never_none known last a.0 lines e)))
 
 -- ---- the whole
 

@@ -10,7 +10,7 @@ use Rattle.e_deriv.specs.Fitting.{is_small_statement}
 use Rattle.e_names.specs.TitledStatements.{TitledStatement, stated_by}
 use Rattle.e_book.specs.TheoremViews.{TheoremView}
 use Rattle.e_book.specs.Grammar.{Rest}
-use Rattle.e_trim.specs.Trimmed.{trimmed}
+use Rattle.e_trim.specs.Trimmed.{trimmed_script}
 use Rattle.e_judgement.specs.declared.judgement.Judgement.TheVariants.{Verified}
 use Rattle.e_judgement.specs.Judged.{ReadsNext, IsCertified, lines_of_text}
 use Rattle.e_roundtrip.specs.Written.{CanBeVerified, accepted_blocks_line}
@@ -22,7 +22,7 @@ use Rattle.e_commands.specs.inner.Rewriting.{AreOfSecond}
 use Rattle.e_commands.proofs.written_texts.VerifiedAgain.{verified_again}
 
 abbrev left_of : List TitledStatement → TheoremView → Script
-left_of known t = trimmed (stated_by known) (stated t.statement) t.script
+left_of known t = trimmed_script (stated_by known) (stated t.statement) t.script
 
 trimmed_spelled : (v : Version) → v ≡ One → (last : ℕ) (known : List TitledStatement) (lines after : Rest) (t : TheoremView) → ReadsNext v last known lines t after → IsCertified known t → IsTrue (list_all is_small_statement (stated_by known)) → CanBeVerified One known t (left_of known t)
 trimmed_spelled v first last known lines after t read c small =

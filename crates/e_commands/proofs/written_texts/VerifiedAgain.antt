@@ -6,11 +6,11 @@ use Rattle.e_clause.specs.declared.cert.Version.{Version}
 use Rattle.e_clause.specs.declared.cert.Version.TheVariants.{One, Two}
 use Rattle.e_deriv.specs.Script.{Script, script_without_certs}
 use Rattle.e_deriv.specs.Fitting.{is_small_statement}
-use Rattle.e_names.specs.TitledStatements.{TitledStatement, headed, stated_by}
+use Rattle.e_names.specs.TitledStatements.{TitledStatement, titled_statement, stated_by}
 use Rattle.e_book.specs.TheoremViews.{TheoremView}
 use Rattle.e_book.proofs.fit_theorems.Fitting.{small_statement, one_more_stated}
 use Rattle.e_book.specs.Grammar.{Rest}
-use Rattle.e_spell.specs.Spelling.{spelled}
+use Rattle.e_spell.specs.Spelling.{spelling}
 use Rattle.e_judgement.specs.declared.judgement.Judgement.TheVariants.{Verified, Bad, Garbled}
 use Rattle.e_judgement.specs.Judged.{with_theorem, ReadsNext, IsCertified, Passes, Closes, JudgedAfter, number_of_line, version_of, lines_of_text, JudgesText}
 use Rattle.e_roundtrip.specs.Written as texts
@@ -72,12 +72,12 @@ all_can job v w f can last known lines (t ∷ ts) now rest r h small =
     (can last known lines r.0 t r.1 r.2 h.0 small, all_can job v w f can last (with_theorem known t) r.0 ts now rest r.3 h.1 (small_after v last known lines r.0 t small r.1))
 
 abbrev pub Same : Job → (List TitledStatement → TheoremView → Script) → Type 0
-Same job f = (known : List TitledStatement) (t : TheoremView) → block_of job known t ≡ spelled known t (f known t)
+Same job f = (known : List TitledStatement) (t : TheoremView) → block_of job known t ≡ spelling known t (f known t)
 
 blocks_same : (job : Job) (f : List TitledStatement → TheoremView → Script) → Same job f → (known : List TitledStatement) (ts : List TheoremView) → texts.spelled_blocks known (pairs f known ts) ≡ rewritten_blocks job known ts
 blocks_same job f same known [] = refl
 blocks_same job f same known (t ∷ ts) =
-    ap (λ (x : List ℕ). spelled known t (f known t) ++ x) (blocks_same job f same (with_theorem known t) ts) ∙ ap (λ (x : List ℕ). x ++ rewritten_blocks job (with_theorem known t) ts) (sym (same known t))
+    ap (λ (x : List ℕ). spelling known t (f known t) ++ x) (blocks_same job f same (with_theorem known t) ts) ∙ ap (λ (x : List ℕ). x ++ rewritten_blocks job (with_theorem known t) ts) (sym (same known t))
 
 pairs_length : (f : List TitledStatement → TheoremView → Script) (known : List TitledStatement) (ts : List TheoremView) → length (pairs f known ts) ≡ length ts
 pairs_length f known [] = refl
@@ -88,7 +88,7 @@ pairs_length f known (t ∷ ts) = ap suc (pairs_length f (with_theorem known t) 
 known_length : (v : Version) (last : ℕ) (known : List TitledStatement) (lines : Rest) (ts : List TheoremView) (now : List TitledStatement) (rest : Rest) → Passes v last known lines ts now rest → length now ≡ length known + length ts
 known_length v last known lines [] now rest r = omega (arith, ap length r.0)
 known_length v last known lines (t ∷ ts) now rest r =
-    omega (arith, known_length v last (with_theorem known t) r.0 ts now rest r.3, length-append known (headed t.title t.statement ∷ []))
+    omega (arith, known_length v last (with_theorem known t) r.0 ts now rest r.3, length-append known (titled_statement t.title t.statement ∷ []))
 
 never_garbled : (n line : ℕ) → Verified n ≡ Garbled line → ⊥
 never_garbled n line e = absurd cc

@@ -3,7 +3,7 @@ use Rattle.std.proofs.Common.{◌≡◌, true, ℕ, suc, ◌+◌, List, [], ◌�
 use Rattle.e_clause.specs.declared.cert.Version.TheVariants.{One}
 use Rattle.e_deriv.specs.Script.{Script}
 use Rattle.e_theorem.specs.Statements.{stated}
-use Rattle.e_names.specs.TitledStatements.{TitledStatement, headed, stated_by}
+use Rattle.e_names.specs.TitledStatements.{TitledStatement, titled_statement, stated_by}
 use Rattle.e_names.specs.declared.known.Known.{Known}
 use Rattle.e_book.specs.TheoremViews.{TheoremView}
 use Rattle.e_book.specs.HasSpelling.{HasSpelling}
@@ -57,7 +57,7 @@ all_spelled last known lines (d ∷ ds) now rest all r h =
 
 blocks_same : (known : List TitledStatement) (ds : List Derived) → texts.spelled_blocks known (pairs ds) ≡ blocks_of known ds
 blocks_same known [] = refl
-blocks_same known (d ∷ ds) = ap (λ (x : List ℕ). Rattle.e_spell.specs.Spelling.spelled known d.theorem d.derivation ++ x) (blocks_same (with_theorem known d.theorem) ds)
+blocks_same known (d ∷ ds) = ap (λ (x : List ℕ). Rattle.e_spell.specs.Spelling.spelling known d.theorem d.derivation ++ x) (blocks_same (with_theorem known d.theorem) ds)
 
 -- one more is known after each theorem
 pub known_grows : (last : ℕ) (known : Known) (lines : Rest) (ts : List TheoremView) (now : Known) (rest : Rest) → Takes last known lines ts now rest → length now.theorems ≡ length known.theorems + length ts
@@ -67,7 +67,7 @@ known_grows last known lines (t ∷ ts) now rest r =
       arith,
       ap length (defined_same last known lines r.0 r.1 r.2),
       known_grows last (and_theorem r.0 t) r.3 ts now rest r.6,
-      length-append r.0.theorems (headed t.title t.statement ∷ []),
+      length-append r.0.theorems (titled_statement t.title t.statement ∷ []),
     )
 
 pairs_length : (ds : List Derived) → length (pairs ds) ≡ length (theorems_of ds)

@@ -10,7 +10,7 @@ use Rattle.std.proofs.lemmas.List.Folds.{list_all-append}
 use Rattle.e_text.specs.Lines.{is_allowed}
 use Rattle.e_text.specs.Names.{is_letter, is_digit, is_name_byte, is_reserved, is_name}
 use Rattle.e_text.specs.Numerals.{is_numeral}
-use Rattle.e_text.specs.Tokens.{spaced, joined_words}
+use Rattle.e_text.specs.Tokens.{with_spaces, joined_words}
 use Rattle.e_text.proofs.NumeralWords.{is_numeral-decimal}
 use Rattle.e_figure.specs.Figure.{is_small_number}
 use Rattle.e_line.specs.declared.literal.RawAtom.{RawAtom}
@@ -117,13 +117,13 @@ few_words raw.End h = refl
 
 -- ---- their bytes
 
-spaced_bytes : (ws : List (List ℕ)) → list_all is_short ws ≡ true → (list_all is_allowed (spaced ws) ≡ true) × (length (spaced ws) ≤ 17 * length ws)
+spaced_bytes : (ws : List (List ℕ)) → list_all is_short ws ≡ true → (list_all is_allowed (with_spaces ws) ≡ true) × (length (with_spaces ws) ≤ 17 * length ws)
 spaced_bytes [] h = (refl, omega arith)
 spaced_bytes (w ∷ ws) h =
     let p = and_parts (is_short w) (list_all is_short ws) h in
     let q = and_parts (list_all is_allowed w) (leb (length w) 16) p.0 in
     let r = spaced_bytes ws p.1 in
-    (list_all-append is_allowed w (spaced ws) ∙ rw (q.0, r.0) refl, omega (arith, r.1, leb-true (length w) 16 q.1, length-append w (spaced ws)))
+    (list_all-append is_allowed w (with_spaces ws) ∙ rw (q.0, r.0) refl, omega (arith, r.1, leb-true (length w) 16 q.1, length-append w (with_spaces ws)))
 
 joined_bytes : (ws : List (List ℕ)) → are_few ws ≡ true → (list_all is_allowed (joined_words ws) ≡ true) × (length (joined_words ws) ≤ 1600)
 joined_bytes [] h = (refl, omega arith)

@@ -1,6 +1,6 @@
 -- The canonical text of a figure is read as that figure.
 use Rattle.std.proofs.Common.{◌≡◌, ℕ, ◌+◌, ◌≤◌, List, [], ◌∷◌, false, length, map, Result, Ok, refl, ap, ◌∙◌, arith}
-use Rattle.e_text.specs.Lines.{LineView, lf_text, numbered, AreShort}
+use Rattle.e_text.specs.Lines.{LineView, lf_text, numbered_lines, AreShort}
 use Rattle.e_text.specs.Tokens.{tokens_of, joined_words}
 use Rattle.e_text.specs.declared.line.LineEnd.TheVariants.{Lf}
 use Rattle.e_text.specs.declared.line.LineFault.{LineFault}
@@ -28,13 +28,13 @@ step_again : (p : Plan) (f : RawLine) → LineDrawn f → words_step p (tokens_o
 unfolding words_step
 step_again p f h = ap (words_step p) (words_again f h) ∙ rw (line_again f h) refl
 
-read_on : (last n : ℕ) (p q : Plan) (fs : List RawLine) → AllDrawn fs → after_lines p fs ≡ plan_is q → plan_from last p (numbered n (map line_text fs)) ≡ plan_at_end last q
+read_on : (last n : ℕ) (p q : Plan) (fs : List RawLine) → AllDrawn fs → after_lines p fs ≡ plan_is q → plan_from last p (numbered_lines n (map line_text fs)) ≡ plan_at_end last q
 read_on last n p q [] h e = ap (plan_at_end last) (ok_is p q e)
 read_on last n p q (f ∷ fs) h e =
     let a = bind_ok (plan_after_line p f) (λ x. after_lines x fs) q e in
     let l : LineView = record { number = n; bytes = line_text f; end = Lf } in
     let skipped : is_skipped (tokens_of (line_text f)) ≡ false = ap is_skipped (words_again f h.0) ∙ not_skipped f in
-    takes_words p a.0 l skipped (step_again p f h.0 ∙ a.1) last (numbered (n + 1) (map line_text fs)) ∙ read_on last (n + 1) a.0 q fs h.1 a.2
+    takes_words p a.0 l skipped (step_again p f h.0 ∙ a.1) last (numbered_lines (n + 1) (map line_text fs)) ∙ read_on last (n + 1) a.0 q fs h.1 a.2
 
 short_lines : (fs : List RawLine) → AllDrawn fs → AreShort 1600 (map line_text fs)
 short_lines [] h = tt
@@ -53,4 +53,4 @@ canonical_figure_is_read p h =
     let fs = lines_of_plan p in
     let few : length (lf_text (map line_text fs)) ≤ 4194304 = h.few_bytes in
     let lines = lines_of-lf_text (record { longest = 1600; most = 4194304 }) (record { line = 1; before = 0 }) (map line_text fs) (short_lines fs (all_drawn p h)) (omega (arith, few)) in
-    ap read_lines lines ∙ read_on (1 + length (numbered 1 (map line_text fs))) 1 no_plan p fs (all_drawn p h) (plan_again p h) ∙ ended (1 + length (numbered 1 (map line_text fs))) p h
+    ap read_lines lines ∙ read_on (1 + length (numbered_lines 1 (map line_text fs))) 1 no_plan p fs (all_drawn p h) (plan_again p h) ∙ ended (1 + length (numbered_lines 1 (map line_text fs))) p h

@@ -34,8 +34,8 @@ pub record Choosing : Type 0 where
   pub entries : List (Option Obj)
   pub given : List Lit
 
-abbrev pub choosing : Blanks → Choosing
-choosing b = record {
+abbrev pub choosing_of : Blanks → Choosing
+choosing_of b = record {
   basis = b.context.now;
   objects = b.declared.items;
   entries = b.pattern.now;

@@ -2,7 +2,7 @@
 use Rattle.std.proofs.Common.{◌≡◌, ℕ, Bool, true, false, List, [], ◌∷◌, ◌++◌, Option, Some, None, refl, sym, ap, ◌∙◌}
 use Rattle.std.specs.Prelude.{◌==◌, ◌&&◌, if◌then◌else◌}
 use Rattle.std.specs.Str.{bytes_eq}
-use Rattle.e_text.specs.Tokens.{spaced}
+use Rattle.e_text.specs.Tokens.{with_spaces}
 use Rattle.e_line.specs.Comparison.{past_bytes, past_word, past, is_spelled}
 
 pub past_append : (text : Option (List ℕ)) (xs ys : List (List ℕ)) → past text (xs ++ ys) ≡ past (past text xs) ys
@@ -39,14 +39,14 @@ both_bytes [] ys text = refl
 both_bytes (x ∷ xs) ys [] = refl
 both_bytes (x ∷ xs) ys (c ∷ text) = chosen_both (c == x) (past_bytes xs text) (past_bytes (xs ++ ys) text) ys (both_bytes xs ys text)
 
-words_both : (found : Option (List ℕ)) (ws : List (List ℕ)) → ((text : List ℕ) → past (Some text) ws ≡ past_bytes (spaced ws) text) → past found ws ≡ both found (spaced ws)
+words_both : (found : Option (List ℕ)) (ws : List (List ℕ)) → ((text : List ℕ) → past (Some text) ws ≡ past_bytes (with_spaces ws) text) → past found ws ≡ both found (with_spaces ws)
 words_both None ws h = none ws
 words_both (Some text) ws h = h text
 
-words_are_bytes : (ws : List (List ℕ)) (text : List ℕ) → past (Some text) ws ≡ past_bytes (spaced ws) text
+words_are_bytes : (ws : List (List ℕ)) (text : List ℕ) → past (Some text) ws ≡ past_bytes (with_spaces ws) text
 words_are_bytes [] text = refl
-words_are_bytes (w ∷ ws) text = words_both (past_bytes (32 ∷ w) text) ws (words_are_bytes ws) ∙ sym (both_bytes (32 ∷ w) (spaced ws) text)
+words_are_bytes (w ∷ ws) text = words_both (past_bytes (32 ∷ w) text) ws (words_are_bytes ws) ∙ sym (both_bytes (32 ∷ w) (with_spaces ws) text)
 
 -- a text is as it should be where it is these words, each after a space
-pub words_are_spelled : (ws : List (List ℕ)) (text : List ℕ) → is_spelled (past (Some text) ws) ≡ bytes_eq text (spaced ws)
-words_are_spelled ws text = ap is_spelled (words_are_bytes ws text) ∙ bytes_are_spelled (spaced ws) text
+pub words_are_spelled : (ws : List (List ℕ)) (text : List ℕ) → is_spelled (past (Some text) ws) ≡ bytes_eq text (with_spaces ws)
+words_are_spelled ws text = ap is_spelled (words_are_bytes ws text) ∙ bytes_are_spelled (with_spaces ws) text

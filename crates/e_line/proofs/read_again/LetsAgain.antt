@@ -13,7 +13,7 @@ use Rattle.e_line.specs.declared.fault.FaultKind.{FaultKind}
 use Rattle.e_line.specs.declared.lets.RawLet.{RawLet}
 use Rattle.e_line.specs.Reading.{◌>>=◌, cut_at}
 use Rattle.e_line.specs.Lets.{new_words, argument_words, shapes_of, avoided_of, let_named, let_of}
-use Rattle.e_line.specs.Canonical.{filled, line_pieces, avoid_words, let_words}
+use Rattle.e_line.specs.Canonical.{filled_pieces, line_pieces, avoid_words, let_words}
 use Rattle.e_line.specs.HasSpelling.{AreNames}
 use Rattle.e_line.proofs.base.Bound.{name_differs}
 use Rattle.e_line.proofs.read_again.NamesAgain.{Without, names_again, some_names_again, cut_again, uncut_again}
@@ -55,11 +55,11 @@ own_word_differs w h = not-true (bytes_eq w (codes "avoid")) (and_parts _ _ (and
 pub own_word_token : (w : List ℕ) → is_own_word w ≡ true → is_token w ≡ true
 own_word_token w h = (and_parts (not (bytes_eq w (codes "avoid"))) (is_token w) (and_parts (not (is_name w)) _ h).1).1
 
-without_avoid : (s : Shape) (new args : List (List ℕ)) → Filled s new args → Without (codes "avoid") (filled (pieces s) new args)
+without_avoid : (s : Shape) (new args : List (List ℕ)) → Filled s new args → Without (codes "avoid") (filled_pieces (pieces s) new args)
 without_avoid s new args f =
     all_filled (λ w. bytes_eq w (codes "avoid") ≡ false) (λ n h. name_differs n (codes "avoid") h no_avoid) own_word_differs (pieces s) new args (own_words_of s) f.new_names f.argument_names
 
-filled_tokens : (s : Shape) (new args : List (List ℕ)) → Filled s new args → AreTokens (filled (pieces s) new args)
+filled_tokens : (s : Shape) (new args : List (List ℕ)) → Filled s new args → AreTokens (filled_pieces (pieces s) new args)
 filled_tokens s new args f = all_filled (λ w. is_token w ≡ true) is_token-name own_word_token (pieces s) new args (own_words_of s) f.new_names f.argument_names
 
 pub names_tokens : (ns : List (List ℕ)) → AreNames ns → AreTokens ns
@@ -74,41 +74,41 @@ avoid_tokens : (ns : List (List ℕ)) → AreNames ns → AreTokens (avoid_words
 avoid_tokens [] h = tt
 avoid_tokens (n ∷ ns) h = (refl, names_tokens (n ∷ ns) h)
 
-let_line : (l : RawLet) (g : LetNamed l) → let_words l ≡ filled (pieces g.shape) l.new l.args ++ avoid_words l.avoid
-let_line l g = ap (λ (ss : List Shape). filled (line_pieces ss) l.new l.args ++ avoid_words l.avoid) g.alone
+let_line : (l : RawLet) (g : LetNamed l) → let_words l ≡ filled_pieces (pieces g.shape) l.new l.args ++ avoid_words l.avoid
+let_line l g = ap (λ (ss : List Shape). filled_pieces (line_pieces ss) l.new l.args ++ avoid_words l.avoid) g.alone
 
 pub let_tokens : (l : RawLet) → LetNamed l → AreTokens (let_words l)
 let_tokens l g =
-    subst AreTokens (sym (let_line l g)) (append_tokens (filled (pieces g.shape) l.new l.args) (avoid_words l.avoid) (filled_tokens g.shape l.new l.args g.names) (avoid_tokens l.avoid g.avoided))
+    subst AreTokens (sym (let_line l g)) (append_tokens (filled_pieces (pieces g.shape) l.new l.args) (avoid_words l.avoid) (filled_tokens g.shape l.new l.args g.names) (avoid_tokens l.avoid g.avoided))
 
 -- ---- what is read
 
 -- names at the places of the first shape
 named_by_first : (first : Shape) (more : List Shape) (s : Shape) (new args avoid : List (List ℕ)) → pieces first ≡ pieces s → Filled s new args
-    → let_named (first ∷ more) (filled (pieces s) new args) avoid ≡ Ok (raw (first ∷ more) new args avoid)
+    → let_named (first ∷ more) (filled_pieces (pieces s) new args) avoid ≡ Ok (raw (first ∷ more) new args avoid)
 unfolding let_named
 named_by_first first more s new args avoid e f =
-    let news : new_words (pieces first) (filled (pieces s) new args) ≡ new = ap (λ (ps : List Piece). new_words ps (filled (pieces s) new args)) e ∙ new_again (pieces s) new args f.made f.arguments in
-    let arguments : argument_words (pieces first) (filled (pieces s) new args) ≡ args = ap (λ (ps : List Piece). argument_words ps (filled (pieces s) new args)) e ∙ arguments_again (pieces s) new args f.made f.arguments in
+    let news : new_words (pieces first) (filled_pieces (pieces s) new args) ≡ new = ap (λ (ps : List Piece). new_words ps (filled_pieces (pieces s) new args)) e ∙ new_again (pieces s) new args f.made f.arguments in
+    let arguments : argument_words (pieces first) (filled_pieces (pieces s) new args) ≡ args = ap (λ (ps : List Piece). argument_words ps (filled_pieces (pieces s) new args)) e ∙ arguments_again (pieces s) new args f.made f.arguments in
     rw (news, arguments, names_again new f.new_names, names_again args f.argument_names) refl
 
-named_by_all : (s : Shape) (new args avoid : List (List ℕ)) → Filled s new args → let_named (alike s) (filled (pieces s) new args) avoid ≡ Ok (raw (alike s) new args avoid)
+named_by_all : (s : Shape) (new args avoid : List (List ℕ)) → Filled s new args → let_named (alike s) (filled_pieces (pieces s) new args) avoid ≡ Ok (raw (alike s) new args avoid)
 named_by_all s new args avoid f =
     let a = first_alike s in
-    subst (λ (ss : List Shape). let_named ss (filled (pieces s) new args) avoid ≡ Ok (raw ss new args avoid)) (sym a.is) (named_by_first a.first a.more s new args avoid a.same f)
+    subst (λ (ss : List Shape). let_named ss (filled_pieces (pieces s) new args) avoid ≡ Ok (raw ss new args avoid)) (sym a.is) (named_by_first a.first a.more s new args avoid a.same f)
 
 abbrev let_from : List (List ℕ) × List (List ℕ) × Bool → Result RawLet FaultKind
 let_from parts = avoided_of parts.2 parts.1 >>= λ avoid. let_named (shapes_of parts.2 parts.0) parts.0 avoid
 
 read_line : (s : Shape) (new args avoid : List (List ℕ)) → Filled s new args → AreNames avoid → may_have avoid s ≡ true
-    → let_of (filled (pieces s) new args ++ avoid_words avoid) ≡ Ok (raw (alike s) new args avoid)
+    → let_of (filled_pieces (pieces s) new args ++ avoid_words avoid) ≡ Ok (raw (alike s) new args avoid)
 unfolding let_of
 read_line s new args [] f h may =
-    let front = filled (pieces s) new args in
+    let front = filled_pieces (pieces s) new args in
     ap (λ (ws : List (List ℕ)). let_from (cut_at (codes "avoid") ws)) (append-nil front) ∙ ap let_from (uncut_again (codes "avoid") front (without_avoid s new args f))
     ∙ ap (λ (ss : List Shape). let_named ss front []) (shapes_again s new args f) ∙ named_by_all s new args [] f
 read_line s new args (n ∷ ns) f h may =
-    let front = filled (pieces s) new args in
+    let front = filled_pieces (pieces s) new args in
     ap let_from (cut_again (codes "avoid") front (n ∷ ns) (without_avoid s new args f))
     ∙ ap (λ (r : Result (List (List ℕ)) FaultKind). r >>= λ avoid. let_named (shapes_of true front) front avoid) (some_names_again n ns h)
     ∙ ap (λ (ss : List Shape). let_named ss front (n ∷ ns)) (avoiding_shapes_again s new args f may) ∙ named_by_all s new args (n ∷ ns) f

@@ -11,7 +11,7 @@ use Rattle.e_construct.specs.declared.construction.Shape.TheVariants.{Free, OnLi
 use Rattle.e_construct.specs.Shapes.{shape_row}
 use Rattle.e_construct.specs.Lines.{Piece, New, Argument, Word, pieces, all_shapes, may_avoid, count_new, count_arguments}
 use Rattle.e_line.specs.Lets.{are_words_of, new_words, argument_words, is_line_of, shapes_of}
-use Rattle.e_line.specs.Canonical.{filled}
+use Rattle.e_line.specs.Canonical.{filled_pieces}
 use Rattle.e_line.specs.HasSpelling.{AreNames}
 use Rattle.e_line.proofs.base.Bound.{same_bytes, name_differs}
 
@@ -34,7 +34,7 @@ own_words_of s = refl
 
 -- what holds of names and of words of their own holds of all words of a line
 pub all_filled : (P : List ℕ → Type 0) → ((n : List ℕ) → is_name n ≡ true → P n) → ((w : List ℕ) → is_own_word w ≡ true → P w) → (ps : List Piece) (new args : List (List ℕ)) → own_words ps ≡ true → AreNames new → AreNames args
-    → AllByRecursion P (filled ps new args)
+    → AllByRecursion P (filled_pieces ps new args)
 all_filled P name word [] new args h hn ha = tt
 all_filled P name word (New ∷ ps) [] args h hn ha = all_filled P name word ps [] args h hn ha
 all_filled P name word (New ∷ ps) (n ∷ new) args h hn ha = (name n hn.0, all_filled P name word ps new args h hn.1 ha)
@@ -44,7 +44,7 @@ all_filled P name word (Word w ∷ ps) new args h hn ha = let p = and_parts (is_
 
 -- ---- the names stand at their places
 
-pub new_again : (ps : List Piece) (new args : List (List ℕ)) → length new ≡ count_new ps → length args ≡ count_arguments ps → new_words ps (filled ps new args) ≡ new
+pub new_again : (ps : List Piece) (new args : List (List ℕ)) → length new ≡ count_new ps → length args ≡ count_arguments ps → new_words ps (filled_pieces ps new args) ≡ new
 new_again [] [] args hn ha = refl
 new_again [] (n ∷ new) args hn ha = absurd (omega (arith, hn))
 new_again (New ∷ ps) [] args hn ha = absurd (omega (arith, hn))
@@ -53,7 +53,7 @@ new_again (Argument ∷ ps) new [] hn ha = absurd (omega (arith, ha))
 new_again (Argument ∷ ps) new (n ∷ args) hn ha = new_again ps new args hn (omega (arith, ha))
 new_again (Word w ∷ ps) new args hn ha = new_again ps new args hn ha
 
-pub arguments_again : (ps : List Piece) (new args : List (List ℕ)) → length new ≡ count_new ps → length args ≡ count_arguments ps → argument_words ps (filled ps new args) ≡ args
+pub arguments_again : (ps : List Piece) (new args : List (List ℕ)) → length new ≡ count_new ps → length args ≡ count_arguments ps → argument_words ps (filled_pieces ps new args) ≡ args
 arguments_again [] new [] hn ha = refl
 arguments_again [] new (n ∷ args) hn ha = absurd (omega (arith, ha))
 arguments_again (New ∷ ps) [] args hn ha = absurd (omega (arith, hn))
@@ -63,7 +63,7 @@ arguments_again (Argument ∷ ps) new (n ∷ args) hn ha = ap (λ (l : List (Lis
 arguments_again (Word w ∷ ps) new args hn ha = arguments_again ps new args hn ha
 
 -- the words are those of the pieces, one for each
-pub filled_again : (ps : List Piece) (new args : List (List ℕ)) → AreNames new → AreNames args → length new ≡ count_new ps → length args ≡ count_arguments ps → are_words_of ps (filled ps new args) ≡ true
+pub filled_again : (ps : List Piece) (new args : List (List ℕ)) → AreNames new → AreNames args → length new ≡ count_new ps → length args ≡ count_arguments ps → are_words_of ps (filled_pieces ps new args) ≡ true
 filled_again [] new args an aa ln la = refl
 filled_again (New ∷ ps) [] args an aa ln la = absurd (omega (arith, ln))
 filled_again (New ∷ ps) (n ∷ new) args an aa ln la = rw (an.0, filled_again ps new args an.1 aa (omega (arith, ln)) la) refl
@@ -71,7 +71,7 @@ filled_again (Argument ∷ ps) new [] an aa ln la = absurd (omega (arith, la))
 filled_again (Argument ∷ ps) new (n ∷ args) an aa ln la = rw (aa.0, filled_again ps new args an aa.1 ln (omega (arith, la))) refl
 filled_again (Word w ∷ ps) new args an aa ln la = rw (same_bytes w, filled_again ps new args an aa ln la) refl
 
-pub length-filled : (ps : List Piece) (new args : List (List ℕ)) → length new ≡ count_new ps → length args ≡ count_arguments ps → length (filled ps new args) ≡ length ps
+pub length-filled : (ps : List Piece) (new args : List (List ℕ)) → length new ≡ count_new ps → length args ≡ count_arguments ps → length (filled_pieces ps new args) ≡ length ps
 length-filled [] new args ln la = refl
 length-filled (New ∷ ps) [] args ln la = absurd (omega (arith, ln))
 length-filled (New ∷ ps) (n ∷ new) args ln la = let e = length-filled ps new args (omega (arith, ln)) la in omega (arith, e)
@@ -100,7 +100,7 @@ no_word : (v n : List ℕ) → is_own_word v ≡ true → is_name n ≡ true →
 no_word v n h hn = name_differs n v hn (no_name v h)
 
 words_of_filled : (ps qs : List Piece) (new args : List (List ℕ)) → own_words ps ≡ true → own_words qs ≡ true → AreNames new → AreNames args → length new ≡ count_new qs → length args ≡ count_arguments qs
-    → are_words_of ps (filled qs new args) ≡ similar ps qs
+    → are_words_of ps (filled_pieces qs new args) ≡ similar ps qs
 words_of_filled [] [] new args hp hq an aa ln la = refl
 words_of_filled (New ∷ ps) [] new args hp hq an aa ln la = refl
 words_of_filled (Argument ∷ ps) [] new args hp hq an aa ln la = refl
@@ -163,16 +163,16 @@ pub record Filled (s : Shape) (new args : List (List ℕ)) : Type 0 where
   pub made : length new ≡ count_new (pieces s)
   pub arguments : length args ≡ count_arguments (pieces s)
 
-pub shapes_again : (s : Shape) (new args : List (List ℕ)) → Filled s new args → shapes_of false (filled (pieces s) new args) ≡ alike s
+pub shapes_again : (s : Shape) (new args : List (List ℕ)) → Filled s new args → shapes_of false (filled_pieces (pieces s) new args) ≡ alike s
 unfolding shapes_of
 shapes_again s new args f =
-    filter_same (is_line_of false (filled (pieces s) new args)) (λ t. similar (pieces t) (pieces s) && true) all_shapes
+    filter_same (is_line_of false (filled_pieces (pieces s) new args)) (λ t. similar (pieces t) (pieces s) && true) all_shapes
     (λ t. ap (λ b. b && true) (words_of_filled (pieces t) (pieces s) new args (own_words_of t) (own_words_of s) f.new_names f.argument_names f.made f.arguments)) ∙ alike_plain s
 
-pub avoiding_shapes_again : (s : Shape) (new args : List (List ℕ)) → Filled s new args → may_avoid s ≡ true → shapes_of true (filled (pieces s) new args) ≡ alike s
+pub avoiding_shapes_again : (s : Shape) (new args : List (List ℕ)) → Filled s new args → may_avoid s ≡ true → shapes_of true (filled_pieces (pieces s) new args) ≡ alike s
 unfolding shapes_of
 avoiding_shapes_again s new args f may =
-    filter_same (is_line_of true (filled (pieces s) new args)) (λ t. similar (pieces t) (pieces s) && may_avoid t) all_shapes
+    filter_same (is_line_of true (filled_pieces (pieces s) new args)) (λ t. similar (pieces t) (pieces s) && may_avoid t) all_shapes
     (λ t. ap (λ b. b && may_avoid t) (words_of_filled (pieces t) (pieces s) new args (own_words_of t) (own_words_of s) f.new_names f.argument_names f.made f.arguments)) ∙ alike_avoiding s may
 
 -- the first of them, whose pieces are the same

@@ -6,7 +6,7 @@ use Rattle.e_text.specs.Tokens.{is_token, AreTokens}
 use Rattle.e_text.proofs.TokenWords.{is_token-name}
 use Rattle.e_line.specs.declared.superposes.RawSuperpose.{RawSuperpose}
 use Rattle.e_line.specs.Superposes.{superpose_pieces, raw_superpose_of, superpose_of}
-use Rattle.e_line.specs.Canonical.{filled, lits_words, superpose_words}
+use Rattle.e_line.specs.Canonical.{filled_pieces, lits_words, superpose_words}
 use Rattle.e_line.specs.HasSpelling.{AreNames}
 use Rattle.e_line.proofs.read_again.NamesAgain.{names_again}
 use Rattle.e_line.proofs.read_again.Pieces.{own_words, all_filled, new_again, arguments_again, filled_again, length-filled}
@@ -22,7 +22,7 @@ pub record SuperposeNamed (s : RawSuperpose) : Type 0 where
   pub shown : LitsNamed s.shown
 
 abbrev front : RawSuperpose → List (List ℕ)
-front s = filled superpose_pieces s.new s.args
+front s = filled_pieces superpose_pieces s.new s.args
 
 own : own_words superpose_pieces ≡ true
 unfolding reserved_words

@@ -28,7 +28,7 @@ use Rattle.e_clause.specs.declared.cert.Sums.TheVariants.{One, Two}
 use Rattle.e_clause.specs.Assignment.{terms_of_lits, terms_of_wanted}
 use Rattle.e_clause.specs.System.{pos_row, top_row, least_row}
 use Rattle.e_clause.specs.Sum.{Place, is_step_term, fact_row, row_at, says_differ, unless_not, row_named, weighed_rows, is_limited_sum, refutes}
-use Rattle.e_clause.specs.MetricCertificate.{differing, above_row, below_row, both_refute, sums_refute}
+use Rattle.e_clause.specs.MetricCertificate.{differing_row, above_row, below_row, both_refute, sums_refute}
 use Rattle.e_metric.specs.declared.kind_system.KindSystem.{KindSystem}
 use Rattle.e_metric.specs.declared.kind_system.KindSystem.TheVariants.{Absurd}
 use Rattle.e_metric.specs.SolvedSystems.{IsKindSystem}
@@ -143,7 +143,7 @@ module _ (facts more : List Lit) (wanted : Option Lit) where
         by None e k = absurd (true≢false (sym k))
         by (Some ws) e k = ap (λ q. option_map_or is_absurd q false) (same_rows xs ws e) ∙ k
 
-  same_differing : (n : RowName) (r : Row) → differing facts None n ≡ Some r → differing (facts ++ more) wanted n ≡ Some r
+  same_differing : (n : RowName) (r : Row) → differing_row facts None n ≡ Some r → differing_row (facts ++ more) wanted n ≡ Some r
   same_differing (Fact l) r h = fact_stays (option_and_then (λ (q : Row). cond (says_differ q.sense) (Some q) None)) (λ q e. none-some q e) l r h
   same_differing Goal r h = absurd (none-some r h)
   same_differing (Pos t) r h = h
@@ -156,10 +156,10 @@ module _ (facts more : List Lit) (wanted : Option Lit) where
 
   sums_wider : (s : Sums) → sums_refute facts None s ≡ true → sums_refute (facts ++ more) wanted s ≡ true
   sums_wider (One sum) h = sum_wider None None sum h
-  sums_wider (Two differs first second) h = by (differing facts None differs) refl h
+  sums_wider (Two differs first second) h = by (differing_row facts None differs) refl h
     where
-      by : (o : Option Row) → differing facts None differs ≡ o → option_map_or (λ r. both_refute facts None r first second) o false ≡ true
-          → option_map_or (λ r. both_refute (facts ++ more) wanted r first second) (differing (facts ++ more) wanted differs) false ≡ true
+      by : (o : Option Row) → differing_row facts None differs ≡ o → option_map_or (λ r. both_refute facts None r first second) o false ≡ true
+          → option_map_or (λ r. both_refute (facts ++ more) wanted r first second) (differing_row (facts ++ more) wanted differs) false ≡ true
       by None e k = absurd (true≢false (sym k))
       by (Some r) e k =
           (let above_alone : Place = record { facts = facts; wanted = None; above = Some (above_row r); below = None } in

@@ -24,7 +24,7 @@ use Rattle.e_clause.specs.declared.cert.Sums.TheVariants.{Two as TwoSums}
 use Rattle.e_clause.specs.System.{NamedRow, system}
 use Rattle.e_clause.specs.Assignment.{terms_of_lits, terms_of_wanted, terms_of_step}
 use Rattle.e_clause.specs.Sum.{Place, is_step_term, unless_not, says_differ, refutes}
-use Rattle.e_clause.specs.MetricCertificate.{differing, above_row, below_row, both_refute, sums_refute}
+use Rattle.e_clause.specs.MetricCertificate.{differing_row, above_row, below_row, both_refute, sums_refute}
 use Rattle.e_clause.proofs.Named.{Each, IsNamed, system_named, HasNot, Misses, system_misses}
 use Rattle.e_clause.proofs.Solved.{terms_of_system, system_among, first_among}
 use Rattle.e_fraction.specs.declared.row.Row.{Row as GivenRow}
@@ -367,7 +367,7 @@ module _ (which : Kind) (facts : List Lit) (wanted : Option Lit) where
         let first = certificate_sum (set (map name_of ns) k Above) (rows_given pairs) above above summed in
         let second = certificate_sum (set (map name_of ns) k Below) (rows_given pairs) below (negated_place below k) summed in
         let named = each_at (IsNamed (place None None)) ns k w.row (all_named (place None None) refl refl) w.here in
-        ap (λ (o : Option Row). option_map_or (λ r. both_refute facts wanted r first second) o false) (ap (differing facts wanted) w.name ∙ named.differs (ap says_differ w.is_not))
+        ap (λ (o : Option Row). option_map_or (λ r. both_refute facts wanted r first second) o false) (ap (differing_row facts wanted) w.name ∙ named.differs (ap says_differ w.is_not))
         ∙ and_from (refutes (place (Some (above_row w.row.row)) None) first) (refutes (place None (Some (below_row w.row.row))) second)
         (above_sum k above w.row w.here h.above_refutes) (below_sum k below w.row w.here h.below_refutes))
 

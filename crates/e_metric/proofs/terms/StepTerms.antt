@@ -13,7 +13,7 @@ use Rattle.e_literal.specs.Same.{canonical, term_eq}
 use Rattle.e_literal.specs.Width.{is_among}
 use Rattle.e_literal.specs.Rows.{is_degenerate}
 use Rattle.e_literal.specs.WellFormed.{is_well_formed}
-use Rattle.e_literal.specs.Solution.{Satisfy, carried}
+use Rattle.e_literal.specs.Solution.{Satisfy, values_for_all}
 use Rattle.e_literal.proofs.Terms.{term_eq_is, equal_terms}
 use Rattle.e_literal.proofs.CanonicalTerms.{canonical_twice, degenerate_canonical}
 use Rattle.e_clause.specs.Assignment.{terms_of_atom, terms_of_lits, terms_of_wanted, terms_of_step}
@@ -61,7 +61,7 @@ found f (u ∷ us) t h = by (term_eq (canonical t) u) refl (or_cases (term_eq (c
     by false e (inl k) ih = absurd (true≢false (sym k ∙ e))
     by false e (inr k) ih = ih k
 
-carried_canonical : (w : Term → ℕ) (t : Term) → carried w (canonical t) ≡ carried w t
+carried_canonical : (w : Term → ℕ) (t : Term) → values_for_all w (canonical t) ≡ values_for_all w t
 carried_canonical w t =
     ap (λ b. cond b 0 (w (canonical (canonical t)))) (degenerate_canonical t) ∙ ap (λ u. cond (is_degenerate t) 0 (w u)) (canonical_twice t)
 

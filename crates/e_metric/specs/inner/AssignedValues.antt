@@ -3,7 +3,7 @@ use Rattle.std.specs.Prelude.{ℕ, List}
 use Rattle.e_literal.specs.declared.object.Kind.{Kind}
 use Rattle.e_literal.specs.declared.object.Kind.TheVariants.{Segment, Angle, Area as AreaKind}
 use Rattle.e_literal.specs.declared.object.Term.{Term}
-use Rattle.e_literal.specs.Solution.{carried}
+use Rattle.e_literal.specs.Solution.{values_for_all}
 use Rattle.e_clause.specs.System.{by_kind}
 use Rattle.e_simplex.specs.Answer.{assigned}
 use Rattle.e_metric.specs.declared.by_kind.ByKind.{ByKind}
@@ -16,4 +16,4 @@ values_of values AreaKind = assigned values.areas
 
 -- the value of a term of the step, as it is written
 abbrev pub step_value : ByKind (List (Term × ℕ)) → Term → ℕ
-step_value values = carried (by_kind (values_of values))
+step_value values = values_for_all (by_kind (values_of values))

@@ -8,7 +8,7 @@ use Rattle.std.proofs.lemmas.List.Sums.{position_or_len_is}
 use Rattle.std.proofs.lemmas.Slice.Eq.{bytes_eq-Decides}
 use Rattle.e_text.specs.Names.{is_name}
 use Rattle.e_names.specs.Scope.{is_among_names}
-use Rattle.e_names.specs.Canonical.{nameless, name_at}
+use Rattle.e_names.specs.Canonical.{missing_name, name_at}
 use Rattle.e_names.specs.Fits.{are_distinct, are_disjoint_names}
 use Rattle.e_line.specs.HasSpelling.{AreNames}
 use Rattle.e_line.proofs.base.Bound.{same_bytes}
@@ -58,7 +58,7 @@ has_not_in_front [] (suc k) name h = refl
 has_not_in_front (n ∷ ns) (suc k) name h =
     let a = or_parts (bytes_eq n name) (is_among_names ns name) h in rw (a.0, has_not_in_front ns k name a.1) refl
 
-has_not : (names : List (List ℕ)) (name : List ℕ) (k : ℕ) → is_among_names names name ≡ false → k < length names → bytes_eq (get_or names k nameless) name ≡ false
+has_not : (names : List (List ℕ)) (name : List ℕ) (k : ℕ) → is_among_names names name ≡ false → k < length names → bytes_eq (get_or names k missing_name) name ≡ false
 has_not [] name k e lt = absurd (omega arith)
 has_not (n ∷ ns) name zero e lt = (or_parts (bytes_eq n name) (is_among_names ns name) e).0
 has_not (n ∷ ns) name (suc k) e lt = has_not ns name k (or_parts (bytes_eq n name) (is_among_names ns name) e).1 (omega arith)
@@ -70,13 +70,13 @@ not_before (n ∷ ns) zero h lt = refl
 not_before (n ∷ ns) (suc i) h lt =
     let p = and_parts (not (is_among_names ns n)) (are_distinct ns) h in
     let first = has_not ns n i (not-true (is_among_names ns n) p.0) (omega arith) in
-    rw (turned (get_or ns i nameless) n first, not_before ns i p.1 (omega arith)) refl
+    rw (turned (get_or ns i missing_name) n first, not_before ns i p.1 (omega arith)) refl
 
 -- ---- where a name stands
 
 pub not_there : (names : List (List ℕ)) (name : List ℕ) → is_among_names names name ≡ false → position (λ n. bytes_eq n name) names ≡ None
 not_there names name e =
-    let at : position_or_len (λ n. bytes_eq n name) names ≡ length names = position_or_len_is (λ n. bytes_eq n name) names (length names) nameless (omega arith) (λ k lt. has_not names name k e lt) (λ lt. absurd (omega arith)) in
+    let at : position_or_len (λ n. bytes_eq n name) names ≡ length names = position_or_len_is (λ n. bytes_eq n name) names (length names) missing_name (omega arith) (λ k lt. has_not names name k e lt) (λ lt. absurd (omega arith)) in
     let test : ltb (length names) (length names) ≡ false = le-ltb _ _ (omega arith) in
     rw (at, test) refl
 
@@ -86,8 +86,8 @@ there names i e lt =
     let name = name_at names i in
     let earlier = not_before names i e lt in
     let len : length (take i names) ≡ i = length-take-le i names (omega arith) in
-    let at : position_or_len (λ n. bytes_eq n name) names ≡ i = position_or_len_is (λ n. bytes_eq n name) names i nameless (omega arith)
-    (λ k lk. ap (λ w. bytes_eq w name) (sym (get_or-take i names k nameless lk)) ∙ has_not (take i names) name k earlier (omega arith)) (λ _. same_bytes name) in
+    let at : position_or_len (λ n. bytes_eq n name) names ≡ i = position_or_len_is (λ n. bytes_eq n name) names i missing_name (omega arith)
+    (λ k lk. ap (λ w. bytes_eq w name) (sym (get_or-take i names k missing_name lk)) ∙ has_not (take i names) name k earlier (omega arith)) (λ _. same_bytes name) in
     let test : ltb i (length names) ≡ true = lt-ltb _ _ lt in
     rw (at, test) refl
 

@@ -25,7 +25,7 @@ use Rattle.e_line.specs.declared.literal.RawAtom.{RawAtom}
 use Rattle.e_line.specs.declared.literal.RawAtom.TheVariants as raw
 use Rattle.e_names.specs.Scope.{is_among_names, is_taken, fresh}
 use Rattle.e_names.specs.Fits.{are_distinct}
-use Rattle.e_names.specs.Canonical.{nameless, name_at, raw_term, raw_sum, raw_atom, raw_signed, raw_of}
+use Rattle.e_names.specs.Canonical.{missing_name, name_at, raw_term, raw_sum, raw_atom, raw_signed, raw_of}
 use Rattle.e_line.specs.HasSpelling.{AreNames}
 use Rattle.e_names.proofs.distinct_names.Differ.{Apart, Apart-sym, has_not_in_front}
 use Rattle.e_names.proofs.distinct_names.Distinct.{distinct_last, untaken, passed}
@@ -103,9 +103,9 @@ three s a b c h =
     (p.0, q.0, q.1)
 
 in_front : (s : Scope) (ns : Names) (sort : Sort) (i : ℕ) → is_in_scope s (obj sort i) ≡ true → name_at (names_of_sort (first_names s ns) sort) i ≡ name_at (names_of_sort ns sort) i
-in_front s ns Point i h = get_or-take s.points ns.points i nameless (ltb-true i s.points h)
-in_front s ns Line i h = get_or-take s.lines ns.lines i nameless (ltb-true i s.lines h)
-in_front s ns Circle i h = get_or-take s.circles ns.circles i nameless (ltb-true i s.circles h)
+in_front s ns Point i h = get_or-take s.points ns.points i missing_name (ltb-true i s.points h)
+in_front s ns Line i h = get_or-take s.lines ns.lines i missing_name (ltb-true i s.lines h)
+in_front s ns Circle i h = get_or-take s.circles ns.circles i missing_name (ltb-true i s.circles h)
 
 -- ---- sums over the first objects
 

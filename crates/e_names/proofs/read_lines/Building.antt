@@ -8,7 +8,7 @@ use Rattle.e_literal.specs.declared.object.Sort.TheVariants.{Point, Line, Circle
 use Rattle.e_literal.specs.declared.object.Obj.{Obj}
 use Rattle.e_literal.specs.declared.object.Scope.{Scope}
 use Rattle.e_literal.specs.declared.literal.Lit.{Lit}
-use Rattle.e_literal.specs.Scopes.{same_sort, with_one, grown, are_of_sorts}
+use Rattle.e_literal.specs.Scopes.{same_sort, with_one, with_sorts, are_of_sorts}
 use Rattle.e_literal.specs.Use.{StatementView, scope_of}
 use Rattle.e_construct.specs.declared.construction.Shape.{Shape}
 use Rattle.e_construct.specs.declared.construction.Construction.{Construction}
@@ -24,7 +24,7 @@ use Rattle.e_line.specs.declared.lets.RawLet.{RawLet}
 use Rattle.e_line.specs.declared.superposes.RawSuperpose.{RawSuperpose}
 use Rattle.e_line.specs.Reading.{◌>>=◌, each}
 use Rattle.e_names.specs.Superposes.{superpose, placed_in, superpose_in}
-use Rattle.e_names.specs.Scope.{scope_of_names, used, number_of_name, object_as, fresh, right_count, construction, arguments_in, first_fitting, let_in, lits_in, objects_of_sorts, qed_in}
+use Rattle.e_names.specs.Scope.{scope_of_names, used_object, number_of_name, object_as, fresh, right_count, construction, arguments_in, first_fitting, let_in, lits_in, objects_of_sorts, qed_in}
 use Rattle.e_line.proofs.base.Bound.{bind_ok, ok_is, read_ok}
 use Rattle.e_names.proofs.read_lines.InScope.{number_in_scope}
 use Rattle.e_names.proofs.read_lines.Citations.{object_scope, object_sort, counted}
@@ -55,9 +55,9 @@ unfolding let_in
 let_fits ns l construction e =
     let s = scope_of_names ns in
     let count : Construction → Result Construction FaultKind = λ f. right_count (eqb (length l.new) (length (sorts_made f))) >>= λ right. read_ok f in
-    let a = bind_ok (fresh ns [] l.new) (λ free. arguments_in ns l.shapes [] l.args >>= λ args. each (used ns) l.avoid >>= λ avoid. first_fitting s args avoid l.shapes >>= count) construction e in
-    let b = bind_ok (arguments_in ns l.shapes [] l.args) (λ args. each (used ns) l.avoid >>= λ avoid. first_fitting s args avoid l.shapes >>= count) construction a.2 in
-    let c = bind_ok (each (used ns) l.avoid) (λ avoid. first_fitting s b.0 avoid l.shapes >>= count) construction b.2 in
+    let a = bind_ok (fresh ns [] l.new) (λ free. arguments_in ns l.shapes [] l.args >>= λ args. each (used_object ns) l.avoid >>= λ avoid. first_fitting s args avoid l.shapes >>= count) construction e in
+    let b = bind_ok (arguments_in ns l.shapes [] l.args) (λ args. each (used_object ns) l.avoid >>= λ avoid. first_fitting s args avoid l.shapes >>= count) construction a.2 in
+    let c = bind_ok (each (used_object ns) l.avoid) (λ avoid. first_fitting s b.0 avoid l.shapes >>= count) construction b.2 in
     let d = bind_ok (first_fitting s b.0 c.0 l.shapes) count construction c.2 in
     let r = bind_ok (right_count (eqb (length l.new) (length (sorts_made d.0)))) (λ right. read_ok d.0) construction d.2 in
     subst (λ (f : Construction). GoodLet ns f l.new) (ok_is d.0 construction r.2) (record {
@@ -183,11 +183,11 @@ one_named ns Line n = ap (λ k. record { points = length ns.points; lines = k; c
 one_named ns Circle n = ap (λ k. record { points = length ns.points; lines = length ns.lines; circles = k }) (sym (length-append ns.circles (n ∷ [])))
 
 -- with one name for each new object the names grow as the scope does
-pub named_scope : (ns : Names) (sorts : List Sort) (names : List (List ℕ)) → length names ≡ length sorts → grown (scope_of_names ns) sorts ≡ scope_of_names (named ns sorts names)
+pub named_scope : (ns : Names) (sorts : List Sort) (names : List (List ℕ)) → length names ≡ length sorts → with_sorts (scope_of_names ns) sorts ≡ scope_of_names (named ns sorts names)
 named_scope ns [] names e = refl
 named_scope ns (s ∷ sorts) [] e = absurd (omega (arith, e))
 named_scope ns (s ∷ sorts) (n ∷ names) e =
-    ap (λ (z : Scope). grown z sorts) (one_named ns s n) ∙ named_scope (with_names ns s (names_of_sort ns s ++ n ∷ [])) sorts names (omega (arith, e))
+    ap (λ (z : Scope). with_sorts z sorts) (one_named ns s n) ∙ named_scope (with_names ns s (names_of_sort ns s ++ n ∷ [])) sorts names (omega (arith, e))
 
 abbrev the_scope : ℕ → ℕ → ℕ → Scope
 the_scope p l c = record { points = p; lines = l; circles = c }

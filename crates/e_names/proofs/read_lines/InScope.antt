@@ -29,7 +29,7 @@ use Rattle.e_line.specs.declared.literal.RawLit.{RawLit}
 use Rattle.e_line.specs.declared.literal.RawAtom.{RawAtom}
 use Rattle.e_line.specs.declared.literal.RawAtom.TheVariants as raw
 use Rattle.e_line.specs.Reading.{◌>>=◌, each}
-use Rattle.e_names.specs.Scope.{object_at, or_else, object_in, object_of, known_object, used, number_of_sort, number_of_name, on_sort, line_meets, meets_from, equal_at, term_in, kind_of_raw, first_kind, mono_in, sums_in, atom_in, negated_in, lit_in, scope_of_names}
+use Rattle.e_names.specs.Scope.{object_at, or_else, object_in, object_of, known_object, used_object, number_of_sort, number_of_name, on_sort, line_meets, meets_from, equal_at, term_in, kind_of_raw, first_kind, mono_in, sums_in, atom_in, negated_in, lit_in, scope_of_names}
 use Rattle.e_line.proofs.base.Bound.{ok_is, read_ok, bind_ok}
 
 abbrev pub Within : Scope → Sort → ℕ → Type 0
@@ -58,7 +58,7 @@ pub known_is : (x : Option Obj) (o : Obj) → known_object x ≡ Ok o → x ≡ 
 known_is None o e = absurd cc
 known_is (Some x) o e = ap (λ (y : Obj). Some y) (ok_is x o e)
 
-pub used_in_scope : (ns : Names) (name : List ℕ) (o : Obj) → used ns name ≡ Ok o → Within (scope_of_names ns) o.sort o.num
+pub used_in_scope : (ns : Names) (name : List ℕ) (o : Obj) → used_object ns name ≡ Ok o → Within (scope_of_names ns) o.sort o.num
 used_in_scope ns name o e =
     let s = scope_of_names ns in
     let p = object_in ns Point name in
@@ -75,7 +75,7 @@ of_sort s t sort m n h e = absurd cc
 pub number_in_scope : (ns : Names) (sort : Sort) (name : List ℕ) (n : ℕ) → number_of_name ns sort name ≡ Ok n → Within (scope_of_names ns) sort n
 unfolding number_of_name
 number_in_scope ns sort name n e =
-    let a = bind_ok (used ns name) (λ o. number_of_sort sort o) n e in
+    let a = bind_ok (used_object ns name) (λ o. number_of_sort sort o) n e in
     of_sort (scope_of_names ns) a.0.sort sort a.0.num n (used_in_scope ns name a.0 a.1) a.2
 
 two : (s : Scope) (a b : Obj) → Within s a.sort a.num → Within s b.sort b.num → list_all (is_in_scope s) (a ∷ b ∷ []) ≡ true
@@ -100,7 +100,7 @@ line_within s l Circle m a hl hm e = to s (atoms.MeetLC l m) a (two s (obj Line 
 meets_within : (ns : Names) (t : Sort) (n : ℕ) (y : List ℕ) (a : Atom) → Within (scope_of_names ns) t n → meets_from ns t n y ≡ Ok a → AtomWithin (scope_of_names ns) a
 meets_within ns Point n y a h e = absurd cc
 meets_within ns Line n y a h e =
-    let o = bind_ok (used ns y) (λ o. line_meets n o.sort o.num) a e in
+    let o = bind_ok (used_object ns y) (λ o. line_meets n o.sort o.num) a e in
     line_within (scope_of_names ns) n o.0.sort o.0.num a h (used_in_scope ns y o.0 o.1) o.2
 meets_within ns Circle n y a h e =
     let k = bind_ok (number_of_name ns Circle y) (λ k. read_ok (atoms.MeetCC n k)) a e in
@@ -203,8 +203,8 @@ sums_within ns x y p e =
 pub atom_in_scope : (ns : Names) (r : RawAtom) (a : Atom) → atom_in ns r ≡ Ok a → AtomWithin (scope_of_names ns) a
 unfolding atom_in
 atom_in_scope ns (raw.On x y) a e =
-    let p = bind_ok (number_of_name ns Point x) (λ p. used ns y >>= λ o. on_sort p o.sort o.num) a e in
-    let o = bind_ok (used ns y) (λ o. on_sort p.0 o.sort o.num) a p.2 in
+    let p = bind_ok (number_of_name ns Point x) (λ p. used_object ns y >>= λ o. on_sort p o.sort o.num) a e in
+    let o = bind_ok (used_object ns y) (λ o. on_sort p.0 o.sort o.num) a p.2 in
     on_within (scope_of_names ns) p.0 o.0.sort o.0.num a (number_in_scope ns Point x p.0 p.1) (used_in_scope ns y o.0 o.1) o.2
 atom_in_scope ns (raw.Inside x y) a e =
     let p = bind_ok (number_of_name ns Point x) (λ p. number_of_name ns Circle y >>= λ c. read_ok (atoms.Inside p c)) a e in
@@ -227,10 +227,10 @@ atom_in_scope ns (raw.Same x y z) a e =
     to (scope_of_names ns) (atoms.Same p.0 q.0 r.0) a
     (three (scope_of_names ns) (obj Point p.0) (obj Point q.0) (obj Line r.0) (number_in_scope ns Point x p.0 p.1) (number_in_scope ns Point y q.0 q.1) (number_in_scope ns Line z r.0 r.1)) r.2
 atom_in_scope ns (raw.Meets x y) a e =
-    let o = bind_ok (used ns x) (λ o. meets_from ns o.sort o.num y) a e in
+    let o = bind_ok (used_object ns x) (λ o. meets_from ns o.sort o.num y) a e in
     meets_within ns o.0.sort o.0.num y a (used_in_scope ns x o.0 o.1) o.2
 atom_in_scope ns (raw.Equal x y) a e =
-    let o = bind_ok (used ns x) (λ o. number_of_name ns o.sort y >>= λ n. read_ok (equal_at o.sort o.num n)) a e in
+    let o = bind_ok (used_object ns x) (λ o. number_of_name ns o.sort y >>= λ n. read_ok (equal_at o.sort o.num n)) a e in
     let n = bind_ok (number_of_name ns o.0.sort y) (λ n. read_ok (equal_at o.0.sort o.0.num n)) a o.2 in
     to (scope_of_names ns) (equal_at o.0.sort o.0.num n.0) a
     (equal_within (scope_of_names ns) o.0.sort o.0.num n.0 (used_in_scope ns x o.0 o.1) (number_in_scope ns o.0.sort y n.0 n.1)) n.2

@@ -16,7 +16,7 @@ use Rattle.e_literal.specs.Rename.{with_images}
 use Rattle.e_literal.specs.Use.{is_statement, are_arguments, image_in_use}
 use Rattle.e_clause.specs.LimitedFacts.{is_well_formed_in, are_well_formed_in}
 use Rattle.e_theorem.specs.declared.notion.Notion.{Notion}
-use Rattle.e_theorem.specs.Notions.{as_stated, expanded, means_something}
+use Rattle.e_theorem.specs.Notions.{as_stated, literals_of_notion, means_something}
 use Rattle.e_theorem.proofs.Uses.{gives_good}
 use Rattle.e_deriv.specs.declared.names.Names.{Names}
 use Rattle.e_deriv.specs.Fitting.{is_small, is_small_statement, all_objects}
@@ -65,12 +65,12 @@ pub record Meant (notions : List Titled) (ns : Names) (most : ℕ) (raw : RawAs)
   pub is_one : is_notion notion ≡ true
   pub args : List Obj
   pub fit : are_arguments (as_stated notion) (scope_of_names ns) args ≡ true
-  pub are : ls ≡ take most (expanded notion args (scope_of_names ns))
+  pub are : ls ≡ take most (literals_of_notion notion args (scope_of_names ns))
 
 pub meant : (notions : List Titled) (ns : Names) (most : ℕ) (raw : RawAs) (ls : List Lit) → are_notions notions ≡ true → meant_in notions ns most raw ≡ Ok ls → Meant notions ns most raw ls
 unfolding meant_in
 meant notions ns most raw ls all e =
-    let then : Notion → List Obj → Result (List Lit) FaultKind = λ n args. read_ok (take most (expanded n args (scope_of_names ns))) in
+    let then : Notion → List Obj → Result (List Lit) FaultKind = λ n args. read_ok (take most (literals_of_notion n args (scope_of_names ns))) in
     let n = bind_ok (known_notion (notion_of notions raw.title)) (λ n. right_count (eqb (length raw.args) (length n.declared)) >>= λ right. objects_of_sorts ns n.declared raw.args >>= λ args. then n args) ls e in
     let r = bind_ok (right_count (eqb (length raw.args) (length n.0.declared))) (λ right. objects_of_sorts ns n.0.declared raw.args >>= λ args. then n.0 args) ls n.2 in
     let a = bind_ok (objects_of_sorts ns n.0.declared raw.args) (λ args. then n.0 args) ls r.2 in
@@ -79,7 +79,7 @@ meant notions ns most raw ls all e =
       is_one = notion_at notions raw.title n.0 all (known_is (notion_of notions raw.title) n.0 n.1);
       args = a.0;
       fit = of_sorts ns n.0.declared raw.args a.0 (eqb-true (length raw.args) (length n.0.declared) (counted _ r.0 r.1)) a.1;
-      are = sym (ok_is (take most (expanded n.0 a.0 (scope_of_names ns))) ls a.2);
+      are = sym (ok_is (take most (literals_of_notion n.0 a.0 (scope_of_names ns))) ls a.2);
     }
 
 statement_of : (n : Notion) → is_notion n ≡ true → is_statement (as_stated n) ≡ true
@@ -100,7 +100,7 @@ args_fit ns n names words sorts os args s named declared at here count e misfit 
     true≢false (sym (same ∙ of_sorts ns n.declared names os count read) ∙ misfit)
 
 -- its literals are in scope and well formed
-expanded_good : (n : Notion) (args : List Obj) (s : Scope) → is_notion n ≡ true → are_arguments (as_stated n) s args ≡ true → are_well_formed_in s (expanded n args s) ≡ true
+expanded_good : (n : Notion) (args : List Obj) (s : Scope) → is_notion n ≡ true → are_arguments (as_stated n) s args ≡ true → are_well_formed_in s (literals_of_notion n args s) ≡ true
 expanded_good n args s h fit = gives_good (as_stated n) args s (statement_of n h) fit
 
 taken_good : (s : Scope) (k : ℕ) (ls : List Lit) → are_well_formed_in s ls ≡ true → are_well_formed_in s (take k ls) ≡ true
@@ -119,15 +119,15 @@ well_formed s (l ∷ ls) h = let p = and_parts (is_well_formed_in s l) (are_well
 pub meant_good : (notions : List Titled) (ns : Names) (most : ℕ) (raw : RawAs) (ls : List Lit) → Meant notions ns most raw ls → are_well_formed_in (scope_of_names ns) ls ≡ true
 meant_good notions ns most raw ls m =
     let s = scope_of_names ns in
-    subst (λ (x : List Lit). are_well_formed_in s x ≡ true) (sym m.are) (taken_good s most (expanded m.notion m.args s) (expanded_good m.notion m.args s m.is_one m.fit))
+    subst (λ (x : List Lit). are_well_formed_in s x ≡ true) (sym m.are) (taken_good s most (literals_of_notion m.notion m.args s) (expanded_good m.notion m.args s m.is_one m.fit))
 
 -- the first of what a notion says of arguments that fit it
-pub first_within : (n : Notion) (args : List Obj) (s : Scope) (most : ℕ) (ls : List Lit) → is_notion n ≡ true → are_arguments (as_stated n) s args ≡ true → ls ≡ take most (expanded n args s) → list_all (all_in_scope s) ls ≡ true
+pub first_within : (n : Notion) (args : List Obj) (s : Scope) (most : ℕ) (ls : List Lit) → is_notion n ≡ true → are_arguments (as_stated n) s args ≡ true → ls ≡ take most (literals_of_notion n args s) → list_all (all_in_scope s) ls ≡ true
 first_within n args s most ls one fit are =
-    within s ls (subst (λ (x : List Lit). are_well_formed_in s x ≡ true) (sym are) (taken_good s most (expanded n args s) (expanded_good n args s one fit)))
+    within s ls (subst (λ (x : List Lit). are_well_formed_in s x ≡ true) (sym are) (taken_good s most (literals_of_notion n args s) (expanded_good n args s one fit)))
 
-pub first_count : (n : Notion) (args : List Obj) (s : Scope) (most : ℕ) (ls : List Lit) → ls ≡ take most (expanded n args s) → length ls ≤ most
-first_count n args s most ls are = omega (arith, ap (λ (x : List Lit). length x) are, length-take most (expanded n args s))
+pub first_count : (n : Notion) (args : List Obj) (s : Scope) (most : ℕ) (ls : List Lit) → ls ≡ take most (literals_of_notion n args s) → length ls ≤ most
+first_count n args s most ls are = omega (arith, ap (λ (x : List Lit). length x) are, length-take most (literals_of_notion n args s))
 
 pub is_known_one : (notions : List Titled) (title : List ℕ) (n : Notion) → are_notions notions ≡ true → known_notion (notion_of notions title) ≡ Ok n → is_notion n ≡ true
 is_known_one notions title n all e = notion_at notions title n all (known_is (notion_of notions title) n e)
@@ -136,7 +136,7 @@ is_known_one notions title n all e = notion_at notions title n all (known_is (no
 meant_some : (notions : List Titled) (ns : Names) (most : ℕ) (raw : RawAs) (ls : List Lit) → 0 < most → Meant notions ns most raw ls → 0 < length ls
 meant_some notions ns most raw ls room m =
     let some = ltb-true 0 (length m.notion.means) (and_parts (means_something m.notion) (is_small_statement (as_stated m.notion)) m.is_one).0 in
-    omega (arith, room, some, ap (λ (x : List Lit). length x) m.are, length-take most (expanded m.notion m.args (scope_of_names ns)), length-map m.notion.means (with_images (image_in_use (as_stated m.notion) m.args (scope_of_names ns))))
+    omega (arith, room, some, ap (λ (x : List Lit). length x) m.are, length-take most (literals_of_notion m.notion m.args (scope_of_names ns)), length-map m.notion.means (with_images (image_in_use (as_stated m.notion) m.args (scope_of_names ns))))
 
 -- ---- literals with names
 

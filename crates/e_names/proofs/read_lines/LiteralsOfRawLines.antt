@@ -30,7 +30,7 @@ use Rattle.e_line.specs.Lets.{are_words_of, new_words, argument_words, shapes_of
 use Rattle.e_line.specs.declared.applies.RawApply.{RawApply}
 use Rattle.e_line.specs.Applies.{arguments_of, made_names as names_after_as, apply_of}
 use Rattle.e_line.specs.RawLines.{raw_line_of}
-use Rattle.e_names.specs.Scope.{used, number_of_name, on_sort, line_meets, meets_from, equal_at, atom_in, negated_in, lit_in, args_in, by_in, known_rule, variables_of, right_count}
+use Rattle.e_names.specs.Scope.{used_object, number_of_name, on_sort, line_meets, meets_from, equal_at, atom_in, negated_in, lit_in, args_in, by_in, known_rule, variables_of, right_count}
 use Rattle.e_names.specs.Fits.{is_diagram_atom, is_diagram_lit}
 use Rattle.e_line.specs.HasSpelling.{AreNames}
 use Rattle.e_line.proofs.base.Bound.{bind_ok, ok_is, read_ok, each_length}
@@ -167,7 +167,7 @@ line_plain l Circle m a e = to (atoms.MeetLC l m) a refl e
 
 meets_plain : (ns : Names) (t : Sort) (n : ℕ) (y : List ℕ) (a : Atom) → meets_from ns t n y ≡ Ok a → Plain a
 meets_plain ns Point n y a e = absurd cc
-meets_plain ns Line n y a e = let o = bind_ok (used ns y) (λ o. line_meets n o.sort o.num) a e in line_plain n o.0.sort o.0.num a o.2
+meets_plain ns Line n y a e = let o = bind_ok (used_object ns y) (λ o. line_meets n o.sort o.num) a e in line_plain n o.0.sort o.0.num a o.2
 meets_plain ns Circle n y a e = let k = bind_ok (number_of_name ns Circle y) (λ k. read_ok (atoms.MeetCC n k)) a e in to (atoms.MeetCC n k.0) a refl k.2
 
 equal_plain : (t : Sort) (m n : ℕ) → Plain (equal_at t m n)
@@ -178,8 +178,8 @@ equal_plain Circle m n = refl
 pub atom_plain : (ns : Names) (r : RawAtom) (a : Atom) → is_diagram_raw r ≡ true → atom_in ns r ≡ Ok a → Plain a
 unfolding atom_in
 atom_plain ns (raw.On x y) a d e =
-    let p = bind_ok (number_of_name ns Point x) (λ p. used ns y >>= λ o. on_sort p o.sort o.num) a e in
-    let o = bind_ok (used ns y) (λ o. on_sort p.0 o.sort o.num) a p.2 in
+    let p = bind_ok (number_of_name ns Point x) (λ p. used_object ns y >>= λ o. on_sort p o.sort o.num) a e in
+    let o = bind_ok (used_object ns y) (λ o. on_sort p.0 o.sort o.num) a p.2 in
     on_plain p.0 o.0.sort o.0.num a o.2
 atom_plain ns (raw.Inside x y) a d e =
     let p = bind_ok (number_of_name ns Point x) (λ p. number_of_name ns Circle y >>= λ c. read_ok (atoms.Inside p c)) a e in
@@ -200,10 +200,10 @@ atom_plain ns (raw.Same x y z) a d e =
     let r = bind_ok (number_of_name ns Line z) (λ r. read_ok (atoms.Same p.0 q.0 r)) a q.2 in
     to (atoms.Same p.0 q.0 r.0) a refl r.2
 atom_plain ns (raw.Meets x y) a d e =
-    let o = bind_ok (used ns x) (λ o. meets_from ns o.sort o.num y) a e in
+    let o = bind_ok (used_object ns x) (λ o. meets_from ns o.sort o.num y) a e in
     meets_plain ns o.0.sort o.0.num y a o.2
 atom_plain ns (raw.Equal x y) a d e =
-    let o = bind_ok (used ns x) (λ o. number_of_name ns o.sort y >>= λ n. read_ok (equal_at o.sort o.num n)) a e in
+    let o = bind_ok (used_object ns x) (λ o. number_of_name ns o.sort y >>= λ n. read_ok (equal_at o.sort o.num n)) a e in
     let n = bind_ok (number_of_name ns o.0.sort y) (λ n. read_ok (equal_at o.0.sort o.0.num n)) a o.2 in
     to (equal_at o.0.sort o.0.num n.0) a (equal_plain o.0.sort o.0.num n.0) n.2
 atom_plain ns (raw.SumsEqual x y) a d e = absurd cc

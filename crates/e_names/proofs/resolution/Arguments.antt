@@ -11,7 +11,7 @@ use Rattle.e_deriv.specs.Naming.{named}
 use Rattle.e_line.specs.declared.fault.FaultKind.{FaultKind}
 use Rattle.e_line.specs.declared.fault.FaultKind.TheVariants.{WrongSort}
 use Rattle.e_line.specs.Reading.{◌>>=◌}
-use Rattle.e_names.specs.Scope.{used, right_sort, arguments_in, objects_of_sorts}
+use Rattle.e_names.specs.Scope.{used_object, right_sort, arguments_in, objects_of_sorts}
 
 -- whether one of the shapes takes the objects as its first arguments
 abbrev pub one_takes : List Shape → List Obj → Bool
@@ -21,18 +21,18 @@ one_takes shapes found = list_any (λ s. takes s found) shapes
 abbrev after : Names → List Shape → List Obj → List (List ℕ) → Obj → Bool → Result (List Obj) FaultKind
 after ns shapes found names o b = right_sort b >>= λ right. arguments_in ns shapes (found ++ o ∷ []) names
 
-one_more : (ns : Names) (shapes : List Shape) (found : List Obj) (name : List ℕ) (names : List (List ℕ)) (o : Obj) → used ns name ≡ Ok o
+one_more : (ns : Names) (shapes : List Shape) (found : List Obj) (name : List ℕ) (names : List (List ℕ)) (o : Obj) → used_object ns name ≡ Ok o
     → arguments_in ns shapes found (name ∷ names) ≡ after ns shapes found names o (one_takes shapes (found ++ o ∷ []))
 one_more ns shapes found name names o u = ap (λ (r : Result Obj FaultKind). r >>= λ x. after ns shapes found names x (one_takes shapes (found ++ x ∷ []))) u
 
 -- an object that one of the shapes takes
-pub argument_taken : (ns : Names) (shapes : List Shape) (found : List Obj) (all : List (List ℕ)) (name : List ℕ) (names : List (List ℕ)) (o : Obj) (total : Result (List Obj) FaultKind) → all ≡ name ∷ names → used ns name ≡ Ok o
+pub argument_taken : (ns : Names) (shapes : List Shape) (found : List Obj) (all : List (List ℕ)) (name : List ℕ) (names : List (List ℕ)) (o : Obj) (total : Result (List Obj) FaultKind) → all ≡ name ∷ names → used_object ns name ≡ Ok o
     → one_takes shapes (found ++ o ∷ []) ≡ true → arguments_in ns shapes found all ≡ total → arguments_in ns shapes (found ++ o ∷ []) names ≡ total
 argument_taken ns shapes found all name names o total is u t so_far =
     sym (ap (after ns shapes found names o) t) ∙ sym (one_more ns shapes found name names o u) ∙ ap (arguments_in ns shapes found) (sym is) ∙ so_far
 
 -- and one that none takes
-pub argument_refused : (ns : Names) (shapes : List Shape) (found : List Obj) (all : List (List ℕ)) (name : List ℕ) (names : List (List ℕ)) (o : Obj) (total : Result (List Obj) FaultKind) → all ≡ name ∷ names → used ns name ≡ Ok o
+pub argument_refused : (ns : Names) (shapes : List Shape) (found : List Obj) (all : List (List ℕ)) (name : List ℕ) (names : List (List ℕ)) (o : Obj) (total : Result (List Obj) FaultKind) → all ≡ name ∷ names → used_object ns name ≡ Ok o
     → one_takes shapes (found ++ o ∷ []) ≡ false → arguments_in ns shapes found all ≡ total → total ≡ Err WrongSort
 argument_refused ns shapes found all name names o total is u t so_far =
     sym so_far ∙ ap (arguments_in ns shapes found) is ∙ one_more ns shapes found name names o u ∙ ap (after ns shapes found names o) t

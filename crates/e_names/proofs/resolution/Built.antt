@@ -19,7 +19,7 @@ use Rattle.e_construct.specs.Lines.{are_avoided, begin_with, takes}
 use Rattle.e_deriv.specs.declared.names.Names.{Names}
 use Rattle.e_line.specs.declared.lets.RawLet.{RawLet}
 use Rattle.e_line.specs.Reading.{each}
-use Rattle.e_names.specs.Scope.{scope_of_names, used, arguments_in, construction, first_fitting, let_in}
+use Rattle.e_names.specs.Scope.{scope_of_names, used_object, arguments_in, construction, first_fitting, let_in}
 use Rattle.e_names.specs.Canonical.{name_of_object}
 use Rattle.e_line.specs.HasSpelling.{AreNames}
 use Rattle.e_names.proofs.read_lines.Building.{GoodLet}
@@ -88,7 +88,7 @@ arguments_read ns s found (x ∷ more) o h t =
     let any : list_any (λ t. takes t (found ++ x ∷ [])) (alike s) ≡ true = among s (λ t. takes t (found ++ x ∷ [])) here in
     rw (object_used ns x o p.0, any) (arguments_read ns s (found ++ x ∷ []) more o p.1 whole ∙ ap (λ (os : List Obj). Ok os) (sym regrouped))
 
-avoided_read : (ns : Names) (os : List Obj) → InOrder ns → list_all (is_in_scope (scope_of_names ns)) os ≡ true → each (used ns) (map (name_of_object ns) os) ≡ Ok os
+avoided_read : (ns : Names) (os : List Obj) → InOrder ns → list_all (is_in_scope (scope_of_names ns)) os ≡ true → each (used_object ns) (map (name_of_object ns) os) ≡ Ok os
 avoided_read ns [] o h = refl
 avoided_read ns (x ∷ os) o h =
     let p = and_parts (is_in_scope (scope_of_names ns) x) (list_all (is_in_scope (scope_of_names ns)) os) h in

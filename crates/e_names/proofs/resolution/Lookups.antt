@@ -13,7 +13,7 @@ use Rattle.e_deriv.specs.declared.names.Names.{Names}
 use Rattle.e_line.specs.declared.fault.FaultKind.{FaultKind}
 use Rattle.e_line.specs.Reading.{◌>>=◌}
 use Rattle.e_deriv.specs.Naming.{names_of_sort}
-use Rattle.e_names.specs.Scope.{scope_of_names, used, number_of_sort, number_of_name, object_as, objects_as}
+use Rattle.e_names.specs.Scope.{scope_of_names, used_object, number_of_sort, number_of_name, object_as, objects_as}
 use Rattle.e_names.specs.Canonical.{name_at, name_of_object}
 use Rattle.e_names.specs.Fits.{are_distinct, NamesDiffer}
 use Rattle.e_line.specs.HasSpelling.{AreNames}
@@ -58,7 +58,7 @@ in_order ns hp hl hc d =
 abbrev pub Within : Names → Sort → ℕ → Type 0
 Within ns sort n = ltb n (count_of (scope_of_names ns) sort) ≡ true
 
-pub used_again : (ns : Names) (sort : Sort) (i : ℕ) → InOrder ns → Within ns sort i → used ns (name_at (names_of_sort ns sort) i) ≡ Ok (obj sort i)
+pub used_again : (ns : Names) (sort : Sort) (i : ℕ) → InOrder ns → Within ns sort i → used_object ns (name_at (names_of_sort ns sort) i) ≡ Ok (obj sort i)
 used_again ns Point i s h = rw (there ns.points i s.points (ltb-true i (length ns.points) h)) refl
 used_again ns Line i s h =
     let lt = ltb-true i (length ns.lines) h in
@@ -83,7 +83,7 @@ named_at ns Circle i s h = name_there ns.circles i s.circle_names (ltb-true i (l
 
 -- ---- objects
 
-pub object_used : (ns : Names) (o : Obj) → InOrder ns → is_in_scope (scope_of_names ns) o ≡ true → used ns (name_of_object ns o) ≡ Ok o
+pub object_used : (ns : Names) (o : Obj) → InOrder ns → is_in_scope (scope_of_names ns) o ≡ true → used_object ns (name_of_object ns o) ≡ Ok o
 object_used ns o s h = used_again ns o.sort o.num s h
 
 pub object_again : (ns : Names) (o : Obj) → InOrder ns → is_in_scope (scope_of_names ns) o ≡ true → object_as ns o.sort (name_of_object ns o) ≡ Ok o

@@ -4,7 +4,7 @@ use Rattle.std.specs.List.{position, position_or_len}
 use Rattle.std.specs.Str.{bytes_eq}
 use Rattle.std.proofs.lemmas.Bool.{and_parts, and_from, ltb-false, le-ltb}
 use Rattle.e_theorem.specs.declared.notion.Notion.{Notion}
-use Rattle.e_names.specs.Titled.{Titled, titled, side_by_side, notion_of, is_notion, are_notions}
+use Rattle.e_names.specs.Titled.{Titled, titled_notion, side_by_side, notion_of, is_notion, are_notions}
 
 pub titles_of : (ts : List (List ℕ)) (ns : List Notion) → length ts ≡ length ns → map (λ (n : Titled). n.title) (side_by_side ts ns) ≡ ts
 titles_of [] ns e = refl
@@ -19,11 +19,11 @@ length_beside (t ∷ ts) (n ∷ ns) e = ap suc (length_beside ts ns (omega (arit
 
 -- one more of each
 pub append_beside : (ts : List (List ℕ)) (ns : List Notion) (t : List ℕ) (n : Notion) → length ts ≡ length ns
-    → side_by_side (ts ++ t ∷ []) (ns ++ n ∷ []) ≡ side_by_side ts ns ++ titled t n ∷ []
+    → side_by_side (ts ++ t ∷ []) (ns ++ n ∷ []) ≡ side_by_side ts ns ++ titled_notion t n ∷ []
 append_beside [] [] t n e = refl
 append_beside [] (m ∷ ns) t n e = absurd (omega (arith, e))
 append_beside (u ∷ ts) [] t n e = absurd (omega (arith, e))
-append_beside (u ∷ ts) (m ∷ ns) t n e = ap (λ (l : List Titled). titled u m ∷ l) (append_beside ts ns t n (omega (arith, e)))
+append_beside (u ∷ ts) (m ∷ ns) t n e = ap (λ (l : List Titled). titled_notion u m ∷ l) (append_beside ts ns t n (omega (arith, e)))
 
 -- ---- the notion with a title, by its place
 

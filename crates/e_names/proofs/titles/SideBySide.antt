@@ -5,7 +5,7 @@ use Rattle.std.specs.Str.{bytes_eq}
 use Rattle.e_theorem.specs.declared.statement.Statement.{Statement}
 use Rattle.e_theorem.specs.Statements.{stated, all_stated}
 use Rattle.e_deriv.specs.PlacedSteps.{theorem_at}
-use Rattle.e_names.specs.TitledStatements.{TitledStatement, headed, side_by_side, titles, statements, theorem_of}
+use Rattle.e_names.specs.TitledStatements.{TitledStatement, titled_statement, side_by_side, titles, statements, theorem_of}
 
 pub titles_of : (ts : List (List ℕ)) (ss : List Statement) → length ts ≡ length ss → titles (side_by_side ts ss) ≡ ts
 titles_of [] ss e = refl
@@ -35,11 +35,11 @@ statement_at ts ss k s e lt h = said ss k lt h ∙ ap (λ (l : List Statement). 
 
 -- one more of each
 pub append_side_by_side : (ts : List (List ℕ)) (ss : List Statement) (t : List ℕ) (s : Statement) → length ts ≡ length ss
-    → side_by_side (ts ++ t ∷ []) (ss ++ s ∷ []) ≡ side_by_side ts ss ++ headed t s ∷ []
+    → side_by_side (ts ++ t ∷ []) (ss ++ s ∷ []) ≡ side_by_side ts ss ++ titled_statement t s ∷ []
 append_side_by_side [] [] t s e = refl
 append_side_by_side [] (s' ∷ ss) t s e = absurd (omega (arith, e))
 append_side_by_side (t' ∷ ts) [] t s e = absurd (omega (arith, e))
-append_side_by_side (t' ∷ ts) (s' ∷ ss) t s e = ap (λ (l : List TitledStatement). headed t' s' ∷ l) (append_side_by_side ts ss t s (omega (arith, e)))
+append_side_by_side (t' ∷ ts) (s' ∷ ss) t s e = ap (λ (l : List TitledStatement). titled_statement t' s' ∷ l) (append_side_by_side ts ss t s (omega (arith, e)))
 
 -- a title that is new is put last
 pub put_new : (t : List ℕ) (before now : List (List ℕ)) → now ≡ before → list_any (bytes_eq t) before ≡ false → cond (list_any (bytes_eq t) now) now (now ++ t ∷ []) ≡ before ++ t ∷ []

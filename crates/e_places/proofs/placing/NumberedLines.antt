@@ -8,7 +8,7 @@ use Rattle.e_literal.specs.declared.literal.Lit.{Lit}
 use Rattle.e_literal.specs.Literal.{negation, all_in_scope}
 use Rattle.e_literal.specs.Facts.{with_fact, with_facts, others}
 use Rattle.e_literal.specs.Same.{same_lit}
-use Rattle.e_literal.specs.Scopes.{grown}
+use Rattle.e_literal.specs.Scopes.{with_sorts}
 use Rattle.e_literal.specs.Use.{StatementView, gives_of_use}
 use Rattle.e_literal.proofs.Booleans.{and_left, and_right, all_left, all_right, all_both}
 use Rattle.e_clause.specs.declared.cert.Version.TheVariants as version
@@ -78,15 +78,15 @@ numbered_certified before (Hence lit cert rest) s facts goal h =
     by (Some c) k = with_certs (all_in_scope s lit) _ _ true (certs_certified s facts (lit ∷ []) (c ∷ [])) k
 numbered_certified before (Make construction names certs rest) s facts goal h =
     let first : Bool = is_certified before (placed_step (Make construction names certs rest) (Make construction names certs rest) s facts goal) in
-    let next : List PlacedStep = placed_steps before rest rest (grown s (sorts_made construction)) (with_facts facts (gives_of_construction construction s)) goal in
+    let next : List PlacedStep = placed_steps before rest rest (with_sorts s (sorts_made construction)) (with_facts facts (gives_of_construction construction s)) goal in
     both_true _ _ (with_certs (fits_construction construction s) _ _ true (certs_certified s facts (needs before (placed_step (Make construction names certs rest) (Make construction names certs rest) s facts goal)) certs) (and_left first (are_certified before next) h))
-    (numbered_certified before rest (grown s (sorts_made construction)) (with_facts facts (gives_of_construction construction s)) goal (and_right first (are_certified before next) h))
+    (numbered_certified before rest (with_sorts s (sorts_made construction)) (with_facts facts (gives_of_construction construction s)) goal (and_right first (are_certified before next) h))
 numbered_certified before (Apply theorem args names certs rest) s facts goal h =
     let t : StatementView = theorem_at before theorem in
     let first : Bool = is_certified before (placed_step (Apply theorem args names certs rest) (Apply theorem args names certs rest) s facts goal) in
-    let next : List PlacedStep = placed_steps before rest rest (grown s t.made) (with_facts facts (gives_of_use t (written args) s)) goal in
+    let next : List PlacedStep = placed_steps before rest rest (with_sorts s t.made) (with_facts facts (gives_of_use t (written args) s)) goal in
     both_true _ _ (with_certs (is_applied before theorem s args (written args)) _ _ (has_no_blank args) (certs_certified s facts (needs before (placed_step (Apply theorem args names certs rest) (Apply theorem args names certs rest) s facts goal)) certs) (and_left first (are_certified before next) h))
-    (numbered_certified before rest (grown s t.made) (with_facts facts (gives_of_use t (written args) s)) goal (and_right first (are_certified before next) h))
+    (numbered_certified before rest (with_sorts s t.made) (with_facts facts (gives_of_use t (written args) s)) goal (and_right first (are_certified before next) h))
 numbered_certified before (Claim shown inner rest) s facts goal h =
     let first : Bool = is_certified before (placed_step (Claim shown inner rest) (Claim shown inner rest) s facts goal) in
     let within : List PlacedStep = placed_steps before inner inner s facts (goal_of shown) in
@@ -98,13 +98,13 @@ numbered_certified before (Claim shown inner rest) s facts goal h =
     (numbered_certified before rest s (with_facts facts shown) goal (all_right (is_certified before) within next later)))
 numbered_certified before (Superposed superposition names shown certs inner rest) s facts goal h =
     let first : Bool = is_certified before (placed_step (Superposed superposition names shown certs inner rest) (Superposed superposition names shown certs inner rest) s facts goal) in
-    let within : List PlacedStep = placed_steps before inner inner (grown s superposing.sorts_copied) (with_facts facts (superposing.gives_of_superposition superposition s)) (goal_of shown) in
+    let within : List PlacedStep = placed_steps before inner inner (with_sorts s superposing.sorts_copied) (with_facts facts (superposing.gives_of_superposition superposition s)) (goal_of shown) in
     let next : List PlacedStep = placed_steps before rest rest s (with_facts facts shown) goal in
     let later = and_right first (are_certified before (within ++ next)) h in
     both_true _ _ (with_certs (superposing.fits_superposition superposition s && are_over s shown) _ _ true (certs_certified s facts (superposing.needs_of_superposition superposition) certs) (and_left first (are_certified before (within ++ next)) h))
-    (all_both (is_certified before) (lines_of before (with_places before inner (grown s superposing.sorts_copied) (with_facts facts (superposing.gives_of_superposition superposition s)) (goal_of shown)) (grown s superposing.sorts_copied) (with_facts facts (superposing.gives_of_superposition superposition s)) (goal_of shown))
+    (all_both (is_certified before) (lines_of before (with_places before inner (with_sorts s superposing.sorts_copied) (with_facts facts (superposing.gives_of_superposition superposition s)) (goal_of shown)) (with_sorts s superposing.sorts_copied) (with_facts facts (superposing.gives_of_superposition superposition s)) (goal_of shown))
     (lines_of before (with_places before rest s (with_facts facts shown) goal) s (with_facts facts shown) goal)
-    (numbered_certified before inner (grown s superposing.sorts_copied) (with_facts facts (superposing.gives_of_superposition superposition s)) (goal_of shown) (all_left (is_certified before) within next later))
+    (numbered_certified before inner (with_sorts s superposing.sorts_copied) (with_facts facts (superposing.gives_of_superposition superposition s)) (goal_of shown) (all_left (is_certified before) within next later))
     (numbered_certified before rest s (with_facts facts shown) goal (all_right (is_certified before) within next later)))
 numbered_certified before (Qed objects certs) s facts goal h =
     let first : Bool = is_certified before (placed_step (Qed objects certs) (Qed objects certs) s facts goal) in
@@ -129,14 +129,14 @@ pub numbered_erased : (before : List StatementView) (d : Script) (s : Scope) (fa
 unfolding script_without_certs with_places
 numbered_erased before (Cite by rest) s facts goal = ap (Cite by) (numbered_erased before rest s (with_fact facts by.lit) goal)
 numbered_erased before (Hence lit cert rest) s facts goal = ap (Hence lit None) (numbered_erased before rest s (with_fact facts lit) goal)
-numbered_erased before (Make construction names certs rest) s facts goal = ap (Make construction names []) (numbered_erased before rest (grown s (sorts_made construction)) (with_facts facts (gives_of_construction construction s)) goal)
+numbered_erased before (Make construction names certs rest) s facts goal = ap (Make construction names []) (numbered_erased before rest (with_sorts s (sorts_made construction)) (with_facts facts (gives_of_construction construction s)) goal)
 numbered_erased before (Apply theorem args names certs rest) s facts goal =
-    ap (Apply theorem args names []) (numbered_erased before rest (grown s (theorem_at before theorem).made) (with_facts facts (gives_of_use (theorem_at before theorem) (written args) s)) goal)
+    ap (Apply theorem args names []) (numbered_erased before rest (with_sorts s (theorem_at before theorem).made) (with_facts facts (gives_of_use (theorem_at before theorem) (written args) s)) goal)
 numbered_erased before (Claim shown inner rest) s facts goal =
     ap₂ {A = Script} {B = Script} (Claim shown) (numbered_erased before inner s facts (goal_of shown)) (numbered_erased before rest s (with_facts facts shown) goal)
 numbered_erased before (Superposed superposition names shown certs inner rest) s facts goal =
     ap₂ {A = Script} {B = Script} (Superposed superposition names shown [])
-    (numbered_erased before inner (grown s superposing.sorts_copied) (with_facts facts (superposing.gives_of_superposition superposition s)) (goal_of shown)) (numbered_erased before rest s (with_facts facts shown) goal)
+    (numbered_erased before inner (with_sorts s superposing.sorts_copied) (with_facts facts (superposing.gives_of_superposition superposition s)) (goal_of shown)) (numbered_erased before rest s (with_facts facts shown) goal)
 numbered_erased before (Qed objects certs) s facts goal = refl
 numbered_erased before (Contradiction against) s facts goal = refl
 numbered_erased before (Cases lit one two) s facts goal =
@@ -252,11 +252,11 @@ numbered_of_second before (Hence lit cert rest) s facts goal w h =
 numbered_of_second before (Make construction names certs rest) s facts goal w h =
     let k = make_written construction names certs rest w in
     both_true _ _ (certs_of_second facts (few_of facts _ h) (needs before (placed_step (Make construction names certs rest) (Make construction names certs rest) s facts goal)) certs k.0)
-    (numbered_of_second before rest (grown s (sorts_made construction)) (with_facts facts (gives_of_construction construction s)) goal k.1 (and_right _ _ h))
+    (numbered_of_second before rest (with_sorts s (sorts_made construction)) (with_facts facts (gives_of_construction construction s)) goal k.1 (and_right _ _ h))
 numbered_of_second before (Apply theorem args names certs rest) s facts goal w h =
     let k = apply_written theorem args names certs rest w in
     both_true _ _ (certs_of_second facts (few_of facts _ h) (needs before (placed_step (Apply theorem args names certs rest) (Apply theorem args names certs rest) s facts goal)) certs k.0)
-    (numbered_of_second before rest (grown s (theorem_at before theorem).made) (with_facts facts (gives_of_use (theorem_at before theorem) (written args) s)) goal k.1 (and_right _ _ h))
+    (numbered_of_second before rest (with_sorts s (theorem_at before theorem).made) (with_facts facts (gives_of_use (theorem_at before theorem) (written args) s)) goal k.1 (and_right _ _ h))
 numbered_of_second before (Claim shown inner rest) s facts goal w h =
     let within : List PlacedStep = placed_steps before inner inner s facts (goal_of shown) in
     let next : List PlacedStep = placed_steps before rest rest s (with_facts facts shown) goal in
@@ -265,12 +265,12 @@ numbered_of_second before (Claim shown inner rest) s facts goal w h =
     both_true _ _ (numbered_of_second before inner s facts (goal_of shown) k.1 (all_left has_few within next later))
     (numbered_of_second before rest s (with_facts facts shown) goal k.2 (all_right has_few within next later))
 numbered_of_second before (Superposed superposition names shown certs inner rest) s facts goal w h =
-    let within : List PlacedStep = placed_steps before inner inner (grown s superposing.sorts_copied) (with_facts facts (superposing.gives_of_superposition superposition s)) (goal_of shown) in
+    let within : List PlacedStep = placed_steps before inner inner (with_sorts s superposing.sorts_copied) (with_facts facts (superposing.gives_of_superposition superposition s)) (goal_of shown) in
     let next : List PlacedStep = placed_steps before rest rest s (with_facts facts shown) goal in
     let later = and_right (nat_lt (length facts) (2 ^ 32)) (list_all has_few (within ++ next)) h in
     let k = superposed_written superposition names shown certs inner rest w in
     both_true _ _ (certs_of_second facts (few_of facts _ h) (superposing.needs_of_superposition superposition) certs k.1)
-    (both_true _ _ (numbered_of_second before inner (grown s superposing.sorts_copied) (with_facts facts (superposing.gives_of_superposition superposition s)) (goal_of shown) k.2 (all_left has_few within next later))
+    (both_true _ _ (numbered_of_second before inner (with_sorts s superposing.sorts_copied) (with_facts facts (superposing.gives_of_superposition superposition s)) (goal_of shown) k.2 (all_left has_few within next later))
     (numbered_of_second before rest s (with_facts facts shown) goal k.3 (all_right has_few within next later)))
 numbered_of_second before (Qed objects certs) s facts goal w h =
     certs_of_second facts (few_of facts _ h) (needs before (placed_step (Qed objects certs) (Qed objects certs) s facts goal)) certs (qed_written objects certs w)

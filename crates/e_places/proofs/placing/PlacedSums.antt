@@ -20,7 +20,7 @@ use Rattle.e_clause.specs.declared.cert.RowName.TheVariants.{Fact, Goal, Pos, To
 use Rattle.e_clause.specs.declared.cert.Sums.{Sums}
 use Rattle.e_clause.specs.declared.cert.Sums.TheVariants.{One, Two}
 use Rattle.e_clause.specs.Sum.{Place, fact_row, row_at, says_differ, unless_not, pos_of, top_of, row_named, weighed_rows, is_nonzero_bounded, is_limited_sum, refutes}
-use Rattle.e_clause.specs.MetricCertificate.{differing_of, differing, above_row, below_row, both_refute, sums_refute}
+use Rattle.e_clause.specs.MetricCertificate.{differing_of, differing_row, above_row, below_row, both_refute, sums_refute}
 use Rattle.e_clause.proofs.Refuted.{option_split, found}
 use Rattle.e_places.specs.Numbered.{place_of_same, have_opposite_rows, has_opposite_row, name_with_place, turns, sum_with_places, opposite_side, sides_swapped, two_placed, sums_with_places}
 use Rattle.e_places.proofs.placing.AlikeRows.{placed_fact, AreAlike, alike_rows}
@@ -194,8 +194,8 @@ module _ (facts : List Lit) (swap : Bool) where
 -- ---- certificates with one sum or two
 
 -- the row that is said not to be 0, and its place
-differing_placed : (facts : List Lit) (wanted : Option Lit) (name : RowName) (r : Row) → differing facts wanted name ≡ Some r
-    → (s : Row) × (differing facts wanted (name_with_place facts name) ≡ Some s) × AreAlike (turns facts name) r s
+differing_placed : (facts : List Lit) (wanted : Option Lit) (name : RowName) (r : Row) → differing_row facts wanted name ≡ Some r
+    → (s : Row) × (differing_row facts wanted (name_with_place facts name) ≡ Some s) × AreAlike (turns facts name) r s
 differing_placed facts wanted name r e = by (option_split (differing_of facts wanted name))
   where
     test : Row → Option Row
@@ -212,7 +212,7 @@ differing_placed facts wanted name r e = by (option_split (differing_of facts wa
     at Below x k = absurd (none-some x k)
     at (FactAt n) x k = (x, k, alike_self x)
 
-    by : (differing_of facts wanted name ≡ None) ⊎ (x : Row) × (differing_of facts wanted name ≡ Some x) → (s : Row) × (differing facts wanted (name_with_place facts name) ≡ Some s) × AreAlike (turns facts name) r s
+    by : (differing_of facts wanted name ≡ None) ⊎ (x : Row) × (differing_of facts wanted name ≡ Some x) → (s : Row) × (differing_row facts wanted (name_with_place facts name) ≡ Some s) × AreAlike (turns facts name) r s
     by (inl n) = absurd (none-some r (sym (ap (option_and_then test) n) ∙ e))
     by (inr m) =
         let k = cond_some (says_differ m.0.sense) (Some m.0) r (sym (ap (option_and_then test) m.1) ∙ e) in
@@ -242,11 +242,11 @@ placed_refute facts wanted (One sum) h =
     subst (λ xs. refutes (record { facts = facts; wanted = wanted; above = None; below = None }) xs ≡ true) (not_sided (sum_with_places facts sum))
     (refutes_on facts false wanted None None None None (λ r e. absurd (none-some r e)) (λ r e. absurd (none-some r e)) sum h)
 placed_refute facts wanted (Two differs first second) h =
-    let k = found (λ r. both_refute facts wanted r first second) (differing facts wanted differs) h in
+    let k = found (λ r. both_refute facts wanted r first second) (differing_row facts wanted differs) h in
     let s = differing_placed facts wanted differs k.0 k.1 in
     by (turns facts differs) k.0 s.0 s.1 s.2 k.2
   where
-    by : (b : Bool) (r s : Row) → differing facts wanted (name_with_place facts differs) ≡ Some s → AreAlike b r s → both_refute facts wanted r first second ≡ true
+    by : (b : Bool) (r s : Row) → differing_row facts wanted (name_with_place facts differs) ≡ Some s → AreAlike b r s → both_refute facts wanted r first second ≡ true
         → sums_refute facts wanted (two_placed b (name_with_place facts differs) (sum_with_places facts first) (sum_with_places facts second)) ≡ true
     by false r s e h both =
         let high : Place = record { facts = facts; wanted = wanted; above = Some (above_row r); below = None } in

@@ -3,7 +3,7 @@ use Rattle.std.specs.Prelude.{◌≡◌, List, Option, IsTrue}
 use Rattle.std.specs.List.{list_all}
 use Rattle.e_literal.specs.declared.object.Obj.{Obj}
 use Rattle.e_literal.specs.Facts.{with_facts}
-use Rattle.e_literal.specs.Scopes.{grown}
+use Rattle.e_literal.specs.Scopes.{with_sorts}
 use Rattle.e_literal.specs.Use.{StatementView, needs_of_use, gives_of_use}
 use Rattle.e_clause.specs.Certify.{certify_all}
 use Rattle.e_clause.specs.LimitedFacts.{are_well_formed_in, are_limited_facts}
@@ -20,7 +20,7 @@ use Rattle.e_prove.specs.declared.application.Use.{Use}
 pub record LitsFitAt (t : StatementView) (args : List Obj) (x : Basis) : Type 0 where
   pub needs : IsTrue (are_well_formed_in x.scope (needs_of_use t args x.scope))
   pub after : IsTrue
-      (are_limited_facts (grown x.scope t.made) (with_facts x.facts (gives_of_use t args x.scope)))
+      (are_limited_facts (with_sorts x.scope t.made) (with_facts x.facts (gives_of_use t args x.scope)))
 
 -- the arguments fit the statement, whatever their blanks are filled with, and at each choice its
 -- literals fit; there are numbers for all objects

@@ -4,7 +4,7 @@ use Rattle.e_literal.specs.declared.object.Obj.{Obj}
 use Rattle.e_literal.specs.declared.object.Scope.{Scope}
 use Rattle.e_literal.specs.declared.literal.Lit.{Lit}
 use Rattle.e_literal.specs.Facts.{with_fact, with_facts}
-use Rattle.e_literal.specs.Scopes.{grown}
+use Rattle.e_literal.specs.Scopes.{with_sorts}
 use Rattle.e_literal.specs.Use.{StatementView, scope_of, gives_of_use}
 use Rattle.e_clause.specs.LimitedFacts.{are_limited_facts}
 use Rattle.e_construct.specs.declared.construction.Construction.{Construction}
@@ -35,7 +35,7 @@ abbrev pub after_make : Construction → List (List ℕ) → Place → Place
 after_make construction names x =
     record {
       context = record x.context {
-        scope = grown x.context.scope (sorts_made construction);
+        scope = with_sorts x.context.scope (sorts_made construction);
         facts = with_facts x.context.facts (gives_of_construction construction x.context.scope);
       };
       names = named x.names (sorts_made construction) names;
@@ -46,7 +46,7 @@ abbrev pub after_apply : StatementView → List Obj → List (List ℕ) → Plac
 after_apply t args names x =
     record {
       context = record x.context {
-        scope = grown x.context.scope t.made;
+        scope = with_sorts x.context.scope t.made;
         facts = with_facts x.context.facts (gives_of_use t args x.context.scope);
       };
       names = named x.names t.made names;
@@ -57,7 +57,7 @@ abbrev pub after_superposed : Superpose → List (List ℕ) → Place → Place
 after_superposed superposition names x =
     record {
       context = record x.context {
-        scope = grown x.context.scope superposing.sorts_copied;
+        scope = with_sorts x.context.scope superposing.sorts_copied;
         facts = with_facts x.context.facts
             (superposing.gives_of_superposition superposition x.context.scope);
       };

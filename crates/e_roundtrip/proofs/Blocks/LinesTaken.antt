@@ -17,7 +17,7 @@ use Rattle.e_book.specs.declared.parser.TheoremParser.{TheoremParser}
 use Rattle.e_names.specs.TitledStatements.{TitledStatement}
 use Rattle.e_book.specs.Steps.{step}
 use Rattle.e_book.specs.Book.{is_done}
-use Rattle.e_line.specs.Canonical.{filled, line_pieces, avoid_words, let_words, raw_line_words, line_of}
+use Rattle.e_line.specs.Canonical.{filled_pieces, line_pieces, avoid_words, let_words, raw_line_words, line_of}
 use Rattle.e_line.proofs.base.Bound.{same_bytes}
 use Rattle.e_line.proofs.read_again.Pieces.{alike, first_alike}
 use Rattle.e_line.proofs.read_again.LetsAgain.{LetNamed, as_read as let_as_read}
@@ -51,7 +51,7 @@ let_alike : (s : Shape) (new args avoid : List (List ℕ)) → let_words (let_as
 let_alike s new args avoid =
     let a = first_alike s in
     let same : line_pieces (alike s) ≡ pieces s = ap line_pieces a.is ∙ a.same in
-    ap (λ (ps : List Piece). filled ps new args ++ avoid_words avoid) same
+    ap (λ (ps : List Piece). filled_pieces ps new args ++ avoid_words avoid) same
 
 let_line : (l : RawLet) → LetNamed l → let_words (let_as_read l) ≡ let_words l
 let_line l g =

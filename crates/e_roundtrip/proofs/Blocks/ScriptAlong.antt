@@ -8,7 +8,7 @@ use Rattle.e_literal.specs.declared.object.Scope.{Scope}
 use Rattle.e_literal.specs.declared.literal.Lit.{Lit}
 use Rattle.e_literal.specs.Literal.{negation}
 use Rattle.e_literal.specs.WellFormed.{is_well_formed}
-use Rattle.e_literal.specs.Scopes.{grown, are_of_sorts}
+use Rattle.e_literal.specs.Scopes.{with_sorts, are_of_sorts}
 use Rattle.e_literal.specs.Facts.{with_fact, with_facts}
 use Rattle.e_literal.specs.Use.{are_arguments, gives_of_use, needs_of_use}
 use Rattle.e_theorem.specs.Choice.{fills, is_choice}
@@ -151,12 +151,12 @@ make_next known d i construction names certs rest given goal s =
     let before = stated_by known in
     let sc = scope_of_names i.in_scope in
     let facts = with_facts given (gives_of_construction construction sc) in
-    let scope : grown sc (sorts_made construction) ≡ scope_of_names (named i.in_scope (sorts_made construction) names) = named_scope i.in_scope (sorts_made construction) names s.ready.new_names.1 in
+    let scope : with_sorts sc (sorts_made construction) ≡ scope_of_names (named i.in_scope (sorts_made construction) names) = named_scope i.in_scope (sorts_made construction) names s.ready.new_names.1 in
     let here = placed_step (Make construction names certs rest) (Make construction names certs rest) sc given goal in
     record {
       ready = make_ready known d i construction names (script_without_certs rest) given goal s.ready;
       goal_is = s.goal_is;
-      formed = subst (λ (z : Scope). list_all (is_formed before) (placed_steps before rest rest z facts goal) ≡ true) scope (first_of (is_formed before) here (placed_steps before rest rest (grown sc (sorts_made construction)) facts goal) s.formed).1;
+      formed = subst (λ (z : Scope). list_all (is_formed before) (placed_steps before rest rest z facts goal) ≡ true) scope (first_of (is_formed before) here (placed_steps before rest rest (with_sorts sc (sorts_made construction)) facts goal) s.formed).1;
     }
 
 make_along : (known : List TitledStatement) (d : TheoremParser) (i : Inside) (construction : Construction) (names : List (List ℕ)) (certs : List Cert) (rest : Script) (given : List Lit) (goal : Goal) → Stood known d i (Make construction names certs rest) given goal
@@ -168,9 +168,9 @@ make_along known d i construction names certs rest given goal s t =
     let sc = scope_of_names i.in_scope in
     let n = i.facts + gifts i construction in
     let here = placed_step (Make construction names certs rest) (Make construction names certs rest) sc given goal in
-    let one = one_formed before here (first_of (is_formed before) here (placed_steps before rest rest (grown sc (sorts_made construction)) (with_facts given (gives_of_construction construction sc)) goal) s.formed).0 in
+    let one = one_formed before here (first_of (is_formed before) here (placed_steps before rest rest (with_sorts sc (sorts_made construction)) (with_facts given (gives_of_construction construction sc)) goal) s.formed).0 in
     let good = make_good known d i construction names (script_without_certs rest) given goal r in
-    let most = leb-true _ _ (and_parts (leb n most_facts) (few_facts before n (grown sc (sorts_made construction)) (script_without_certs rest)) r.facts).0 in
+    let most = leb-true _ _ (and_parts (leb n most_facts) (few_facts before n (with_sorts sc (sorts_made construction)) (script_without_certs rest)) r.facts).0 in
     record {
       last = t.last;
       lines = omega (arith, t.lines);
@@ -198,12 +198,12 @@ apply_next known d i theorem args names certs rest given goal s =
     let sc = scope_of_names i.in_scope in
     let t = theorem_of known theorem in
     let facts = with_facts given (gives_of_use t (written_args args) sc) in
-    let scope : grown sc t.made ≡ scope_of_names (named i.in_scope t.made names) = named_scope i.in_scope t.made names s.ready.new_names.1 in
+    let scope : with_sorts sc t.made ≡ scope_of_names (named i.in_scope t.made names) = named_scope i.in_scope t.made names s.ready.new_names.1 in
     let here = placed_step (Apply theorem args names certs rest) (Apply theorem args names certs rest) sc given goal in
     record {
       ready = (apply_parts known d i theorem args names (script_without_certs rest) given goal s.ready).next;
       goal_is = s.goal_is;
-      formed = subst (λ (z : Scope). list_all (is_formed before) (placed_steps before rest rest z facts goal) ≡ true) scope (first_of (is_formed before) here (placed_steps before rest rest (grown sc t.made) facts goal) s.formed).1;
+      formed = subst (λ (z : Scope). list_all (is_formed before) (placed_steps before rest rest z facts goal) ≡ true) scope (first_of (is_formed before) here (placed_steps before rest rest (with_sorts sc t.made) facts goal) s.formed).1;
     }
 
 apply_along : (known : List TitledStatement) (d : TheoremParser) (i : Inside) (theorem : ℕ) (args : List (Option Obj)) (names : List (List ℕ)) (certs : List Cert) (rest : Script) (given : List Lit) (goal : Goal)
@@ -217,7 +217,7 @@ apply_along known d i theorem args names certs rest given goal s u =
     let p = apply_parts known d i theorem args names (script_without_certs rest) given goal r in
     let after = applied_after i t theorem args names in
     let here = placed_step (Apply theorem args names certs rest) (Apply theorem args names certs rest) sc given goal in
-    let one = one_formed before here (first_of (is_formed before) here (placed_steps before rest rest (grown sc t.made) (with_facts given (gives_of_use t (written_args args) sc)) goal) s.formed).0 in
+    let one = one_formed before here (first_of (is_formed before) here (placed_steps before rest rest (with_sorts sc t.made) (with_facts given (gives_of_use t (written_args args) sc)) goal) s.formed).0 in
     let choice = (and_parts _ (is_choice t sc args (written_args args)) one.fitting).1 in
     let fit = (and_parts (fills args (written_args args)) (are_arguments t sc (written_args args)) choice).1 in
     let wanted = needs_of_use t (written_args args) sc in
@@ -297,7 +297,7 @@ claim_along known d i shown inner rest given goal s t u =
 
 pub copy_formed : (known : List TitledStatement) (d : TheoremParser) (i : Inside) (superposition : Superpose) (names : List (List ℕ)) (shown : List Lit) (certs : List Cert) (inner rest : Script) (given : List Lit) (goal : Goal)
     → Stood known d i (Superposed superposition names shown certs inner rest) given goal
-    → (list_all (is_formed (stated_by known)) (placed_steps (stated_by known) inner inner (grown (scope_of_names i.in_scope) superposing.sorts_copied) (with_facts given (superposing.gives_of_superposition superposition (scope_of_names i.in_scope))) (goal_of shown)) ≡ true)
+    → (list_all (is_formed (stated_by known)) (placed_steps (stated_by known) inner inner (with_sorts (scope_of_names i.in_scope) superposing.sorts_copied) (with_facts given (superposing.gives_of_superposition superposition (scope_of_names i.in_scope))) (goal_of shown)) ≡ true)
     × (list_all (is_formed (stated_by known)) (placed_steps (stated_by known) rest rest (scope_of_names i.in_scope) (with_facts given shown) goal) ≡ true)
     × (certs_formed (scope_of_names i.in_scope) (superposing.needs_of_superposition superposition) certs ≡ true)
 unfolding placed_steps
@@ -305,7 +305,7 @@ copy_formed known d i superposition names shown certs inner rest given goal s =
     let before = stated_by known in
     let sc = scope_of_names i.in_scope in
     let here = placed_step (Superposed superposition names shown certs inner rest) (Superposed superposition names shown certs inner rest) sc given goal in
-    let inside = placed_steps before inner inner (grown sc superposing.sorts_copied) (with_facts given (superposing.gives_of_superposition superposition sc)) (goal_of shown) in
+    let inside = placed_steps before inner inner (with_sorts sc superposing.sorts_copied) (with_facts given (superposing.gives_of_superposition superposition sc)) (goal_of shown) in
     let after = placed_steps before rest rest sc (with_facts given shown) goal in
     let a = first_of (is_formed before) here (inside ++ after) s.formed in
     let b = both_of (is_formed before) inside after a.1 in
@@ -318,7 +318,7 @@ unfolding script_without_certs NewNamesFit
 copy_inside known d i superposition names shown certs inner rest given goal s =
     let before = stated_by known in
     let sc = scope_of_names i.in_scope in
-    let scope : grown sc superposing.sorts_copied ≡ scope_of_names (named i.in_scope superposing.sorts_copied names) = named_scope i.in_scope superposing.sorts_copied names s.ready.new_names.1 in
+    let scope : with_sorts sc superposing.sorts_copied ≡ scope_of_names (named i.in_scope superposing.sorts_copied names) = named_scope i.in_scope superposing.sorts_copied names s.ready.new_names.1 in
     record {
       ready = copy_inner known d i superposition names shown (script_without_certs inner) (script_without_certs rest) given goal s.ready;
       goal_is = refl;

@@ -8,7 +8,7 @@ use Rattle.e_literal.specs.declared.object.Scope.{Scope}
 use Rattle.e_literal.specs.Literal.{all_in_scope, negation}
 use Rattle.e_literal.specs.Facts.{is_metric, has, others, with_fact, with_facts}
 use Rattle.e_literal.specs.Rows.{Row}
-use Rattle.e_literal.specs.Scopes.{grown}
+use Rattle.e_literal.specs.Scopes.{with_sorts}
 use Rattle.e_literal.specs.Use.{StatementView, scope_of, gives_of_use}
 use Rattle.e_literal.proofs.Booleans.{all_both}
 use Rattle.e_clause.specs.declared.cert.RowName.{RowName}
@@ -24,7 +24,7 @@ use Rattle.e_clause.specs.declared.cert.Against.TheVariants as against
 use Rattle.e_clause.specs.Instance.{Inst}
 use Rattle.e_clause.specs.RuleKinds.{is_transfer}
 use Rattle.e_clause.specs.Sum.{Place, is_limited_sum, refutes}
-use Rattle.e_clause.specs.MetricCertificate.{differing, both_refute, above_row, below_row, sums_refute, row_name_in, sum_in, are_sums_in}
+use Rattle.e_clause.specs.MetricCertificate.{differing_row, both_refute, above_row, below_row, sums_refute, row_name_in, sum_in, are_sums_in}
 use Rattle.e_clause.specs.PartCertificate.{part_certifies, part_in}
 use Rattle.e_clause.specs.TransferCertificate.{parts_certify, instance_certifies, transfer_certifies, are_args_in, transfer_in}
 use Rattle.e_clause.specs.Certify.{certifies, certify_all, against_holds, certifies_against}
@@ -52,7 +52,7 @@ sum_is : (s : Scope) (xs : List (ℤ × RowName)) → sum_in s xs ≡ true → i
 sum_is s xs w g h = and_from (is_limited_sum xs) (sum_in s xs && is_writable_sum xs) h (and_from (sum_in s xs) (is_writable_sum xs) w g)
 
 -- a row that says that its form is not 0 is the goal's or a fact's
-difference : (facts : List Lit) (wanted : Option Lit) (differs : RowName) (r : Row) → differing facts wanted differs ≡ Some r → names_difference differs ≡ true
+difference : (facts : List Lit) (wanted : Option Lit) (differs : RowName) (r : Row) → differing_row facts wanted differs ≡ Some r → names_difference differs ≡ true
 difference facts wanted (rownames.Fact l) r e = refl
 difference facts wanted rownames.Goal r e = refl
 difference facts wanted (rownames.Pos t) r e = absurd cc
@@ -70,7 +70,7 @@ sums_are s facts wanted (Two differs above below) w g h =
     let aa = and_parts (sum_in s above) (sum_in s below) a.1 in
     let b = and_parts (is_writable_name differs) (is_writable_sum above && is_writable_sum below) g in
     let bb = and_parts (is_writable_sum above) (is_writable_sum below) b.1 in
-    let r = found (λ (r : Row). both_refute facts wanted r above below) (differing facts wanted differs) h in
+    let r = found (λ (r : Row). both_refute facts wanted r above below) (differing_row facts wanted differs) h in
     let p : Place = record { facts = facts; wanted = wanted; above = Some (above_row r.0); below = None } in
     let q : Place = record { facts = facts; wanted = wanted; above = None; below = Some (below_row r.0) } in
     let c = and_parts (refutes p above) (refutes q below) r.2 in
@@ -171,19 +171,19 @@ formed_lines before (Hence lit (Some c) rest) s facts goal h w =
     then_lines before x after (line_is before x (one_certified before x p.0) (rw g.1 refl) refl) (formed_lines before rest s (with_fact facts lit) goal p.1 g.2)
 formed_lines before (Make construction names certs rest) s facts goal h w =
     let x = placed_step (Make construction names certs rest) (Make construction names certs rest) s facts goal in
-    let after = placed_steps before rest rest (grown s (sorts_made construction)) (with_facts facts (gives_of_construction construction s)) goal in
+    let after = placed_steps before rest rest (with_sorts s (sorts_made construction)) (with_facts facts (gives_of_construction construction s)) goal in
     let p = first_of (is_certified before) x after h in
     let g = make_written construction names certs rest w in
-    then_lines before x after (line_is before x (one_certified before x p.0) g.0 refl) (formed_lines before rest (grown s (sorts_made construction)) (with_facts facts (gives_of_construction construction s)) goal p.1 g.1)
+    then_lines before x after (line_is before x (one_certified before x p.0) g.0 refl) (formed_lines before rest (with_sorts s (sorts_made construction)) (with_facts facts (gives_of_construction construction s)) goal p.1 g.1)
 formed_lines before (Apply theorem args names certs rest) s facts goal h w =
     let x = placed_step (Apply theorem args names certs rest) (Apply theorem args names certs rest) s facts goal in
     let t = theorem_at before theorem in
     let more = with_facts facts (gives_of_use t (written args) s) in
-    let after = placed_steps before rest rest (grown s t.made) more goal in
+    let after = placed_steps before rest rest (with_sorts s t.made) more goal in
     let p = first_of (is_certified before) x after h in
     let g = apply_written theorem args names certs rest w in
     let one = one_certified before x p.0 in
-    then_lines before x after (line_is before x one g.0 one.beside) (formed_lines before rest (grown s t.made) more goal p.1 g.1)
+    then_lines before x after (line_is before x one g.0 one.beside) (formed_lines before rest (with_sorts s t.made) more goal p.1 g.1)
 formed_lines before (Claim shown inner rest) s facts goal h w =
     let x = placed_step (Claim shown inner rest) (Claim shown inner rest) s facts goal in
     let inside = placed_steps before inner inner s facts (goal_of shown) in
@@ -196,13 +196,13 @@ formed_lines before (Claim shown inner rest) s facts goal h w =
 formed_lines before (Superposed superposition names shown certs inner rest) s facts goal h w =
     let x = placed_step (Superposed superposition names shown certs inner rest) (Superposed superposition names shown certs inner rest) s facts goal in
     let given = with_facts facts (superposing.gives_of_superposition superposition s) in
-    let inside = placed_steps before inner inner (grown s superposing.sorts_copied) given (goal_of shown) in
+    let inside = placed_steps before inner inner (with_sorts s superposing.sorts_copied) given (goal_of shown) in
     let after = placed_steps before rest rest s (with_facts facts shown) goal in
     let p = first_of (is_certified before) x (inside ++ after) h in
     let q = both_of (is_certified before) inside after p.1 in
     let g = superposed_written superposition names shown certs inner rest w in
     then_lines before x (inside ++ after) (line_is before x (one_certified before x p.0) g.1 refl)
-    (all_both (is_formed before) inside after (formed_lines before inner (grown s superposing.sorts_copied) given (goal_of shown) q.0 g.2) (formed_lines before rest s (with_facts facts shown) goal q.1 g.3))
+    (all_both (is_formed before) inside after (formed_lines before inner (with_sorts s superposing.sorts_copied) given (goal_of shown) q.0 g.2) (formed_lines before rest s (with_facts facts shown) goal q.1 g.3))
 formed_lines before (Qed objects certs) s facts goal h w =
     let x = placed_step (Qed objects certs) (Qed objects certs) s facts goal in
     let p = first_of (is_certified before) x [] h in

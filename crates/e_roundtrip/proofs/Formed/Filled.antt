@@ -5,7 +5,7 @@ use Rattle.std.proofs.lemmas.Bool.{and_from}
 use Rattle.e_text.specs.Names.{is_name}
 use Rattle.e_literal.specs.declared.object.Obj.{Obj}
 use Rattle.e_literal.specs.declared.object.Scope.{Scope}
-use Rattle.e_literal.specs.Scopes.{grown}
+use Rattle.e_literal.specs.Scopes.{with_sorts}
 use Rattle.e_literal.specs.Use.{StatementView}
 use Rattle.e_construct.specs.Construct.{sorts_made, gives_of_construction}
 use Rattle.e_construct.specs.Superposing as superposing
@@ -63,10 +63,10 @@ filled_facts before n sc (Cite by rest) f = then_same (leb (n + 1) most_facts) _
 filled_facts before n sc (Hence lit cert rest) f = then_same (leb (n + 1) most_facts) _ _ (filled_facts before (n + 1) sc rest (rest_of f))
 filled_facts before n sc (Make construction names certs rest) f =
     let more = n + length (gives_of_construction construction sc) in
-    then_same (leb more most_facts) _ _ (filled_facts before more (grown sc (sorts_made construction)) rest (rest_of f))
+    then_same (leb more most_facts) _ _ (filled_facts before more (with_sorts sc (sorts_made construction)) rest (rest_of f))
 filled_facts before n sc (Apply theorem args names certs rest) f =
     let more = n + length (theorem_at before theorem).shown in
-    then_same (leb more most_facts) _ _ (filled_facts before more (grown sc (theorem_at before theorem).made) rest (rest_of f))
+    then_same (leb more most_facts) _ _ (filled_facts before more (with_sorts sc (theorem_at before theorem).made) rest (rest_of f))
 filled_facts before n sc (Claim shown inner rest) f =
     let more = n + length shown in
     both_same _ _ _ _ (filled_facts before n sc inner (inner_of f)) (then_same (leb more most_facts) _ _ (filled_facts before more sc rest (rest_of f)))
@@ -74,7 +74,7 @@ filled_facts before n sc (Superposed superposition names shown certs inner rest)
     let given = n + length (superposing.gives_of_superposition superposition sc) in
     let more = n + length shown in
     then_same (leb given most_facts) _ _
-    (both_same _ _ _ _ (filled_facts before given (grown sc superposing.sorts_copied) inner (inner_of f)) (then_same (leb more most_facts) _ _ (filled_facts before more sc rest (rest_of f))))
+    (both_same _ _ _ _ (filled_facts before given (with_sorts sc superposing.sorts_copied) inner (inner_of f)) (then_same (leb more most_facts) _ _ (filled_facts before more sc rest (rest_of f))))
 filled_facts before n sc (Qed objects certs) f = refl
 filled_facts before n sc (Contradiction against) f = refl
 filled_facts before n sc (Cases lit first second) f =
@@ -86,10 +86,10 @@ filled_terms before n sc (Cite by rest) f = filled_terms before n sc rest (rest_
 filled_terms before n sc (Hence lit cert rest) f =
     let more = n + monomials lit.atom in
     then_same (leb more most_terms) _ _ (filled_terms before more sc rest (rest_of f))
-filled_terms before n sc (Make construction names certs rest) f = filled_terms before n (grown sc (sorts_made construction)) rest (rest_of f)
+filled_terms before n sc (Make construction names certs rest) f = filled_terms before n (with_sorts sc (sorts_made construction)) rest (rest_of f)
 filled_terms before n sc (Apply theorem args names certs rest) f =
     let more = n + count_monomials (theorem_at before theorem).shown in
-    then_same (leb more most_terms) _ _ (filled_terms before more (grown sc (theorem_at before theorem).made) rest (rest_of f))
+    then_same (leb more most_terms) _ _ (filled_terms before more (with_sorts sc (theorem_at before theorem).made) rest (rest_of f))
 filled_terms before n sc (Claim shown inner rest) f =
     let more = n + count_monomials shown in
     both_same _ _ _ _ (filled_terms before n sc inner (inner_of f)) (then_same (leb more most_terms) _ _ (filled_terms before more sc rest (rest_of f)))
@@ -97,7 +97,7 @@ filled_terms before n sc (Superposed superposition names shown certs inner rest)
     let given = n + count_monomials (superposing.gives_of_superposition superposition sc) in
     let more = n + count_monomials shown in
     then_same (leb given most_terms) _ _
-    (both_same _ _ _ _ (filled_terms before given (grown sc superposing.sorts_copied) inner (inner_of f)) (then_same (leb more most_terms) _ _ (filled_terms before more sc rest (rest_of f))))
+    (both_same _ _ _ _ (filled_terms before given (with_sorts sc superposing.sorts_copied) inner (inner_of f)) (then_same (leb more most_terms) _ _ (filled_terms before more sc rest (rest_of f))))
 filled_terms before n sc (Qed objects certs) f = refl
 filled_terms before n sc (Contradiction against) f = refl
 filled_terms before n sc (Cases lit first second) f =

@@ -8,7 +8,7 @@ use Rattle.e_literal.specs.declared.object.Scope.{Scope}
 use Rattle.e_literal.specs.declared.literal.Lit.{Lit}
 use Rattle.e_literal.specs.Literal.{negation, is_in_scope}
 use Rattle.e_literal.specs.Facts.{with_fact, with_facts}
-use Rattle.e_literal.specs.Scopes.{grown, same_sort, are_of_sorts}
+use Rattle.e_literal.specs.Scopes.{with_sorts, same_sort, are_of_sorts}
 use Rattle.e_literal.specs.Use.{StatementView, are_arguments, gives_of_use}
 use Rattle.e_literal.proofs.Booleans.{all_both}
 use Rattle.e_construct.specs.Construct.{sorts_made, gives_of_construction}
@@ -62,16 +62,16 @@ forms_of_certified before (Hence lit cert rest) f s facts others goal h =
 forms_of_certified before (Make construction names certs rest) f s facts others goal h =
     let x = placed_step (Make construction names certs rest) (Make construction names certs rest) s facts goal in
     let g = gives_of_construction construction s in
-    let p = first_of (is_certified before) x (placed_steps before rest rest (grown s (sorts_made construction)) (with_facts facts g) goal) h in
-    and_from _ _ (one_certified before x p.0).fitting (forms_of_certified before rest (rest_of f) (grown s (sorts_made construction)) (with_facts facts g) (with_facts others g) goal p.1)
+    let p = first_of (is_certified before) x (placed_steps before rest rest (with_sorts s (sorts_made construction)) (with_facts facts g) goal) h in
+    and_from _ _ (one_certified before x p.0).fitting (forms_of_certified before rest (rest_of f) (with_sorts s (sorts_made construction)) (with_facts facts g) (with_facts others g) goal p.1)
 forms_of_certified before (Apply theorem args names certs rest) f s facts others goal h =
     let x = placed_step (Apply theorem args names certs rest) (Apply theorem args names certs rest) s facts goal in
     let t = theorem_at before theorem in
     let after = with_facts facts (gives_of_use t (written args) s) in
-    let p = first_of (is_certified before) x (placed_steps before rest rest (grown s t.made) after goal) h in
+    let p = first_of (is_certified before) x (placed_steps before rest rest (with_sorts s t.made) after goal) h in
     let one = one_certified before x p.0 in
     and_from _ _ (applied_form before theorem s args one.fitting one.beside)
-    (forms_of_certified before rest (rest_of f) (grown s t.made) after (with_facts others (gives_of_use t (args_of f) s)) goal p.1)
+    (forms_of_certified before rest (rest_of f) (with_sorts s t.made) after (with_facts others (gives_of_use t (args_of f) s)) goal p.1)
 forms_of_certified before (Claim shown inner rest) f s facts others goal h =
     let x = placed_step (Claim shown inner rest) (Claim shown inner rest) s facts goal in
     let inside = placed_steps before inner inner s facts (goal_of shown) in
@@ -84,7 +84,7 @@ forms_of_certified before (Claim shown inner rest) f s facts others goal h =
     (forms_of_certified before rest (rest_of f) s (with_facts facts shown) (with_facts others shown) goal q.1))
 forms_of_certified before (Superposed superposition names shown certs inner rest) f s facts others goal h =
     let x = placed_step (Superposed superposition names shown certs inner rest) (Superposed superposition names shown certs inner rest) s facts goal in
-    let within = grown s superposing.sorts_copied in
+    let within = with_sorts s superposing.sorts_copied in
     let g = superposing.gives_of_superposition superposition s in
     let inside = placed_steps before inner inner within (with_facts facts g) (goal_of shown) in
     let later = placed_steps before rest rest s (with_facts facts shown) goal in

@@ -8,7 +8,7 @@ use Rattle.e_literal.specs.declared.literal.Lit.{Lit}
 use Rattle.e_literal.specs.Literal.{negation, all_in_scope}
 use Rattle.e_literal.specs.Rename.{same_obj}
 use Rattle.e_literal.specs.Facts.{with_fact, with_facts}
-use Rattle.e_literal.specs.Scopes.{grown}
+use Rattle.e_literal.specs.Scopes.{with_sorts}
 use Rattle.e_literal.specs.Use.{StatementView, Used, are_arguments, needs_of_use, gives_of_use, use_of}
 use Rattle.e_literal.proofs.Booleans.{all_both}
 use Rattle.e_literal.proofs.Sorts.{same_obj_self}
@@ -91,7 +91,7 @@ made_formed known ns goal construction names cs x m h facts =
     let more = with_facts facts (gives_of_construction construction s) in
     let l = placed_step (Make construction names cs x) (Make construction names cs x) s facts goal in
     let after = subst (λ (z : Scope). list_all (is_formed before) (placed_steps before x x z more goal) ≡ true) (sym (named_scope ns (sorts_made construction) names m.count)) (h more) in
-    then_lines before l (placed_steps before x x (grown s (sorts_made construction)) more goal) (one_formed before l m.fits m.certs refl) after
+    then_lines before l (placed_steps before x x (with_sorts s (sorts_made construction)) more goal) (one_formed before l m.fits m.certs refl) after
 
 -- a use of an earlier theorem, with its certificates: it fits without blanks, and has one new name for each made object
 pub record UseFormed (known : List TitledStatement) (ns : Names) (theorem : ℕ) (args : List (Option Obj)) (names : List (List ℕ)) (cs : List Cert) : Type 0 where
@@ -110,7 +110,7 @@ applied_formed known ns goal theorem args names cs x u h facts =
     let more = with_facts facts (gives_of_use t (written args) s) in
     let l = placed_step (Apply theorem args names cs x) (Apply theorem args names cs x) s facts goal in
     let after = subst (λ (z : Scope). list_all (is_formed before) (placed_steps before x x z more goal) ≡ true) (sym (named_scope ns t.made names u.count)) (h more) in
-    then_lines before l (placed_steps before x x (grown s t.made) more goal) (one_formed before l u.fits u.certs u.full) after
+    then_lines before l (placed_steps before x x (with_sorts s t.made) more goal) (one_formed before l u.fits u.certs u.full) after
 
 pub claimed_formed : (known : List TitledStatement) (ns : Names) (goal : Goal) (shown : List Lit) (inner x : Script) → are_over (scope_of_names ns) shown ≡ true → FormedHere known ns (goal_of shown) inner → FormedHere known ns goal x
     → FormedHere known ns goal (Claim shown inner x)
@@ -138,7 +138,7 @@ copied_formed known ns goal superposition names shown cs inner x c i h facts =
     let s = scope_of_names ns in
     let given = with_facts facts (superposing.gives_of_superposition superposition s) in
     let l = placed_step (Superposed superposition names shown cs inner x) (Superposed superposition names shown cs inner x) s facts goal in
-    let inside = placed_steps before inner inner (grown s superposing.sorts_copied) given (goal_of shown) in
+    let inside = placed_steps before inner inner (with_sorts s superposing.sorts_copied) given (goal_of shown) in
     let after = placed_steps before x x s (with_facts facts shown) goal in
     let within = subst (λ (z : Scope). list_all (is_formed before) (placed_steps before inner inner z given (goal_of shown)) ≡ true) (sym (named_scope ns superposing.sorts_copied names c.count)) (i given) in
     then_lines before l (inside ++ after) (one_formed before l (and_from (superposing.fits_superposition superposition s) (are_over s shown) c.fits c.over) c.certs refl)

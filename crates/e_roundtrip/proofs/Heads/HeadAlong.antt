@@ -23,7 +23,7 @@ use Rattle.e_book.specs.Steps.{terms_after_raw, with_terms, line_may_come, with_
 use Rattle.e_book.specs.Book.{is_done}
 use Rattle.e_line.specs.Canonical.{line_of}
 use Rattle.e_names.specs.Canonical.{name_of_object, given_raw_line, show_raw_line}
-use Rattle.e_book.specs.Canonical.{Group, group, grouped_before, grouped, declare_raw_line, made_raw_line, declared_objects, made_objects, given_raw_lines, shown_raw_lines}
+use Rattle.e_book.specs.Canonical.{Group, group, grouped_before, sort_groups, declare_raw_line, made_raw_line, declared_objects, made_objects, given_raw_lines, shown_raw_lines}
 use Rattle.e_line.proofs.read_again.Respelled.{GoodForm, as_read}
 use Rattle.e_book.proofs.canonical.Declared.{Runs}
 use Rattle.e_line.proofs.base.Bound.{bind_ok, ok_is}
@@ -171,9 +171,9 @@ differ_before : (sort : Sort) (name : List ℕ) (gs : List Group) → Differ gs 
 differ_before sort name [] h = (tt, tt, tt)
 differ_before sort name (g ∷ gs) h = differ_by (same_sort sort g.sort) sort name g gs refl h
 
-groups_differ : (ns : Names) (os : List Obj) → Differ (grouped ns os)
+groups_differ : (ns : Names) (os : List Obj) → Differ (sort_groups ns os)
 groups_differ ns [] = tt
-groups_differ ns (o ∷ os) = differ_before o.sort (name_of_object ns o) (grouped ns os) (groups_differ ns os)
+groups_differ ns (o ∷ os) = differ_before o.sort (name_of_object ns o) (sort_groups ns os) (groups_differ ns os)
 
 -- ---- the last sort
 
@@ -223,7 +223,7 @@ first_fresh (g ∷ gs) = refl
 
 shown_part : (ds : List Sort) (ns : Names) (t : Statement) → Heads ds [] (shown_raw_lines ns t ++ rawlines.Proof ∷ [])
 shown_part ds ns t =
-    let gs = grouped ns (made_objects t) in
+    let gs = sort_groups ns (made_objects t) in
     let shown = map (show_raw_line ns) t.shown in
     subst (λ (fs : List RawLine). Heads ds [] fs) (sym (append_assoc (map made_raw_line gs) shown (rawlines.Proof ∷ [])))
     (made_heads ds [] gs (shown ++ rawlines.Proof ∷ []) (first_fresh gs) (groups_differ ns (made_objects t)) (λ ms. shown_heads ds ms ns t.shown (rawlines.Proof ∷ []) tt))
@@ -231,7 +231,7 @@ shown_part ds ns t =
 -- all lines of a statement after its title
 pub statement_heads : (ns : Names) (t : Statement) → Heads [] [] (given_raw_lines ns t ++ (shown_raw_lines ns t ++ rawlines.Proof ∷ []))
 statement_heads ns t =
-    let gs = grouped ns (declared_objects t) in
+    let gs = sort_groups ns (declared_objects t) in
     let given = map (given_raw_line ns) t.given in
     let more = shown_raw_lines ns t ++ rawlines.Proof ∷ [] in
     subst (λ (fs : List RawLine). Heads [] [] fs) (sym (append_assoc (map declare_raw_line gs) given more))

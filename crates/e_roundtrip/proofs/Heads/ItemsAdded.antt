@@ -4,7 +4,7 @@ use Rattle.std.proofs.lemmas.Bool.{leb-true}
 use Rattle.e_literal.specs.declared.object.Obj.{Obj}
 use Rattle.e_literal.specs.declared.literal.Lit.{Lit}
 use Rattle.e_theorem.specs.declared.notion.Notion.{Notion}
-use Rattle.e_theorem.specs.Notions.{expanded}
+use Rattle.e_theorem.specs.Notions.{literals_of_notion}
 use Rattle.e_deriv.specs.declared.names.Names.{Names}
 use Rattle.e_line.specs.declared.fault.FaultKind.{FaultKind}
 use Rattle.e_line.specs.declared.fault.What.{What}
@@ -31,24 +31,24 @@ use Rattle.e_names.proofs.read_lines.ItemsWritten.{meant, meant_good, within, we
 use Rattle.e_names.proofs.resolution.Lookups.{InOrder, in_order}
 use Rattle.e_book.specs.Open.{Head, Open, Stating}
 use Rattle.e_book.specs.Counts.{all_kept, limits_kept}
-use Rattle.e_book.specs.Definitions.{PartialItem, InTheorem, written_out, plain_line, counted}
+use Rattle.e_book.specs.Definitions.{PartialItem, InTheorem, written_out, plain_line, with_more_literals}
 use Rattle.e_book.specs.Grammar.{next, line_after, states, at_its_place, none_made}
 use Rattle.e_roundtrip.specs.Laws.{with_listed, ItemsAddWhatTheyMean}
 
 -- ---- what the item means
 
 meant_as : (notions : List Titled) (ns : Names) (most : ℕ) (raw : RawAs) (notion : Notion) (args : List Obj) (ls : List Lit) → notion_of notions raw.title ≡ Some notion → objects_of_sorts ns notion.declared raw.args ≡ Ok args
-    → meant_in notions ns most raw ≡ Ok ls → ls ≡ take most (expanded notion args (scope_of_names ns))
+    → meant_in notions ns most raw ≡ Ok ls → ls ≡ take most (literals_of_notion notion args (scope_of_names ns))
 unfolding meant_in
 meant_as notions ns most raw notion args ls there read e =
-    let then : Notion → List Obj → Result (List Lit) FaultKind = λ n args. read_ok (take most (expanded n args (scope_of_names ns))) in
+    let then : Notion → List Obj → Result (List Lit) FaultKind = λ n args. read_ok (take most (literals_of_notion n args (scope_of_names ns))) in
     let n = bind_ok (known_notion (notion_of notions raw.title)) (λ n. right_count (eqb (length raw.args) (length n.declared)) >>= λ right. objects_of_sorts ns n.declared raw.args >>= λ args. then n args) ls e in
     let r = bind_ok (right_count (eqb (length raw.args) (length n.0.declared))) (λ right. objects_of_sorts ns n.0.declared raw.args >>= λ args. then n.0 args) ls n.2 in
     let a = bind_ok (objects_of_sorts ns n.0.declared raw.args) (λ args. then n.0 args) ls r.2 in
     let same : notion ≡ n.0 = ok_is notion n.0 (sym (ap known_notion there) ∙ n.1) in
     let so : args ≡ a.0 = ok_is args a.0 (sym read ∙ ap (λ (m : Notion). objects_of_sorts ns m.declared raw.args) same ∙ a.1) in
-    sym (ok_is (take most (expanded n.0 a.0 (scope_of_names ns))) ls a.2) ∙ ap (λ (os : List Obj). take most (expanded n.0 os (scope_of_names ns))) (sym so)
-    ∙ ap (λ (m : Notion). take most (expanded m args (scope_of_names ns))) (sym same)
+    sym (ok_is (take most (literals_of_notion n.0 a.0 (scope_of_names ns))) ls a.2) ∙ ap (λ (os : List Obj). take most (literals_of_notion n.0 os (scope_of_names ns))) (sym so)
+    ∙ ap (λ (m : Notion). take most (literals_of_notion m args (scope_of_names ns))) (sym same)
 
 -- a front that is shorter than it may be is the whole
 uncut : {X : Type 0} (m : ℕ) (xs : List X) → length (take m xs) < m → take m xs ≡ xs
@@ -93,21 +93,21 @@ record IsCounted (o : Open) (n : ℕ) (c : PartialItem) : Type 0 where
   is : InTheorem o n ≡ c
   few : n ≤ most_expanded
 
-counted_is : (k : ℕ) (o : Open) (n : ℕ) (c : PartialItem) → counted k (InTheorem o n) ≡ Ok c → IsCounted o (n + k) c
+counted_is : (k : ℕ) (o : Open) (n : ℕ) (c : PartialItem) → with_more_literals k (InTheorem o n) ≡ Ok c → IsCounted o (n + k) c
 counted_is k o n c e =
     let a = bind_ok (all_kept ((leb (n + k) most_expanded, limits.Expanded) ∷ [])) (λ kept. read_ok (InTheorem o (n + k))) c e in
     record { is = ok_is (InTheorem o (n + k)) c a.2; few = leb-true (n + k) most_expanded (kept_true (leb (n + k) most_expanded) limits.Expanded a.0 a.1) }
 
 -- the line is taken: then the literals are there
 taken_is : (known : Known) (h : Head) (n k : ℕ) (line : Listing) (raws : List RawLit) (ls : List Lit) (c : PartialItem) → lits_in h.names raws ≡ Ok ls
-    → (plain_line known (InTheorem (Stating h) n) (listing_raw_line line raws) >>= λ c. counted k c) ≡ Ok c → IsCounted (Stating (with_listed line ls h)) (n + k) c
+    → (plain_line known (InTheorem (Stating h) n) (listing_raw_line line raws) >>= λ c. with_more_literals k c) ≡ Ok c → IsCounted (Stating (with_listed line ls h)) (n + k) c
 taken_is known h n k line raws ls c read e =
     let f = listing_raw_line line raws in
-    let p = bind_ok (plain_line known (InTheorem (Stating h) n) f) (λ c. counted k c) c e in
+    let p = bind_ok (plain_line known (InTheorem (Stating h) n) f) (λ c. with_more_literals k c) c e in
     let m = bind_ok (line_after known.theorems (Some (Stating h)) f) (λ m. read_ok (InTheorem m n)) p.0 p.1 in
     let o : Stating (with_listed line ls h) ≡ m.0 = listed_is h line raws ls m.0 read (line_is known.theorems (Stating h) m.0 f m.1) in
     let at : InTheorem (Stating (with_listed line ls h)) n ≡ p.0 = ap (λ (x : Open). InTheorem x n) o ∙ ok_is (InTheorem m.0 n) p.0 m.2 in
-    counted_is k (Stating (with_listed line ls h)) n c (ap (counted k) at ∙ p.2)
+    counted_is k (Stating (with_listed line ls h)) n c (ap (with_more_literals k) at ∙ p.2)
 
 -- ---- the whole
 
@@ -138,11 +138,11 @@ one_item notions ns raw p e =
 -- the line with these literals written out is taken
 added : (known : Known) (h : Head) (n : ℕ) (line : Listing) (raw : RawAs) (notion : Notion) (args : List Obj) (c : PartialItem) (ls : List Lit) → InOrder h.names → are_notions known.notions ≡ true → notion_of known.notions raw.title ≡ Some notion
     → objects_of_sorts h.names notion.declared raw.args ≡ Ok args → meant_in known.notions h.names (most_expanded + 1 - 0) raw ≡ Ok ls
-    → (plain_line known (InTheorem (Stating h) n) (listing_raw_line line (map (raw_of h.names) ls)) >>= λ d. counted (0 + length ls) d) ≡ Ok c →
-    let given = expanded notion args (scope_of_names h.names) in c ≡ InTheorem (Stating (with_listed line given h)) (n + length given)
+    → (plain_line known (InTheorem (Stating h) n) (listing_raw_line line (map (raw_of h.names) ls)) >>= λ d. with_more_literals (0 + length ls) d) ≡ Ok c →
+    let given = literals_of_notion notion args (scope_of_names h.names) in c ≡ InTheorem (Stating (with_listed line given h)) (n + length given)
 added known h n line raw notion args c ls order all there read m e =
     let most = most_expanded + 1 - 0 in
-    let given = expanded notion args (scope_of_names h.names) in
+    let given = literals_of_notion notion args (scope_of_names h.names) in
     let good = meant_good known.notions h.names most raw ls (meant known.notions h.names most raw ls all m) in
     let plain : Plain h.names ls = record { within = within (scope_of_names h.names) ls good; good = well_formed (scope_of_names h.names) ls good } in
     let taken = taken_is known h n (0 + length ls) line (map (raw_of h.names) ls) ls c (lits_number_again h.names ls order plain) e in
@@ -154,10 +154,10 @@ added known h n line raw notion args c ls order all there read m e =
 pub items_add : ItemsAddWhatTheyMean
 items_add known h n line raw notion args c hp hl hc d all there read e =
     let ns = h.names in
-    let written = bind_ok (written_out known (Stating h) line (As raw ∷ [])) (λ w. plain_line known (InTheorem (Stating h) n) w.0 >>= λ c. counted w.1 c) c e in
+    let written = bind_ok (written_out known (Stating h) line (As raw ∷ [])) (λ w. plain_line known (InTheorem (Stating h) n) w.0 >>= λ c. with_more_literals w.1 c) c e in
     let may = bind_ok (next known.theorems (Stating h) (listing_raw_line line [])) (λ there. items_in known.notions ns 0 (As raw ∷ []) >>= λ p. read_ok (out ns line p)) written.0 written.1 in
     let its = bind_ok (items_in known.notions ns 0 (As raw ∷ [])) (λ p. read_ok (out ns line p)) written.0 may.2 in
     let one = one_item known.notions ns raw its.0 its.1 in
     let is : out ns line (pair one.lits (0 + length one.lits)) ≡ written.0 = ap (out ns line) one.is ∙ ok_is (out ns line its.0) written.0 its.2 in
     added known h n line raw notion args c one.lits (in_order ns hp hl hc d) all there read one.meant
-    (subst (λ (w : RawLine × ℕ). (plain_line known (InTheorem (Stating h) n) w.0 >>= λ c. counted w.1 c) ≡ Ok c) (sym is) written.2)
+    (subst (λ (w : RawLine × ℕ). (plain_line known (InTheorem (Stating h) n) w.0 >>= λ c. with_more_literals w.1 c) ≡ Ok c) (sym is) written.2)

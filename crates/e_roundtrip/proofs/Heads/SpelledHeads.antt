@@ -6,7 +6,7 @@ use Rattle.e_literal.specs.declared.object.Sort.{Sort}
 use Rattle.e_literal.specs.declared.literal.Lit.{Lit}
 use Rattle.e_literal.specs.Literal.{count_of}
 use Rattle.e_literal.specs.declared.object.Scope.{Scope}
-use Rattle.e_literal.specs.Scopes.{nothing, grown, next_objects}
+use Rattle.e_literal.specs.Scopes.{nothing, with_sorts, next_objects}
 use Rattle.e_literal.proofs.GrownScopes.{grown-append}
 use Rattle.e_deriv.specs.declared.names.Names.{Names}
 use Rattle.e_deriv.specs.Naming.{names_of_sort, with_names}
@@ -14,7 +14,7 @@ use Rattle.e_line.specs.declared.raw_line.RawLine.{RawLine}
 use Rattle.e_line.specs.declared.raw_line.RawLine.TheVariants as rawlines
 use Rattle.e_names.specs.Scope.{scope_of_names}
 use Rattle.e_names.specs.Canonical.{given_raw_line, show_raw_line}
-use Rattle.e_book.specs.Canonical.{group, grouped, declare_raw_line, made_raw_line}
+use Rattle.e_book.specs.Canonical.{group, sort_groups, declare_raw_line, made_raw_line}
 use Rattle.e_read.specs.Owing.{ends_with}
 use Rattle.e_roundtrip.proofs.OneLine.NamesSpelled.{Keeps}
 use Rattle.e_roundtrip.proofs.OneLine.Groups.{more_groups, count_is, scope_more, keeps_before, keeps_new}
@@ -22,13 +22,13 @@ use Rattle.e_roundtrip.proofs.OneLine.Groups.{more_groups, count_is, scope_more,
 -- ---- the forms of a head
 
 abbrev declared_part : Names → List Sort → List RawLine
-declared_part ns declared = map declare_raw_line (grouped ns (next_objects nothing declared))
+declared_part ns declared = map declare_raw_line (sort_groups ns (next_objects nothing declared))
 
 abbrev given_part : Names → List Lit → List RawLine
 given_part ns ls = map (given_raw_line ns) ls
 
 abbrev made_part : Names → List Sort → List Sort → List RawLine
-made_part ns declared made = map made_raw_line (grouped ns (next_objects (grown nothing declared) made))
+made_part ns declared made = map made_raw_line (sort_groups ns (next_objects (with_sorts nothing declared) made))
 
 abbrev shown_part : Names → List Lit → List RawLine
 shown_part ns ls = map (show_raw_line ns) ls
@@ -40,7 +40,7 @@ head_parts ns title declared given made shown =
 
 -- the lines that came are those of the head so far, whatever names are added
 pub record HeadSaid (ns : Names) (title : List ℕ) (declared : List Sort) (given : List Lit) (made : List Sort) (shown : List Lit) (said : List RawLine) : Type 0 where
-  pub scope : scope_of_names ns ≡ grown (grown nothing declared) made
+  pub scope : scope_of_names ns ≡ with_sorts (with_sorts nothing declared) made
   pub forms : (more : Names) → Keeps ns more → head_parts more title declared given made shown ≡ said
 
 -- ---- one more line
@@ -87,14 +87,14 @@ pub declared_said : (ns : Names) (title : List ℕ) (declared : List Sort) (give
 declared_said ns title declared given made shown said sort new g m s h lt a =
     let xs = replicate (length new) sort in
     let now = with_names ns sort (names_of_sort ns sort ++ new) in
-    let scope : scope_of_names ns ≡ grown nothing declared = a.scope ∙ ap (grown (grown nothing declared)) m in
+    let scope : scope_of_names ns ≡ with_sorts nothing declared = a.scope ∙ ap (with_sorts (with_sorts nothing declared)) m in
     let line : (more : Names) → Keeps now more → head_parts more title (declared ++ xs) given made shown ≡ said ++ rawlines.Declare sort new ∷ [] = λ more k.
     let part : declared_part more (declared ++ xs) ≡ declared_part more declared ++ rawlines.Declare sort new ∷ [] =
-    ap (map declare_raw_line) (more_groups more nothing declared sort (names_of_sort ns sort) new h lt (count_said ns (grown nothing declared) sort scope) (keeps_new ns more sort new k)) ∙ map-append declare_raw_line (grouped more (next_objects nothing declared)) (group sort new ∷ []) in
+    ap (map declare_raw_line) (more_groups more nothing declared sort (names_of_sort ns sort) new h lt (count_said ns (with_sorts nothing declared) sort scope) (keeps_new ns more sort new k)) ∙ map-append declare_raw_line (sort_groups more (next_objects nothing declared)) (group sort new ∷ []) in
     bare_head more title (declared ++ xs) given made shown g m s ∙ ap (λ (l : List RawLine). rawlines.Theorem title ∷ ((l ++ []) ++ [])) part ∙ at_declared (rawlines.Theorem title) (rawlines.Declare sort new) (declared_part more declared)
     ∙ ap (λ (l : List RawLine). l ++ rawlines.Declare sort new ∷ []) (sym (bare_head more title declared given made shown g m s) ∙ a.forms more (keeps_before ns more sort new k)) in
     record {
-      scope = scope_more ns sort new ∙ ap (λ (x : Scope). grown x xs) scope ∙ sym (grown-append nothing declared xs) ∙ ap (grown (grown nothing (declared ++ xs))) (sym m);
+      scope = scope_more ns sort new ∙ ap (λ (x : Scope). with_sorts x xs) scope ∙ sym (grown-append nothing declared xs) ∙ ap (with_sorts (with_sorts nothing (declared ++ xs))) (sym m);
       forms = line;
     }
 
@@ -117,16 +117,16 @@ pub made_said : (ns : Names) (title : List ℕ) (declared : List Sort) (given : 
     → HeadSaid (with_names ns sort (names_of_sort ns sort ++ new)) title declared given (made ++ replicate (length new) sort) shown (said ++ rawlines.Made sort new ∷ [])
 made_said ns title declared given made shown said sort new s h lt a =
     let xs = replicate (length new) sort in
-    let from = grown nothing declared in
+    let from = with_sorts nothing declared in
     let now = with_names ns sort (names_of_sort ns sort ++ new) in
     let line : (more : Names) → Keeps now more → head_parts more title declared given (made ++ xs) shown ≡ said ++ rawlines.Made sort new ∷ [] = λ more k.
     let front = declared_part more declared ++ given_part more given in
     let part : made_part more declared (made ++ xs) ≡ made_part more declared made ++ rawlines.Made sort new ∷ [] =
-    ap (map made_raw_line) (more_groups more from made sort (names_of_sort ns sort) new h lt (count_said ns (grown from made) sort a.scope) (keeps_new ns more sort new k)) ∙ map-append made_raw_line (grouped more (next_objects from made)) (group sort new ∷ []) in
+    ap (map made_raw_line) (more_groups more from made sort (names_of_sort ns sort) new h lt (count_said ns (with_sorts from made) sort a.scope) (keeps_new ns more sort new k)) ∙ map-append made_raw_line (sort_groups more (next_objects from made)) (group sort new ∷ []) in
     none_shown more title declared given (made ++ xs) shown s ∙ ap (λ (l : List RawLine). rawlines.Theorem title ∷ (front ++ (l ++ []))) part ∙ at_made (rawlines.Theorem title) (rawlines.Made sort new) front (made_part more declared made)
     ∙ ap (λ (l : List RawLine). l ++ rawlines.Made sort new ∷ []) (sym (none_shown more title declared given made shown s) ∙ a.forms more (keeps_before ns more sort new k)) in
     record {
-      scope = scope_more ns sort new ∙ ap (λ (x : Scope). grown x xs) a.scope ∙ sym (grown-append from made xs);
+      scope = scope_more ns sort new ∙ ap (λ (x : Scope). with_sorts x xs) a.scope ∙ sym (grown-append from made xs);
       forms = line;
     }
 

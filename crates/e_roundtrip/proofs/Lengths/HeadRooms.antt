@@ -22,7 +22,7 @@ use Rattle.e_names.specs.TitledStatements.{TitledStatement}
 use Rattle.e_book.specs.TheoremViews.{TheoremView}
 use Rattle.e_line.specs.Canonical.{lit_words, sort_word, line_of}
 use Rattle.e_names.specs.Canonical.{raw_of, name_of_object, given_raw_line, show_raw_line}
-use Rattle.e_book.specs.Canonical.{Group, group, grouped_before, grouped, declare_raw_line, made_raw_line, declared_objects, made_objects, given_raw_lines, shown_raw_lines, head_raw_lines}
+use Rattle.e_book.specs.Canonical.{Group, group, grouped_before, sort_groups, declare_raw_line, made_raw_line, declared_objects, made_objects, given_raw_lines, shown_raw_lines, head_raw_lines}
 use Rattle.e_book.specs.HasSpelling.{HasSpelling}
 use Rattle.e_names.proofs.resolution.Lookups.{InOrder, in_order}
 use Rattle.e_roundtrip.proofs.Lengths.Rooms.{is_short, short_title, Room, room_none, room_word, room_append, room_line, IsShortLine}
@@ -75,9 +75,9 @@ put n sort name [] e h = (record { words = (e, tt); few = omega arith }, tt)
 put n sort name (g ∷ gs) e h = put_by (same_sort sort g.sort) n sort name g gs e h
 
 -- the groups of objects
-groups_of : (ns : Names) (os : List Obj) → InOrder ns → AreGroups (length os) (grouped ns os)
+groups_of : (ns : Names) (os : List Obj) → InOrder ns → AreGroups (length os) (sort_groups ns os)
 groups_of ns [] o = tt
-groups_of ns (x ∷ os) o = put (length os) x.sort (name_of_object ns x) (grouped ns os) (short_object ns x o) (groups_of ns os o)
+groups_of ns (x ∷ os) o = put (length os) x.sort (name_of_object ns x) (sort_groups ns os) (short_object ns x o) (groups_of ns os o)
 
 -- the word of a sort
 short_sort : (s : Sort) → is_short 16 (sort_word s) ≡ true
@@ -148,10 +148,10 @@ short_head known t h =
     let declared = declared_objects st in
     let made = made_objects st in
     let proof : List RawLine = rawlines.Proof ∷ [] in
-    let given = forms_append (map declare_raw_line (grouped ns declared)) (map (given_raw_line ns) st.given)
-    (all_declare (length declared) (grouped ns declared) (omega (arith, few, length_next nothing st.declared)) (groups_of ns declared o)) (all_given ns st.given o h.fits.good_given) in
-    let shown = forms_append (map made_raw_line (grouped ns made)) (map (show_raw_line ns) st.shown)
-    (all_made (length made) (grouped ns made) (omega (arith, few, length_next (scope_of (stated st)) st.made)) (groups_of ns made o)) (all_shown ns st.shown o h.fits.good_shown) in
+    let given = forms_append (map declare_raw_line (sort_groups ns declared)) (map (given_raw_line ns) st.given)
+    (all_declare (length declared) (sort_groups ns declared) (omega (arith, few, length_next nothing st.declared)) (groups_of ns declared o)) (all_given ns st.given o h.fits.good_given) in
+    let shown = forms_append (map made_raw_line (sort_groups ns made)) (map (show_raw_line ns) st.shown)
+    (all_made (length made) (sort_groups ns made) (omega (arith, few, length_next (scope_of (stated st)) st.made)) (groups_of ns made o)) (all_shown ns st.shown o h.fits.good_shown) in
     let last : AreShortForms proof = (room_line 6 _ (omega arith) (room_word 5 0 (codes "proof") [] refl room_none), tt) in (
       room_line 33 _ (omega arith) (room_word 7 25 (codes "theorem") _ refl (room_word 24 0 t.title [] (short_title t.title h.title) room_none)),
       forms_append (given_raw_lines ns st) (shown_raw_lines ns st ++ proof) given (forms_append (shown_raw_lines ns st) proof shown last),

@@ -24,7 +24,7 @@ use Rattle.e_deriv.specs.declared.names.Names.{Names}
 use Rattle.e_line.specs.Limits.{most_facts, most_terms, count_monomials}
 use Rattle.e_line.specs.Superposes.{superpose_pieces}
 use Rattle.e_names.specs.TitledStatements.{TitledStatement, title_at}
-use Rattle.e_line.specs.Canonical.{filled, avoid_words, argument_word, made_words, lit_words, lits_words, line_of}
+use Rattle.e_line.specs.Canonical.{filled_pieces, avoid_words, argument_word, made_words, lit_words, lits_words, line_of}
 use Rattle.e_names.specs.Canonical.{argument_name, name_at, name_of_object, raw_of, rule_name, placed_names, by_raw_line, hence_raw_line, let_raw_line, apply_raw_line, claim_raw_line, superpose_raw_line, qed_raw_line, contradiction_raw_line, cases_raw_line, else_raw_line, end_raw_line}
 use Rattle.e_line.specs.HasSpelling.{AreNames}
 use Rattle.e_names.proofs.resolution.Lookups.{InOrder}
@@ -92,15 +92,15 @@ no_word : (p : Piece) (ps : List Piece) (ws : List (List ℕ)) → Room (17 * le
 no_word p ps ws r = room_more (17 * length ps) (17 * length (p ∷ ps)) ws (omega arith) r
 
 -- at most one word for each piece
-room_filled : (ps : List Piece) (new args : List (List ℕ)) → list_all is_short_piece ps ≡ true → AllWords new → AllWords args → Room (17 * length ps) (filled ps new args)
+room_filled : (ps : List Piece) (new args : List (List ℕ)) → list_all is_short_piece ps ≡ true → AllWords new → AllWords args → Room (17 * length ps) (filled_pieces ps new args)
 room_filled [] new args h n a = room_none
 room_filled (Word w ∷ ps) new args h n a =
     let p = and_parts (is_short 16 w) (list_all is_short_piece ps) h in
-    piece_word (Word w) ps w (filled ps new args) p.0 (room_filled ps new args p.1 n a)
-room_filled (New ∷ ps) (w ∷ new) args h n a = piece_word New ps w (filled ps new args) n.0 (room_filled ps new args h n.1 a)
-room_filled (New ∷ ps) [] args h n a = no_word New ps (filled ps [] args) (room_filled ps [] args h n a)
-room_filled (Argument ∷ ps) new (w ∷ args) h n a = piece_word Argument ps w (filled ps new args) a.0 (room_filled ps new args h n a.1)
-room_filled (Argument ∷ ps) new [] h n a = no_word Argument ps (filled ps new []) (room_filled ps new [] h n a)
+    piece_word (Word w) ps w (filled_pieces ps new args) p.0 (room_filled ps new args p.1 n a)
+room_filled (New ∷ ps) (w ∷ new) args h n a = piece_word New ps w (filled_pieces ps new args) n.0 (room_filled ps new args h n.1 a)
+room_filled (New ∷ ps) [] args h n a = no_word New ps (filled_pieces ps [] args) (room_filled ps [] args h n a)
+room_filled (Argument ∷ ps) new (w ∷ args) h n a = piece_word Argument ps w (filled_pieces ps new args) a.0 (room_filled ps new args h n a.1)
+room_filled (Argument ∷ ps) new [] h n a = no_word Argument ps (filled_pieces ps new []) (room_filled ps new [] h n a)
 
 -- ---- constructions
 
@@ -184,7 +184,7 @@ short_let ns construction names o h few =
     let n = 17 * length ps in
     let m = 6 + 17 * length avoid in
     room_line (3 + 1 + (n + m)) _ (omega (arith, few, leb-true (length ps) 16 p.1, length-map construction.avoid (name_of_object ns)))
-    (room_word 3 (n + m) (codes "let") _ refl (room_append n m (filled ps names args) (avoid_words avoid)
+    (room_word 3 (n + m) (codes "let") _ refl (room_append n m (filled_pieces ps names args) (avoid_words avoid)
     (room_filled ps names args p.0 (words_of_names names h) (words_of_objects ns construction.args o)) (room_avoided avoid (words_of_objects ns construction.avoid o))))
 
 -- ---- uses of earlier theorems
@@ -236,7 +236,7 @@ short_superpose ns superposition names ls o h g few less =
     let n = 67 * length ls + 66 * count_monomials ls in
     let m = 17 * length superpose_pieces in
     room_line (9 + 1 + (m + n)) _ (omega (arith, few, less))
-    (room_word 9 (m + n) (codes "superpose") _ refl (room_append m n (filled superpose_pieces names (placed_names ns superposition)) (lits_words (map (raw_of ns) ls))
+    (room_word 9 (m + n) (codes "superpose") _ refl (room_append m n (filled_pieces superpose_pieces names (placed_names ns superposition)) (lits_words (map (raw_of ns) ls))
     (room_filled superpose_pieces names (placed_names ns superposition) refl (words_of_names names h) (words_of_placed ns superposition o)) (room_lits ns ls o g)))
 
 -- ---- close lines

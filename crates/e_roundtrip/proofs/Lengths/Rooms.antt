@@ -8,7 +8,7 @@ use Rattle.std.proofs.lemmas.List.Folds.{list_all-append}
 use Rattle.e_text.specs.Lines.{is_allowed, AreShort}
 use Rattle.e_text.specs.Names.{is_letter, is_digit, is_name_byte, is_title_byte, is_reserved, is_name, is_title}
 use Rattle.e_text.specs.Numerals.{is_numeral}
-use Rattle.e_text.specs.Tokens.{spaced, joined_words}
+use Rattle.e_text.specs.Tokens.{with_spaces, joined_words}
 use Rattle.e_text.proofs.NumeralWords.{is_numeral-decimal}
 use Rattle.e_text.proofs.Spaced.{spaced_append}
 
@@ -26,8 +26,8 @@ short_word k w h le = rw (h, le-leb (length w) k le) refl
 
 -- each with a space before it, they take at most this many bytes
 pub record Room (n : ℕ) (ws : List (List ℕ)) : Type 0 where
-  pub allowed : list_all is_allowed (spaced ws) ≡ true
-  pub few : length (spaced ws) ≤ n
+  pub allowed : list_all is_allowed (with_spaces ws) ≡ true
+  pub few : length (with_spaces ws) ≤ n
 
 -- no words
 pub room_none : Room 0 []
@@ -42,8 +42,8 @@ pub room_word : (k n : ℕ) (w : List ℕ) (ws : List (List ℕ)) → is_short k
 room_word k n w ws h r =
     let p = and_parts (list_all is_allowed w) (leb (length w) k) h in
     record {
-      allowed = list_all-append is_allowed w (spaced ws) ∙ rw (p.0, r.allowed) refl;
-      few = omega (arith, r.few, leb-true (length w) k p.1, length-append w (spaced ws));
+      allowed = list_all-append is_allowed w (with_spaces ws) ∙ rw (p.0, r.allowed) refl;
+      few = omega (arith, r.few, leb-true (length w) k p.1, length-append w (with_spaces ws));
     }
 
 -- the room of words after words
@@ -51,8 +51,8 @@ pub room_append : (m n : ℕ) (xs ys : List (List ℕ)) → Room m xs → Room n
 room_append m n xs ys r s =
     let e = spaced_append xs ys in
     record {
-      allowed = ap (list_all is_allowed) e ∙ (list_all-append is_allowed (spaced xs) (spaced ys) ∙ rw (r.allowed, s.allowed) refl);
-      few = omega (arith, r.few, s.few, ap length e, length-append (spaced xs) (spaced ys));
+      allowed = ap (list_all is_allowed) e ∙ (list_all-append is_allowed (with_spaces xs) (with_spaces ys) ∙ rw (r.allowed, s.allowed) refl);
+      few = omega (arith, r.few, s.few, ap length e, length-append (with_spaces xs) (with_spaces ys));
     }
 
 -- a line of these words

@@ -10,7 +10,7 @@ use Rattle.e_literal.specs.declared.object.Obj.{Obj}
 use Rattle.e_literal.specs.declared.literal.Lit.{Lit}
 use Rattle.e_literal.specs.Literal.{negation, is_in_scope, all_in_scope}
 use Rattle.e_literal.specs.WellFormed.{is_well_formed}
-use Rattle.e_literal.specs.Scopes.{grown}
+use Rattle.e_literal.specs.Scopes.{with_sorts}
 use Rattle.e_literal.specs.Facts.{with_fact, with_facts}
 use Rattle.e_literal.specs.Rename.{same_obj}
 use Rattle.e_literal.specs.Use.{StatementView, are_arguments, gives_of_use, needs_of_use}
@@ -127,8 +127,8 @@ make_short known d i construction names certs rest given goal s more =
     let sc = scope_of_names ns in
     let n = i.facts + length (gives_of_construction construction sc) in
     let here = placed_step (Make construction names certs rest) (Make construction names certs rest) sc given goal in
-    let one = one_formed before here (first_of (is_formed before) here (placed_steps before rest rest (grown sc (sorts_made construction)) (with_facts given (gives_of_construction construction sc)) goal) s.formed).0 in
-    let most = leb-true _ _ (and_parts (leb n most_facts) (few_facts before n (grown sc (sorts_made construction)) (script_without_certs rest)) r.facts).0 in
+    let one = one_formed before here (first_of (is_formed before) here (placed_steps before rest rest (with_sorts sc (sorts_made construction)) (with_facts given (gives_of_construction construction sc)) goal) s.formed).0 in
+    let most = leb-true _ _ (and_parts (leb n most_facts) (few_facts before n (with_sorts sc (sorts_made construction)) (script_without_certs rest)) r.facts).0 in
     let words = list_names names (and_parts (list_all _ names) (is_plain (script_without_certs rest)) r.plain).0 in
     let own = short_certs ns (needs_of_construction construction) certs r.order (good_certs ns (needs_of_construction construction) certs one.certs) in
     (short_let ns construction names r.order words (omega (arith, most, avoided_give construction sc)), short_append (certs_lines ns certs) (script_lines known (named ns (sorts_made construction) names) rest) own more)
@@ -145,7 +145,7 @@ apply_short known d i theorem args names certs rest given goal k s more =
     let t = theorem_of known theorem in
     let p = apply_parts known d i theorem args names (script_without_certs rest) given goal r in
     let here = placed_step (Apply theorem args names certs rest) (Apply theorem args names certs rest) sc given goal in
-    let one = one_formed before here (first_of (is_formed before) here (placed_steps before rest rest (grown sc t.made) (with_facts given (gives_of_use t (written_args args) sc)) goal) s.formed).0 in
+    let one = one_formed before here (first_of (is_formed before) here (placed_steps before rest rest (with_sorts sc t.made) (with_facts given (gives_of_use t (written_args args) sc)) goal) s.formed).0 in
     let choice = (and_parts _ (is_choice t sc args (written_args args)) one.fitting).1 in
     let fit = and_parts (fills args (written_args args)) (are_arguments t sc (written_args args)) choice in
     let count = of_sorts_length sc t.declared (written_args args) fit.1 in

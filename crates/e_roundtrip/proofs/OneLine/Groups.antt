@@ -7,26 +7,26 @@ use Rattle.e_literal.specs.declared.object.Sort.TheVariants.{Point, Line, Circle
 use Rattle.e_literal.specs.declared.object.Obj.{Obj}
 use Rattle.e_literal.specs.declared.object.Scope.{Scope}
 use Rattle.e_literal.specs.Literal.{obj, count_of}
-use Rattle.e_literal.specs.Scopes.{same_sort, with_one, grown, next_objects}
+use Rattle.e_literal.specs.Scopes.{same_sort, with_one, with_sorts, next_objects}
 use Rattle.e_literal.proofs.Sorts.{same_sort_self}
 use Rattle.e_literal.proofs.GrownScopes.{count_one}
 use Rattle.e_deriv.specs.declared.names.Names.{Names}
 use Rattle.e_deriv.specs.Naming.{names_of_sort, with_names}
 use Rattle.e_names.specs.Scope.{scope_of_names}
-use Rattle.e_names.specs.Canonical.{nameless, name_at, name_of_object}
-use Rattle.e_book.specs.Canonical.{Group, group, grouped_before, grouped}
+use Rattle.e_names.specs.Canonical.{missing_name, name_at, name_of_object}
+use Rattle.e_book.specs.Canonical.{Group, group, grouped_before, sort_groups}
 use Rattle.e_read.specs.Owing.{ends_with}
 use Rattle.e_roundtrip.proofs.OneLine.NamesSpelled.{Holds, Keeps}
 
 -- ---- objects
 
-next_append : (s : Scope) (xs ys : List Sort) → next_objects s (xs ++ ys) ≡ next_objects s xs ++ next_objects (grown s xs) ys
+next_append : (s : Scope) (xs ys : List Sort) → next_objects s (xs ++ ys) ≡ next_objects s xs ++ next_objects (with_sorts s xs) ys
 next_append s [] ys = refl
 next_append s (x ∷ xs) ys = ap (λ (l : List Obj). obj x (count_of s x) ∷ l) (next_append (with_one s x) xs ys)
 
 here : (xs ys new : List (List ℕ)) (n : List ℕ) → Holds (xs ++ n ∷ new) ys → name_at ys (length xs) ≡ n
 here xs ys new n h =
-    h (length xs) (omega (arith, length-append xs (n ∷ new))) ∙ ap (λ (i : ℕ). get_or (xs ++ n ∷ new) i nameless) (omega arith) ∙ get_or-append-add xs (n ∷ new) 0 nameless
+    h (length xs) (omega (arith, length-append xs (n ∷ new))) ∙ ap (λ (i : ℕ). get_or (xs ++ n ∷ new) i missing_name) (omega arith) ∙ get_or-append-add xs (n ∷ new) 0 missing_name
 
 -- the next objects of a sort have the names that stand next
 names_next : (more : Names) (sort : Sort) (xs new : List (List ℕ)) (s : Scope) → count_of s sort ≡ length xs → Holds (xs ++ new) (names_of_sort more sort)
@@ -45,7 +45,7 @@ joins : (sort : Sort) (name : List ℕ) (names : List (List ℕ)) → grouped_be
 joins sort name names = rw (same_sort_self sort) refl
 
 -- objects of one sort are one group
-one_group : (ns : Names) (sort : Sort) (n : ℕ) (s : Scope) → grouped ns (next_objects s (replicate (suc n) sort)) ≡ group sort (map (name_of_object ns) (next_objects s (replicate (suc n) sort))) ∷ []
+one_group : (ns : Names) (sort : Sort) (n : ℕ) (s : Scope) → sort_groups ns (next_objects s (replicate (suc n) sort)) ≡ group sort (map (name_of_object ns) (next_objects s (replicate (suc n) sort))) ∷ []
 one_group ns sort zero s = refl
 one_group ns sort (suc n) s =
     let rest = next_objects (with_one s sort) (replicate (suc n) sort) in
@@ -78,7 +78,7 @@ other_first : (u : Sort) (name : List ℕ) (g : Group) → same_sort u g.sort �
 other_first u name g h = rw h refl
 
 -- a group of another sort than the last object stands after the groups before it
-apart : (ns : Names) (s : Scope) (sorts : List Sort) (os : List Obj) (g : Group) → ends_with sorts g.sort ≡ false → grouped ns os ≡ g ∷ [] → grouped ns (next_objects s sorts ++ os) ≡ grouped ns (next_objects s sorts) ++ g ∷ []
+apart : (ns : Names) (s : Scope) (sorts : List Sort) (os : List Obj) (g : Group) → ends_with sorts g.sort ≡ false → sort_groups ns os ≡ g ∷ [] → sort_groups ns (next_objects s sorts ++ os) ≡ sort_groups ns (next_objects s sorts) ++ g ∷ []
 apart ns s [] os g h e = e
 apart ns s (x ∷ []) os g h e =
     let name = name_of_object ns (obj x (count_of s x)) in
@@ -86,18 +86,18 @@ apart ns s (x ∷ []) os g h e =
 apart ns s (x ∷ y ∷ sorts) os g h e =
     let name = name_of_object ns (obj x (count_of s x)) in
     let t = with_one s x in
-    let rest = grouped ns (next_objects (with_one t y) sorts) in
+    let rest = sort_groups ns (next_objects (with_one t y) sorts) in
     let f = first_group y (name_of_object ns (obj y (count_of t y))) rest in
     ap (grouped_before x name) (apart ns t (y ∷ sorts) os g h e ∙ ap (λ (l : List Group). l ++ g ∷ []) f.is) ∙ before_more x name f.first f.rest (g ∷ []) ∙ ap (λ (l : List Group). grouped_before x name l ++ g ∷ []) (sym f.is)
 
 -- objects that are declared on a line of their own are one more group
-pub more_groups : (more : Names) (s : Scope) (sorts : List Sort) (sort : Sort) (xs new : List (List ℕ)) → ends_with sorts sort ≡ false → 0 < length new → count_of (grown s sorts) sort ≡ length xs → Holds (xs ++ new) (names_of_sort more sort)
-    → grouped more (next_objects s (sorts ++ replicate (length new) sort)) ≡ grouped more (next_objects s sorts) ++ group sort new ∷ []
+pub more_groups : (more : Names) (s : Scope) (sorts : List Sort) (sort : Sort) (xs new : List (List ℕ)) → ends_with sorts sort ≡ false → 0 < length new → count_of (with_sorts s sorts) sort ≡ length xs → Holds (xs ++ new) (names_of_sort more sort)
+    → sort_groups more (next_objects s (sorts ++ replicate (length new) sort)) ≡ sort_groups more (next_objects s sorts) ++ group sort new ∷ []
 more_groups more s sorts sort xs [] h lt c k = absurd (omega (arith, lt))
 more_groups more s sorts sort xs (n ∷ new) h lt c k =
-    let os = next_objects (grown s sorts) (replicate (length (n ∷ new)) sort) in
-    let run : grouped more os ≡ group sort (n ∷ new) ∷ [] = one_group more sort (length new) (grown s sorts) ∙ ap (λ (l : List (List ℕ)). group sort l ∷ []) (names_next more sort xs (n ∷ new) (grown s sorts) c k) in
-    ap (grouped more) (next_append s sorts (replicate (length (n ∷ new)) sort)) ∙ apart more s sorts os (group sort (n ∷ new)) h run
+    let os = next_objects (with_sorts s sorts) (replicate (length (n ∷ new)) sort) in
+    let run : sort_groups more os ≡ group sort (n ∷ new) ∷ [] = one_group more sort (length new) (with_sorts s sorts) ∙ ap (λ (l : List (List ℕ)). group sort l ∷ []) (names_next more sort xs (n ∷ new) (with_sorts s sorts) c k) in
+    ap (sort_groups more) (next_append s sorts (replicate (length (n ∷ new)) sort)) ∙ apart more s sorts os (group sort (n ∷ new)) h run
 
 -- ---- names
 
@@ -125,13 +125,13 @@ none_more ns Line = ap (λ k. record { points = length ns.points; lines = k; cir
 none_more ns Circle = ap (λ k. record { points = length ns.points; lines = length ns.lines; circles = k }) (omega (arith, length-append ns.circles []))
 
 -- the scope grows with the names
-pub scope_more : (ns : Names) (sort : Sort) (new : List (List ℕ)) → scope_of_names (with_names ns sort (names_of_sort ns sort ++ new)) ≡ grown (scope_of_names ns) (replicate (length new) sort)
+pub scope_more : (ns : Names) (sort : Sort) (new : List (List ℕ)) → scope_of_names (with_names ns sort (names_of_sort ns sort ++ new)) ≡ with_sorts (scope_of_names ns) (replicate (length new) sort)
 scope_more ns sort [] = none_more ns sort
 scope_more ns sort (n ∷ new) =
-    ap scope_of_names (one_then ns sort n new) ∙ scope_more (with_more ns sort (n ∷ [])) sort new ∙ ap (λ (s : Scope). grown s (replicate (length new) sort)) (one_named ns sort n)
+    ap scope_of_names (one_then ns sort n new) ∙ scope_more (with_more ns sort (n ∷ [])) sort new ∙ ap (λ (s : Scope). with_sorts s (replicate (length new) sort)) (one_named ns sort n)
 
 holds_before : (xs new ys : List (List ℕ)) → Holds (xs ++ new) ys → Holds xs ys
-holds_before xs new ys h i lt = h i (omega (arith, lt, length-append xs new)) ∙ get_or_append_left xs new nameless i lt
+holds_before xs new ys h i lt = h i (omega (arith, lt, length-append xs new)) ∙ get_or_append_left xs new missing_name i lt
 
 -- the names that were there are kept
 pub keeps_before : (ns more : Names) (sort : Sort) (new : List (List ℕ)) → Keeps (with_names ns sort (names_of_sort ns sort ++ new)) more → Keeps ns more

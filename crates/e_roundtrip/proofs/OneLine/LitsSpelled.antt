@@ -24,7 +24,7 @@ use Rattle.e_line.specs.declared.literal.RawAtom.{RawAtom}
 use Rattle.e_line.specs.declared.literal.RawAtom.TheVariants as raw
 use Rattle.e_line.specs.Reading.{◌>>=◌, each}
 use Rattle.e_line.specs.Literals.{signed_lit, is_diagram_raw}
-use Rattle.e_names.specs.Scope.{used, number_of_name, on_sort, line_meets, meets_from, equal_at, term_in, kind_of_raw, first_kind, mono_in, sums_in, atom_in, negated_in, lit_in, lits_in}
+use Rattle.e_names.specs.Scope.{used_object, number_of_name, on_sort, line_meets, meets_from, equal_at, term_in, kind_of_raw, first_kind, mono_in, sums_in, atom_in, negated_in, lit_in, lits_in}
 use Rattle.e_names.specs.Canonical.{name_at, name_of_object, raw_term, raw_mono, raw_sum, raw_atom, raw_signed, raw_of}
 use Rattle.e_line.proofs.base.Bound.{bind_ok, ok_is, read_ok}
 use Rattle.e_line.specs.Strict.{is_less, is_direct, are_direct}
@@ -135,7 +135,7 @@ line_named more neg l Circle m x y a hx hy e = other more neg (raw.Meets x y) (a
 meets_named : (ns more : Names) (neg : Bool) (t : Sort) (n : ℕ) (x y : List ℕ) (a : Atom) → Keeps ns more → name_of_object more (obj t n) ≡ x → meets_from ns t n y ≡ Ok a → Spells more neg (raw.Meets x y) a
 meets_named ns more neg Point n x y a k h e = absurd cc
 meets_named ns more neg Line n x y a k h e =
-    let o = bind_ok (used ns y) (λ o. line_meets n o.sort o.num) a e in
+    let o = bind_ok (used_object ns y) (λ o. line_meets n o.sort o.num) a e in
     line_named more neg n o.0.sort o.0.num x y a h (used_named ns more y o.0 k o.1) o.2
 meets_named ns more neg Circle n x y a k h e =
     let c = bind_ok (number_of_name ns Circle y) (λ c. read_ok (atoms.MeetCC n c)) a e in
@@ -153,8 +153,8 @@ may_stand neg r = not (neg && is_less r) && not (neg && is_at_most r)
 atom_named : (ns more : Names) (neg : Bool) (r : RawAtom) (a : Atom) → Keeps ns more → may_stand neg r ≡ true → atom_in ns r ≡ Ok a → Spells more neg r a
 unfolding atom_in
 atom_named ns more neg (raw.On x y) a k d e =
-    let p = bind_ok (number_of_name ns Point x) (λ p. used ns y >>= λ o. on_sort p o.sort o.num) a e in
-    let o = bind_ok (used ns y) (λ o. on_sort p.0 o.sort o.num) a p.2 in
+    let p = bind_ok (number_of_name ns Point x) (λ p. used_object ns y >>= λ o. on_sort p o.sort o.num) a e in
+    let o = bind_ok (used_object ns y) (λ o. on_sort p.0 o.sort o.num) a p.2 in
     on_named more neg p.0 o.0 x y a (number_named ns more Point x p.0 k p.1) (used_named ns more y o.0 k o.1) o.2
 atom_named ns more neg (raw.Inside x y) a k d e =
     let p = bind_ok (number_of_name ns Point x) (λ p. number_of_name ns Circle y >>= λ c. read_ok (atoms.Inside p c)) a e in
@@ -177,10 +177,10 @@ atom_named ns more neg (raw.Same x y z) a k d e =
     other more neg (raw.Same x y z) (atoms.Same p.0 q.0 r.0) a refl refl
     (rw (number_named ns more Point x p.0 k p.1, number_named ns more Point y q.0 k q.1, number_named ns more Line z r.0 k r.1) refl) r.2
 atom_named ns more neg (raw.Meets x y) a k d e =
-    let o = bind_ok (used ns x) (λ o. meets_from ns o.sort o.num y) a e in
+    let o = bind_ok (used_object ns x) (λ o. meets_from ns o.sort o.num y) a e in
     meets_named ns more neg o.0.sort o.0.num x y a k (used_named ns more x o.0 k o.1) o.2
 atom_named ns more neg (raw.Equal x y) a k d e =
-    let o = bind_ok (used ns x) (λ o. number_of_name ns o.sort y >>= λ n. read_ok (equal_at o.sort o.num n)) a e in
+    let o = bind_ok (used_object ns x) (λ o. number_of_name ns o.sort y >>= λ n. read_ok (equal_at o.sort o.num n)) a e in
     let n = bind_ok (number_of_name ns o.0.sort y) (λ n. read_ok (equal_at o.0.sort o.0.num n)) a o.2 in
     equal_named more neg o.0.sort o.0.num n.0 x y a (used_named ns more x o.0 k o.1) (number_named ns more o.0.sort y n.0 k n.1) n.2
 atom_named ns more neg (raw.SumsEqual x y) a k d e =

@@ -10,8 +10,8 @@ use Rattle.e_literal.specs.declared.object.Obj.{Obj}
 use Rattle.e_literal.specs.Literal.{obj}
 use Rattle.e_deriv.specs.declared.names.Names.{Names}
 use Rattle.e_deriv.specs.Naming.{names_of_sort}
-use Rattle.e_names.specs.Scope.{object_at, or_else, object_in, object_of, used, number_of_sort, number_of_name, object_as}
-use Rattle.e_names.specs.Canonical.{nameless, name_at, name_of_object}
+use Rattle.e_names.specs.Scope.{object_at, or_else, object_in, object_of, used_object, number_of_sort, number_of_name, object_as}
+use Rattle.e_names.specs.Canonical.{missing_name, name_at, name_of_object}
 use Rattle.e_line.proofs.base.Bound.{bind_ok, ok_is, read_ok}
 use Rattle.e_names.proofs.read_lines.InScope.{known_is}
 
@@ -31,7 +31,7 @@ keeps_all ns = record { points = λ i lt. refl; lines = λ i lt. refl; circles =
 -- a name that is found
 found_name : (xs ys : List (List ℕ)) (name : List ℕ) (i : ℕ) → Holds xs ys → position (λ n. bytes_eq n name) xs ≡ Some i → name_at ys i ≡ name
 found_name xs ys name i h e =
-    let p = position-Some (λ n. bytes_eq n name) xs i nameless e in
+    let p = position-Some (λ n. bytes_eq n name) xs i missing_name e in
     h i p.0 ∙ (bytes_eq-Decides (name_at xs i) name).0 p.1
 
 -- an object with its name among more names
@@ -54,7 +54,7 @@ either_found : (more : Names) (name : List ℕ) (a b : Option Obj) (o : Obj) →
 either_found more name (Some x) b o ha hb e = ha e
 either_found more name None b o ha hb e = hb e
 
-pub used_named : (ns more : Names) (name : List ℕ) (o : Obj) → Keeps ns more → used ns name ≡ Ok o → name_of_object more o ≡ name
+pub used_named : (ns more : Names) (name : List ℕ) (o : Obj) → Keeps ns more → used_object ns name ≡ Ok o → name_of_object more o ≡ name
 used_named ns more name o k e =
     let p = object_in ns Point name in
     let l = object_in ns Line name in
@@ -71,7 +71,7 @@ of_sort more name t sort m n h e = absurd cc
 pub number_named : (ns more : Names) (sort : Sort) (name : List ℕ) (n : ℕ) → Keeps ns more → number_of_name ns sort name ≡ Ok n → name_at (names_of_sort more sort) n ≡ name
 unfolding number_of_name
 number_named ns more sort name n k e =
-    let a = bind_ok (used ns name) (λ o. number_of_sort sort o) n e in
+    let a = bind_ok (used_object ns name) (λ o. number_of_sort sort o) n e in
     of_sort more name a.0.sort sort a.0.num n (used_named ns more name a.0 k a.1) a.2
 
 pub object_named : (ns more : Names) (sort : Sort) (name : List ℕ) (o : Obj) → Keeps ns more → object_as ns sort name ≡ Ok o → name_of_object more o ≡ name

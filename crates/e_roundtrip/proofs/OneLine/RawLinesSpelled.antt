@@ -29,7 +29,7 @@ use Rattle.e_line.specs.Reading.{◌>>=◌, each}
 use Rattle.e_names.specs.TitledStatements.{TitledStatement, theorem_of, place_in}
 use Rattle.e_line.specs.Literals.{is_diagram_raw}
 use Rattle.e_names.specs.Superposes.{placed_in, superpose_in}
-use Rattle.e_names.specs.Scope.{scope_of_names, used, fresh, lit_in, lits_in, object_as, known_rule, variables_of, right_count, args_in, by_in, right_sort, arguments_in, construction, first_fitting, let_in, objects_of_sorts, qed_in}
+use Rattle.e_names.specs.Scope.{scope_of_names, used_object, fresh, lit_in, lits_in, object_as, known_rule, variables_of, right_count, args_in, by_in, right_sort, arguments_in, construction, first_fitting, let_in, objects_of_sorts, qed_in}
 use Rattle.e_names.specs.Applies.{known_place, entry_in, entries_in, apply_in}
 use Rattle.e_names.specs.Canonical.{name_of_object, placed_names, by_raw_line, hence_raw_line, let_raw_line, argument_name, apply_raw_line, claim_raw_line, superpose_raw_line, cases_raw_line, qed_raw_line}
 use Rattle.e_line.specs.Canonical.{line_pieces, line_of}
@@ -90,7 +90,7 @@ arguments_named ns shapes found [] os e = ap (map (name_of_object ns)) (sym (ok_
     append-none [] = refl
     append-none (x ∷ l) = ap (λ (m : List (List ℕ)). x ∷ m) (append-none l)
 arguments_named ns shapes found (name ∷ names) os e =
-    let a = bind_ok (used ns name) (λ o. right_sort (list_any (λ s. takes s (found ++ o ∷ [])) shapes) >>= λ right. arguments_in ns shapes (found ++ o ∷ []) names) os e in
+    let a = bind_ok (used_object ns name) (λ o. right_sort (list_any (λ s. takes s (found ++ o ∷ [])) shapes) >>= λ right. arguments_in ns shapes (found ++ o ∷ []) names) os e in
     let b = bind_ok (right_sort (list_any (λ s. takes s (found ++ a.0 ∷ [])) shapes)) (λ right. arguments_in ns shapes (found ++ a.0 ∷ []) names) os a.2 in
     arguments_named ns shapes (found ++ a.0 ∷ []) names os b.2 ∙ ap (λ (l : List (List ℕ)). l ++ names) (map-append (name_of_object ns) found (a.0 ∷ []))
     ∙ append_assoc (map (name_of_object ns) found) (name_of_object ns a.0 ∷ []) names ∙ ap (λ (n : List ℕ). map (name_of_object ns) found ++ n ∷ names) (used_named ns ns name a.0 (keeps_all ns) a.1)
@@ -114,14 +114,14 @@ unfolding let_in
 let_spelled ns l construction h e =
     let s = scope_of_names ns in
     let count : Construction → Result Construction FaultKind = λ f. right_count (eqb (length l.new) (length (sorts_made f))) >>= λ right. read_ok f in
-    let a = bind_ok (fresh ns [] l.new) (λ free. arguments_in ns l.shapes [] l.args >>= λ args. each (used ns) l.avoid >>= λ avoid. first_fitting s args avoid l.shapes >>= count) construction e in
-    let b = bind_ok (arguments_in ns l.shapes [] l.args) (λ args. each (used ns) l.avoid >>= λ avoid. first_fitting s args avoid l.shapes >>= count) construction a.2 in
-    let c = bind_ok (each (used ns) l.avoid) (λ avoid. first_fitting s b.0 avoid l.shapes >>= count) construction b.2 in
+    let a = bind_ok (fresh ns [] l.new) (λ free. arguments_in ns l.shapes [] l.args >>= λ args. each (used_object ns) l.avoid >>= λ avoid. first_fitting s args avoid l.shapes >>= count) construction e in
+    let b = bind_ok (arguments_in ns l.shapes [] l.args) (λ args. each (used_object ns) l.avoid >>= λ avoid. first_fitting s args avoid l.shapes >>= count) construction a.2 in
+    let c = bind_ok (each (used_object ns) l.avoid) (λ avoid. first_fitting s b.0 avoid l.shapes >>= count) construction b.2 in
     let d = bind_ok (first_fitting s b.0 c.0 l.shapes) count construction c.2 in
     let r = bind_ok (right_count (eqb (length l.new) (length (sorts_made d.0)))) (λ right. read_ok d.0) construction d.2 in
     let f = chosen (line_pieces l.shapes) s b.0 c.0 l.shapes d.0 h d.1 in
     let args : map (name_of_object ns) d.0.args ≡ l.args = ap (map (name_of_object ns)) f.args_are ∙ arguments_named ns l.shapes [] l.args b.0 b.1 in
-    let avoid : map (name_of_object ns) d.0.avoid ≡ l.avoid = ap (map (name_of_object ns)) f.avoid_are ∙ each_back (used ns) (name_of_object ns) (λ name o k. used_named ns ns name o (keeps_all ns) k) l.avoid c.0 c.1 in
+    let avoid : map (name_of_object ns) d.0.avoid ≡ l.avoid = ap (map (name_of_object ns)) f.avoid_are ∙ each_back (used_object ns) (name_of_object ns) (λ name o k. used_named ns ns name o (keeps_all ns) k) l.avoid c.0 c.1 in
     ap (λ (x : Construction). line_of (let_raw_line ns x l.new)) (sym (ok_is d.0 construction r.2)) ∙ rw (f.line, args, avoid) refl
 
 -- ---- uses of earlier theorems

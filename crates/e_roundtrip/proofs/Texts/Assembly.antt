@@ -2,12 +2,12 @@
 use Rattle.std.proofs.Common.{◌≡◌, ℕ, ◌+◌, Bool, true, false, cond, List, [], ◌∷◌, ◌++◌, length, Result, Ok, Err, inl, inr, refl, sym, ap, subst, ◌∙◌, arith, append_assoc, length-append}
 use Rattle.std.specs.List.{list_all}
 use Rattle.std.proofs.lemmas.Bool.{and_from}
-use Rattle.e_text.specs.Lines.{numbered}
+use Rattle.e_text.specs.Lines.{numbered_lines}
 use Rattle.e_theorem.specs.Statements.{stated}
 use Rattle.e_deriv.specs.Script.{Script}
 use Rattle.e_deriv.specs.PlacedSteps.{PlacedStep, first_failure}
 use Rattle.e_deriv.specs.Certified.{is_certified, derivation_steps, verdict}
-use Rattle.e_names.specs.TitledStatements.{TitledStatement, headed, stated_by}
+use Rattle.e_names.specs.TitledStatements.{TitledStatement, titled_statement, stated_by}
 use Rattle.e_book.specs.TheoremViews.{TheoremView}
 use Rattle.e_book.specs.Grammar.{Rest}
 use Rattle.e_line.proofs.base.Bound.{same_bytes}
@@ -27,7 +27,7 @@ use Rattle.e_clause.specs.declared.cert.Version.{Version}
 
 -- the lines of a list show its front, and what is left has numbers of its own
 abbrev pub Shown : ℕ → List (List ℕ) → List (List ℕ) → Type 0
-Shown k xs ys = (m : ℕ) × ShowsEnded (numbered k (xs ++ ys)) xs (numbered m ys)
+Shown k xs ys = (m : ℕ) × ShowsEnded (numbered_lines k (xs ++ ys)) xs (numbered_lines m ys)
 
 -- each list of lines is such a front
 pub shown_front : (k : ℕ) (xs ys : List (List ℕ)) → Shown k xs ys
@@ -52,11 +52,11 @@ module _ (v : Version) where
   -- ---- the last line
 
   -- the last line comes where as many theorems are known as it says
-  pub last_read : (last : ℕ) (known : List TitledStatement) (k : ℕ) → piece_from known last (at_start v) (numbered k (last_line_of (length known) ∷ [])) ≡ Ok (Last, [])
+  pub last_read : (last : ℕ) (known : List TitledStatement) (k : ℕ) → piece_from known last (at_start v) (numbered_lines k (last_line_of (length known) ∷ [])) ≡ Ok (Last, [])
   unfolding piece_from
   last_read last known k = rw (same_bytes (last_line_of (length known))) refl
 
-  ends : (last : ℕ) (known : List TitledStatement) (k : ℕ) → EndsThere v last known (numbered k (last_line_of (length known) ∷ [])) (Verified (length known))
+  ends : (last : ℕ) (known : List TitledStatement) (k : ℕ) → EndsThere v last known (numbered_lines k (last_line_of (length known) ∷ [])) (Verified (length known))
   ends last known k = ([], last_read last known k, refl)
 
   -- ---- the theorems, one after another
@@ -88,30 +88,30 @@ module _ (v : Version) where
 
   -- the lines of the blocks, and the last line, which says how many are known after them
   judged_from : (last : ℕ) (known : List TitledStatement) (k n : ℕ) (ps : List (TheoremView × Script)) → AllCanBeSpelled v known ps → length known + length ps ≡ n
-      → JudgedFrom last known (numbered k (lines_of_blocks known ps ++ last_line_of n ∷ [])) (judgement_of known ps)
+      → JudgedFrom last known (numbered_lines k (lines_of_blocks known ps ++ last_line_of n ∷ [])) (judgement_of known ps)
   judged_from last known k n [] h e =
       let count : length known ≡ n = omega (arith, e) in
       record {
         theorems = [];
         now = known;
-        rest = numbered k (last_line_of n ∷ []);
+        rest = numbered_lines k (last_line_of n ∷ []);
         passes = (refl, refl);
-        closes = inl (subst (λ (x : ℕ). EndsThere v last known (numbered k (last_line_of x ∷ [])) (Verified (length known))) count (ends last known k));
+        closes = inl (subst (λ (x : ℕ). EndsThere v last known (numbered_lines k (last_line_of x ∷ [])) (Verified (length known))) count (ends last known k));
       }
   judged_from last known k n (p ∷ ps) h e =
       let own = spelled_lines known p.0 p.1 in
       let next = with_theorem known p.0 in
       let later = lines_of_blocks next ps ++ last_line_of n ∷ [] in
       let front = shown_front k own later in
-      let reads = spelled_is_read v known last p.0 p.1 (numbered k (own ++ later)) (numbered front.0 later) h.0 front.1 in
-      let more = judged_from last next front.0 n ps h.1 (omega (arith, e, length-append known (headed p.0.title p.0.statement ∷ []))) in
-      subst (λ (ls : List (List ℕ)). JudgedFrom last known (numbered k ls) (judgement_of known (p ∷ ps))) (sym (append_assoc own (lines_of_blocks next ps) (last_line_of n ∷ [])))
-      (after_verdict last known p (numbered k (own ++ later)) (numbered front.0 later) (judgement_of next ps) reads more (verdict (stated_by known) (stated p.0.statement) p.1) refl)
+      let reads = spelled_is_read v known last p.0 p.1 (numbered_lines k (own ++ later)) (numbered_lines front.0 later) h.0 front.1 in
+      let more = judged_from last next front.0 n ps h.1 (omega (arith, e, length-append known (titled_statement p.0.title p.0.statement ∷ []))) in
+      subst (λ (ls : List (List ℕ)). JudgedFrom last known (numbered_lines k ls) (judgement_of known (p ∷ ps))) (sym (append_assoc own (lines_of_blocks next ps) (last_line_of n ∷ [])))
+      (after_verdict last known p (numbered_lines k (own ++ later)) (numbered_lines front.0 later) (judgement_of next ps) reads more (verdict (stated_by known) (stated p.0.statement) p.1) refl)
 
   -- ---- the whole
 
   -- the lines of blocks and the last line are judged as the verdicts say
-  pub judged : (last k : ℕ) (ps : List (TheoremView × Script)) → AllCanBeSpelled v [] ps → IsJudged v last (numbered k (lines_of_blocks [] ps ++ last_line_of (length ps) ∷ [])) (judgement_of [] ps)
+  pub judged : (last k : ℕ) (ps : List (TheoremView × Script)) → AllCanBeSpelled v [] ps → IsJudged v last (numbered_lines k (lines_of_blocks [] ps ++ last_line_of (length ps) ∷ [])) (judgement_of [] ps)
   judged last k ps h =
       let j = judged_from last [] k (length ps) ps h (omega arith) in
       record { theorems = j.theorems; known = j.now; rest = j.rest; passes = j.passes; closes = j.closes }
@@ -127,7 +127,7 @@ module _ (v : Version) where
   all_verified known [] h = let n : length known ≡ length known + 0 = omega arith in ap (λ (k : ℕ). Verified k) n
   all_verified known (p ∷ ps) h =
       let next = with_theorem known p.0 in
-      let n : length next + length ps ≡ length known + length (p ∷ ps) = omega (arith, length-append known (headed p.0.title p.0.statement ∷ [])) in
+      let n : length next + length ps ≡ length known + length (p ∷ ps) = omega (arith, length-append known (titled_statement p.0.title p.0.statement ∷ [])) in
       passes (verdict (stated_by known) (stated p.0.statement) p.1) refl ∙ all_verified next ps h.1 ∙ ap (λ (k : ℕ). Verified k) n
     where
       passes : (a : Result ℕ ℕ) → verdict (stated_by known) (stated p.0.statement) p.1 ≡ a → judged_after p.0.title a (judgement_of (with_theorem known p.0) ps) ≡ judgement_of (with_theorem known p.0) ps

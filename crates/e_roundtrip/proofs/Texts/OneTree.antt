@@ -1,12 +1,12 @@
 -- A text spells at most one list of theorems with derivations.
 use Rattle.std.proofs.Common.{◌≡◌, ℕ, ◌+◌, List, [], ◌∷◌, ◌++◌, length, map, Result, Ok, Err, refl, sym, ap, subst, ◌∙◌, arith, append_assoc, length-append}
 use Rattle.std.specs.Prelude.{Option, Some}
-use Rattle.e_text.specs.Lines.{LineView, numbered}
+use Rattle.e_text.specs.Lines.{LineView, numbered_lines}
 use Rattle.e_text.specs.declared.line.LineEnd.TheVariants.{Lf}
 use Rattle.e_text.specs.declared.line.LineFault.{LineFault}
 use Rattle.e_clause.specs.declared.cert.Version.{Version}
 use Rattle.e_deriv.specs.Script.{Script}
-use Rattle.e_names.specs.TitledStatements.{TitledStatement, headed}
+use Rattle.e_names.specs.TitledStatements.{TitledStatement, titled_statement}
 use Rattle.e_book.specs.TheoremViews.{TheoremView}
 use Rattle.e_book.specs.Grammar.{Rest}
 use Rattle.e_read.specs.Text.{TextPiece, Derived, Last, at_start, last_line_of, piece_from}
@@ -77,18 +77,18 @@ module _ (v : Version) (last : ℕ) where
       ap (λ (ts : List TheoremView). entry_with p ∷ ts) (one_tree (with_theorem known p.0) ps qs a.0 h.1 k' a.2 b'') ∙ ap (λ (t : TheoremView). t ∷ map entry_with qs) e.0
 
   -- the lines of blocks and the last line are so of their theorems
-  are_lines : (known : List TitledStatement) (k n : ℕ) (ps : List (TheoremView × Script)) → length known + length ps ≡ n → AreLines known ps (numbered k (lines_of_blocks known ps ++ last_line_of n ∷ []))
+  are_lines : (known : List TitledStatement) (k n : ℕ) (ps : List (TheoremView × Script)) → length known + length ps ≡ n → AreLines known ps (numbered_lines k (lines_of_blocks known ps ++ last_line_of n ∷ []))
   are_lines known k n [] e =
       let count : length known ≡ n = omega (arith, e) in
-      let lines : ℕ → Rest = λ x. numbered k (last_line_of x ∷ []) in
+      let lines : ℕ → Rest = λ x. numbered_lines k (last_line_of x ∷ []) in
       ([], subst (λ (x : ℕ). piece_from known last (at_start v) (lines x) ≡ last_there []) count (last_read v last known k))
   are_lines known k n (p ∷ ps) e =
       let own = spelled_lines known p.0 p.1 in
       let next = with_theorem known p.0 in
       let later = lines_of_blocks next ps ++ last_line_of n ∷ [] in
       let front = shown_front k own later in
-      let more = are_lines next front.0 n ps (omega (arith, e, length-append known (headed p.0.title p.0.statement ∷ []))) in
-      subst (λ (ls : List (List ℕ)). AreLines known (p ∷ ps) (numbered k ls)) (sym (append_assoc own (lines_of_blocks next ps) (last_line_of n ∷ []))) (numbered front.0 later, front.1, more)
+      let more = are_lines next front.0 n ps (omega (arith, e, length-append known (titled_statement p.0.title p.0.statement ∷ []))) in
+      subst (λ (ls : List (List ℕ)). AreLines known (p ∷ ps) (numbered_lines k ls)) (sym (append_assoc own (lines_of_blocks next ps) (last_line_of n ∷ []))) (numbered_lines front.0 later, front.1, more)
 
 -- ---- the lines of one text
 
@@ -112,7 +112,7 @@ head_line v = record { number = 1; bytes = head_of v; end = Lf }
 
 -- after the head line
 abbrev lines_after : List (TheoremView × Script) → Rest
-lines_after ps = numbered 2 (lines_of_blocks [] ps ++ last_line_of (length ps) ∷ [])
+lines_after ps = numbered_lines 2 (lines_of_blocks [] ps ++ last_line_of (length ps) ∷ [])
 
 one_head : (v w : Version) → head_line v ≡ head_line w → v ≡ w
 unfolding head_line
@@ -126,7 +126,7 @@ of_one_version v ps qs h k e =
 pub one_tree_for_one_text : OneTreeForOneText
 unfolding head_line
 one_tree_for_one_text v w ps qs h k e =
-    let lines : numbered 1 (all_lines v ps) ≡ numbered 1 (all_lines w qs) = sym (lines_written v ps h) ∙ ap lines_of_text e ∙ lines_written w qs k in
+    let lines : numbered_lines 1 (all_lines v ps) ≡ numbered_lines 1 (all_lines w qs) = sym (lines_written v ps h) ∙ ap lines_of_text e ∙ lines_written w qs k in
     let both = first_is (good_line (head_line v)) (good_line (head_line w)) (lines_after ps) (lines_after qs) lines in
     let version : v ≡ w = one_head v w (line_is (head_line v) (head_line w) both.0) in
     (version, of_one_version v ps qs h (subst (λ (x : Version). AllCanBeSpelled x [] qs) (sym version) k) both.1)

@@ -13,11 +13,11 @@ use Rattle.e_clause.specs.declared.cert.Version.TheVariants.{One, Two}
 use Rattle.e_theorem.specs.Statements.{stated}
 use Rattle.e_deriv.specs.Script.{Script}
 use Rattle.e_deriv.proofs.Agreement.{proof_of_certified}
-use Rattle.e_names.specs.TitledStatements.{TitledStatement, headed, stated_by}
+use Rattle.e_names.specs.TitledStatements.{TitledStatement, titled_statement, stated_by}
 use Rattle.e_book.specs.TheoremViews.{TheoremView}
 use Rattle.e_book.specs.Grammar.{Rest}
 use Rattle.e_read.specs.Text.{is_lf_end, last_line_of}
-use Rattle.e_spell.specs.Spelling.{spelled, spelled_lines}
+use Rattle.e_spell.specs.Spelling.{spelling, spelled_lines}
 use Rattle.e_roundtrip.specs.Spelled.{ShowsEnded}
 use Rattle.e_roundtrip.proofs.Texts.ReadIsSpelled.{read_is_spelled_so, read_is_formed_so}
 use Rattle.e_roundtrip.proofs.Texts.ShownText.{read_text_is_spelled}
@@ -67,7 +67,7 @@ module _ (v : Version) where
   known_grows : (last : ℕ) (known : List TitledStatement) (lines : Rest) (ts : List TheoremView) (now : List TitledStatement) (rest : Rest) → Passes v last known lines ts now rest → length now ≡ length known + length ts
   known_grows last known lines [] now rest p = omega (arith, ap length p.0)
   known_grows last known lines (t ∷ ts) now rest p =
-      omega (arith, known_grows last (with_theorem known t) p.0 ts now rest p.3, length-append known (headed t.title t.statement ∷ []))
+      omega (arith, known_grows last (with_theorem known t) p.0 ts now rest p.3, length-append known (titled_statement t.title t.statement ∷ []))
 
   -- what is certified is proved
   all_proved : (last : ℕ) (known : List TitledStatement) (lines : Rest) (ts : List TheoremView) (now : List TitledStatement) (rest : Rest) → Passes v last known lines ts now rest → AllProved known (pairs ts)
@@ -97,7 +97,7 @@ module _ (v : Version) where
       → text_of_lines lines ≡ spelled_blocks known (pairs ts) ++ text_of_lines rest
   blocks_text last known lines [] now rest p = ap text_of_lines p.1
   blocks_text last known lines (t ∷ ts) now rest p =
-      let own = spelled known t t.script in
+      let own = spelling known t t.script in
       let next = with_theorem known t in
       read_text_is_spelled v known last t lines p.0 p.1 ∙ ap (λ (x : List ℕ). own ++ x) (blocks_text last next p.0 ts now rest p.3)
       ∙ sym (append_assoc own (spelled_blocks next (pairs ts)) (text_of_lines rest))

@@ -5,10 +5,10 @@ use Rattle.e_text.specs.declared.line.LineEnd.TheVariants.{Lf}
 use Rattle.e_clause.specs.declared.cert.Version.{Version}
 use Rattle.e_clause.specs.declared.cert.Version.TheVariants.{One, Two}
 use Rattle.std.proofs.lemmas.List.{append-nil}
-use Rattle.e_text.specs.Lines.{Bounds, Spot, AreShort, lf_text, numbered}
+use Rattle.e_text.specs.Lines.{Bounds, Spot, AreShort, lf_text, numbered_lines}
 use Rattle.e_text.proofs.WrittenLines.{lines_of-lf_text}
 use Rattle.e_deriv.specs.Script.{Script}
-use Rattle.e_names.specs.TitledStatements.{TitledStatement, headed}
+use Rattle.e_names.specs.TitledStatements.{TitledStatement, titled_statement}
 use Rattle.e_book.specs.TheoremViews.{TheoremView}
 use Rattle.e_line.specs.Limits.{most_theorems}
 use Rattle.e_book.specs.Canonical.{text_of}
@@ -71,14 +71,14 @@ module _ (v : Version) where
   -- ---- the whole
 
   -- the lines are judged so
-  judged_lines : (ps : List (TheoremView × Script)) → AllCanBeSpelled v [] ps → JudgesLines (numbered 1 (all_lines ps)) (judgement_of [] ps)
-  judged_lines ps h = subst (λ (o : Option Version). JudgedAfterHead o (numbered 2 (lines_of_blocks [] ps ++ last_line_of (length ps) ∷ [])) (judgement_of [] ps)) (sym (says v)) (judged v _ 2 ps h)
+  judged_lines : (ps : List (TheoremView × Script)) → AllCanBeSpelled v [] ps → JudgesLines (numbered_lines 1 (all_lines ps)) (judgement_of [] ps)
+  judged_lines ps h = subst (λ (o : Option Version). JudgedAfterHead o (numbered_lines 2 (lines_of_blocks [] ps ++ last_line_of (length ps) ∷ [])) (judgement_of [] ps)) (sym (says v)) (judged v _ 2 ps h)
 
   -- a text has few theorems
   few_theorems : (known : List TitledStatement) (ps : List (TheoremView × Script)) → AllCanBeSpelled v known ps → length known ≤ most_theorems → length known + length ps ≤ most_theorems
   few_theorems known [] h le = omega (arith, le)
   few_theorems known (p ∷ ps) h le =
-      let n = length-append known (headed p.0.title p.0.statement ∷ []) in
+      let n = length-append known (titled_statement p.0.title p.0.statement ∷ []) in
       omega (arith, few_theorems (with_theorem known p.0) ps h.1 (omega (arith, n, h.0.plain.few_theorems)), n)
 
   -- the last line is short
@@ -91,7 +91,7 @@ module _ (v : Version) where
       (short_head v, short_append (lines_of_blocks [] ps) (last_line_of (length ps) ∷ []) (short_blocks v [] ps tt h) (short_last (length ps) (omega (arith, few_theorems [] ps h (omega arith))), tt))
 
   -- what is written is read as its lines
-  pub lines_written : (ps : List (TheoremView × Script)) → AllCanBeSpelled v [] ps → lines_of_text (derivation_text v ps) ≡ numbered 1 (all_lines ps)
+  pub lines_written : (ps : List (TheoremView × Script)) → AllCanBeSpelled v [] ps → lines_of_text (derivation_text v ps) ≡ numbered_lines 1 (all_lines ps)
   lines_written ps h =
       let w : Bounds = record { longest = 262144; most = length (lf_text (all_lines ps)) } in
       let at : Spot = record { line = 1; before = 0 } in

@@ -13,7 +13,7 @@ use Rattle.e_literal.specs.declared.literal.Atom.TheVariants as atoms
 use Rattle.e_literal.specs.Literal.{negation}
 use Rattle.e_literal.specs.Rename.{atom_at, mono_at, number_at}
 use Rattle.e_literal.specs.Facts.{with_fact, with_facts}
-use Rattle.e_literal.specs.Scopes.{grown, next_objects}
+use Rattle.e_literal.specs.Scopes.{with_sorts, next_objects}
 use Rattle.e_literal.specs.Use.{StatementView}
 use Rattle.e_literal.specs.WellFormed.{is_well_formed}
 use Rattle.e_literal.proofs.WithImages.{renamed_well_formed}
@@ -95,16 +95,16 @@ literals_left before (Hence lit cert rest) kept s facts goal h =
     either (λ x. has_well_formed_literals (script_without_certs x)) (is_kept before (Hence lit cert rest) s facts (wants before rest s (with_fact facts lit) goal)) _ _ (and_from _ _ (renamed_well_formed (image_among_kept kept) lit ∙ p.0) r) r
 literals_left before (Make construction names certs rest) kept s facts goal h =
     let after = with_facts facts (gives_of_construction construction s) in
-    either (λ x. has_well_formed_literals (script_without_certs x)) (is_kept before (Make construction names certs rest) s facts (wants before rest (grown s (sorts_made construction)) after goal)) _ _
-    (literals_left before rest (kept ++ next_objects s (sorts_made construction)) (grown s (sorts_made construction)) after goal h)
-    (literals_left before rest kept (grown s (sorts_made construction)) after goal h)
+    either (λ x. has_well_formed_literals (script_without_certs x)) (is_kept before (Make construction names certs rest) s facts (wants before rest (with_sorts s (sorts_made construction)) after goal)) _ _
+    (literals_left before rest (kept ++ next_objects s (sorts_made construction)) (with_sorts s (sorts_made construction)) after goal h)
+    (literals_left before rest kept (with_sorts s (sorts_made construction)) after goal h)
 literals_left before (Apply theorem args names certs rest) kept s facts goal h =
     let here = Apply theorem args names certs rest in
     let new = (theorem_at before theorem).made in
     let after = with_facts facts (joins_at before here s) in
-    either (λ x. has_well_formed_literals (script_without_certs x)) (is_kept before here s facts (wants before rest (grown s new) after goal)) _ _
-    (literals_left before rest (kept ++ next_objects s new) (grown s new) after goal h)
-    (literals_left before rest kept (grown s new) after goal h)
+    either (λ x. has_well_formed_literals (script_without_certs x)) (is_kept before here s facts (wants before rest (with_sorts s new) after goal)) _ _
+    (literals_left before rest (kept ++ next_objects s new) (with_sorts s new) after goal h)
+    (literals_left before rest kept (with_sorts s new) after goal h)
 literals_left before (Claim shown inner rest) kept s facts goal h =
     let p = and_parts (list_all is_well_formed shown) (has_well_formed_literals inner && has_well_formed_literals rest) h in
     let q = and_parts (has_well_formed_literals inner) (has_well_formed_literals rest) p.1 in
@@ -117,7 +117,7 @@ literals_left before (Superposed superposition names shown certs inner rest) kep
     let r = literals_left before rest kept s (with_facts facts shown) goal q.1 in
     let kind = with_facts facts (superposing.gives_of_superposition superposition s) in
     either (λ x. has_well_formed_literals (script_without_certs x)) (is_kept before (Superposed superposition names shown certs inner rest) s facts (wants before rest s (with_facts facts shown) goal)) _ _
-    (and_from _ _ (well_stay kept shown ∙ p.0) (and_from _ _ (literals_left before inner (kept ++ next_objects s superposing.sorts_copied) (grown s superposing.sorts_copied) kind (goal_of shown) q.0) r)) r
+    (and_from _ _ (well_stay kept shown ∙ p.0) (and_from _ _ (literals_left before inner (kept ++ next_objects s superposing.sorts_copied) (with_sorts s superposing.sorts_copied) kind (goal_of shown) q.0) r)) r
 literals_left before (Qed objects certs) kept s facts goal h = refl
 literals_left before (Contradiction against) kept s facts goal h = refl
 literals_left before (Cases lit first second) kept s facts goal h =
@@ -143,24 +143,24 @@ facts_left before (Hence lit cert rest) kept s facts goal m n y z le h =
     (facts_left before rest kept s (with_fact facts lit) goal m (n + 1) y z (omega (arith, le)) p.1)
 facts_left before (Make construction names certs rest) kept s facts goal m n y z le h =
     let after = with_facts facts (gives_of_construction construction s) in
-    let wide = grown s (sorts_made construction) in
+    let wide = with_sorts s (sorts_made construction) in
     let many = n + length (gives_of_construction construction z) in
     let few = m + length (gives_of_construction (construction_among_kept kept construction) y) in
     let e = gives_count kept construction y z in
-    let p = and_parts (leb many most_facts) (few_facts before many (grown z (sorts_made construction)) (script_without_certs rest)) h in
+    let p = and_parts (leb many most_facts) (few_facts before many (with_sorts z (sorts_made construction)) (script_without_certs rest)) h in
     either (λ x. few_facts before m y (script_without_certs x)) (is_kept before (Make construction names certs rest) s facts (wants before rest wide after goal)) _ _
-    (and_from _ _ (still_few few many most_facts (omega (arith, le, e)) p.0) (facts_left before rest (kept ++ next_objects s (sorts_made construction)) wide after goal few many (grown y (sorts_made construction)) (grown z (sorts_made construction)) (omega (arith, le, e)) p.1))
-    (facts_left before rest kept wide after goal m many y (grown z (sorts_made construction)) (omega (arith, le)) p.1)
+    (and_from _ _ (still_few few many most_facts (omega (arith, le, e)) p.0) (facts_left before rest (kept ++ next_objects s (sorts_made construction)) wide after goal few many (with_sorts y (sorts_made construction)) (with_sorts z (sorts_made construction)) (omega (arith, le, e)) p.1))
+    (facts_left before rest kept wide after goal m many y (with_sorts z (sorts_made construction)) (omega (arith, le)) p.1)
 facts_left before (Apply theorem args names certs rest) kept s facts goal m n y z le h =
     let here = Apply theorem args names certs rest in
     let t = theorem_at before theorem in
     let after = with_facts facts (joins_at before here s) in
-    let wide = grown s t.made in
+    let wide = with_sorts s t.made in
     let many = n + length t.shown in
-    let p = and_parts (leb many most_facts) (few_facts before many (grown z t.made) (script_without_certs rest)) h in
+    let p = and_parts (leb many most_facts) (few_facts before many (with_sorts z t.made) (script_without_certs rest)) h in
     either (λ x. few_facts before m y (script_without_certs x)) (is_kept before here s facts (wants before rest wide after goal)) _ _
-    (and_from _ _ (still_few (m + length t.shown) many most_facts (omega (arith, le)) p.0) (facts_left before rest (kept ++ next_objects s t.made) wide after goal (m + length t.shown) many (grown y t.made) (grown z t.made) (omega (arith, le)) p.1))
-    (facts_left before rest kept wide after goal m many y (grown z t.made) (omega (arith, le)) p.1)
+    (and_from _ _ (still_few (m + length t.shown) many most_facts (omega (arith, le)) p.0) (facts_left before rest (kept ++ next_objects s t.made) wide after goal (m + length t.shown) many (with_sorts y t.made) (with_sorts z t.made) (omega (arith, le)) p.1))
+    (facts_left before rest kept wide after goal m many y (with_sorts z t.made) (omega (arith, le)) p.1)
 facts_left before (Claim shown inner rest) kept s facts goal m n y z le h =
     let many = n + length shown in
     let few = m + length (map (lit_among_kept kept) shown) in
@@ -179,13 +179,13 @@ facts_left before (Superposed superposition names shown certs inner rest) kept s
     let many = n + length shown in
     let few = m + length (map (lit_among_kept kept) shown) in
     let e = length-map shown (lit_among_kept kept) in
-    let o = and_parts (leb given most_facts) (few_facts before given (grown z superposing.sorts_copied) (script_without_certs inner) && (leb many most_facts && few_facts before many z (script_without_certs rest))) h in
-    let p = and_parts (few_facts before given (grown z superposing.sorts_copied) (script_without_certs inner)) (leb many most_facts && few_facts before many z (script_without_certs rest)) o.1 in
+    let o = and_parts (leb given most_facts) (few_facts before given (with_sorts z superposing.sorts_copied) (script_without_certs inner) && (leb many most_facts && few_facts before many z (script_without_certs rest))) h in
+    let p = and_parts (few_facts before given (with_sorts z superposing.sorts_copied) (script_without_certs inner)) (leb many most_facts && few_facts before many z (script_without_certs rest)) o.1 in
     let q = and_parts (leb many most_facts) (few_facts before many z (script_without_certs rest)) p.1 in
     either (λ x. few_facts before m y (script_without_certs x)) (is_kept before (Superposed superposition names shown certs inner rest) s facts (wants before rest s (with_facts facts shown) goal)) _ _
     (and_from _ _ (still_few less given most_facts (omega (arith, le, same)) o.0)
     (and_from _ _
-    (facts_left before inner (kept ++ next_objects s superposing.sorts_copied) (grown s superposing.sorts_copied) kind (goal_of shown) less given (grown y superposing.sorts_copied) (grown z superposing.sorts_copied) (omega (arith, le, same)) p.0)
+    (facts_left before inner (kept ++ next_objects s superposing.sorts_copied) (with_sorts s superposing.sorts_copied) kind (goal_of shown) less given (with_sorts y superposing.sorts_copied) (with_sorts z superposing.sorts_copied) (omega (arith, le, same)) p.0)
     (and_from _ _ (still_few few many most_facts (omega (arith, le, e)) q.0) (facts_left before rest kept s (with_facts facts shown) goal few many y z (omega (arith, le, e)) q.1))))
     (facts_left before rest kept s (with_facts facts shown) goal m many y z (omega (arith, le)) q.1)
 facts_left before (Qed objects certs) kept s facts goal m n y z le h = refl
@@ -215,21 +215,21 @@ terms_left before (Hence lit cert rest) kept s facts goal m n y z le h =
     (terms_left before rest kept s (with_fact facts lit) goal m many y z (omega (arith, le)) p.1)
 terms_left before (Make construction names certs rest) kept s facts goal m n y z le h =
     let after = with_facts facts (gives_of_construction construction s) in
-    let wide = grown s (sorts_made construction) in
+    let wide = with_sorts s (sorts_made construction) in
     either (λ x. few_terms before m y (script_without_certs x)) (is_kept before (Make construction names certs rest) s facts (wants before rest wide after goal)) _ _
-    (terms_left before rest (kept ++ next_objects s (sorts_made construction)) wide after goal m n (grown y (sorts_made construction)) (grown z (sorts_made construction)) le h)
-    (terms_left before rest kept wide after goal m n y (grown z (sorts_made construction)) le h)
+    (terms_left before rest (kept ++ next_objects s (sorts_made construction)) wide after goal m n (with_sorts y (sorts_made construction)) (with_sorts z (sorts_made construction)) le h)
+    (terms_left before rest kept wide after goal m n y (with_sorts z (sorts_made construction)) le h)
 terms_left before (Apply theorem args names certs rest) kept s facts goal m n y z le h =
     let here = Apply theorem args names certs rest in
     let t = theorem_at before theorem in
     let after = with_facts facts (joins_at before here s) in
-    let wide = grown s t.made in
+    let wide = with_sorts s t.made in
     let many = n + count_monomials t.shown in
     let few = m + count_monomials t.shown in
-    let p = and_parts (leb many most_terms) (few_terms before many (grown z t.made) (script_without_certs rest)) h in
+    let p = and_parts (leb many most_terms) (few_terms before many (with_sorts z t.made) (script_without_certs rest)) h in
     either (λ x. few_terms before m y (script_without_certs x)) (is_kept before here s facts (wants before rest wide after goal)) _ _
-    (and_from _ _ (still_few few many most_terms (omega (arith, le)) p.0) (terms_left before rest (kept ++ next_objects s t.made) wide after goal few many (grown y t.made) (grown z t.made) (omega (arith, le)) p.1))
-    (terms_left before rest kept wide after goal m many y (grown z t.made) (omega (arith, le)) p.1)
+    (and_from _ _ (still_few few many most_terms (omega (arith, le)) p.0) (terms_left before rest (kept ++ next_objects s t.made) wide after goal few many (with_sorts y t.made) (with_sorts z t.made) (omega (arith, le)) p.1))
+    (terms_left before rest kept wide after goal m many y (with_sorts z t.made) (omega (arith, le)) p.1)
 terms_left before (Claim shown inner rest) kept s facts goal m n y z le h =
     let many = n + count_monomials shown in
     let few = m + count_monomials (map (lit_among_kept kept) shown) in
@@ -248,13 +248,13 @@ terms_left before (Superposed superposition names shown certs inner rest) kept s
     let many = n + count_monomials shown in
     let few = m + count_monomials (map (lit_among_kept kept) shown) in
     let e = lits_monos kept shown in
-    let o = and_parts (leb given most_terms) (few_terms before given (grown z superposing.sorts_copied) (script_without_certs inner) && (leb many most_terms && few_terms before many z (script_without_certs rest))) h in
-    let p = and_parts (few_terms before given (grown z superposing.sorts_copied) (script_without_certs inner)) (leb many most_terms && few_terms before many z (script_without_certs rest)) o.1 in
+    let o = and_parts (leb given most_terms) (few_terms before given (with_sorts z superposing.sorts_copied) (script_without_certs inner) && (leb many most_terms && few_terms before many z (script_without_certs rest))) h in
+    let p = and_parts (few_terms before given (with_sorts z superposing.sorts_copied) (script_without_certs inner)) (leb many most_terms && few_terms before many z (script_without_certs rest)) o.1 in
     let q = and_parts (leb many most_terms) (few_terms before many z (script_without_certs rest)) p.1 in
     either (λ x. few_terms before m y (script_without_certs x)) (is_kept before (Superposed superposition names shown certs inner rest) s facts (wants before rest s (with_facts facts shown) goal)) _ _
     (and_from _ _ (still_few less given most_terms (omega (arith, le, same)) o.0)
     (and_from _ _
-    (terms_left before inner (kept ++ next_objects s superposing.sorts_copied) (grown s superposing.sorts_copied) kind (goal_of shown) less given (grown y superposing.sorts_copied) (grown z superposing.sorts_copied) (omega (arith, le, same)) p.0)
+    (terms_left before inner (kept ++ next_objects s superposing.sorts_copied) (with_sorts s superposing.sorts_copied) kind (goal_of shown) less given (with_sorts y superposing.sorts_copied) (with_sorts z superposing.sorts_copied) (omega (arith, le, same)) p.0)
     (and_from _ _ (still_few few many most_terms (omega (arith, le, e)) q.0) (terms_left before rest kept s (with_facts facts shown) goal few many y z (omega (arith, le, e)) q.1))))
     (terms_left before rest kept s (with_facts facts shown) goal m many y z (omega (arith, le)) q.1)
 terms_left before (Qed objects certs) kept s facts goal m n y z le h = refl
@@ -281,17 +281,17 @@ blanks_left before (Hence lit cert rest) kept s facts goal h =
     either (λ x. few_blanks (script_without_certs x)) (is_kept before (Hence lit cert rest) s facts (wants before rest s (with_fact facts lit) goal)) _ _ r r
 blanks_left before (Make construction names certs rest) kept s facts goal h =
     let after = with_facts facts (gives_of_construction construction s) in
-    either (λ x. few_blanks (script_without_certs x)) (is_kept before (Make construction names certs rest) s facts (wants before rest (grown s (sorts_made construction)) after goal)) _ _
-    (blanks_left before rest (kept ++ next_objects s (sorts_made construction)) (grown s (sorts_made construction)) after goal h)
-    (blanks_left before rest kept (grown s (sorts_made construction)) after goal h)
+    either (λ x. few_blanks (script_without_certs x)) (is_kept before (Make construction names certs rest) s facts (wants before rest (with_sorts s (sorts_made construction)) after goal)) _ _
+    (blanks_left before rest (kept ++ next_objects s (sorts_made construction)) (with_sorts s (sorts_made construction)) after goal h)
+    (blanks_left before rest kept (with_sorts s (sorts_made construction)) after goal h)
 blanks_left before (Apply theorem args names certs rest) kept s facts goal h =
     let here = Apply theorem args names certs rest in
     let new = (theorem_at before theorem).made in
     let after = with_facts facts (joins_at before here s) in
     let p = and_parts (leb (count_blanks args) most_blanks) (few_blanks (script_without_certs rest)) h in
-    either (λ x. few_blanks (script_without_certs x)) (is_kept before here s facts (wants before rest (grown s new) after goal)) _ _
-    (and_from _ _ (ap (λ (k : ℕ). leb k most_blanks) (blanks_stay kept args) ∙ p.0) (blanks_left before rest (kept ++ next_objects s new) (grown s new) after goal p.1))
-    (blanks_left before rest kept (grown s new) after goal p.1)
+    either (λ x. few_blanks (script_without_certs x)) (is_kept before here s facts (wants before rest (with_sorts s new) after goal)) _ _
+    (and_from _ _ (ap (λ (k : ℕ). leb k most_blanks) (blanks_stay kept args) ∙ p.0) (blanks_left before rest (kept ++ next_objects s new) (with_sorts s new) after goal p.1))
+    (blanks_left before rest kept (with_sorts s new) after goal p.1)
 blanks_left before (Claim shown inner rest) kept s facts goal h =
     let q = and_parts (few_blanks (script_without_certs inner)) (few_blanks (script_without_certs rest)) h in
     let r = blanks_left before rest kept s (with_facts facts shown) goal q.1 in
@@ -301,7 +301,7 @@ blanks_left before (Superposed superposition names shown certs inner rest) kept 
     let r = blanks_left before rest kept s (with_facts facts shown) goal q.1 in
     let kind = with_facts facts (superposing.gives_of_superposition superposition s) in
     either (λ x. few_blanks (script_without_certs x)) (is_kept before (Superposed superposition names shown certs inner rest) s facts (wants before rest s (with_facts facts shown) goal)) _ _
-    (and_from _ _ (blanks_left before inner (kept ++ next_objects s superposing.sorts_copied) (grown s superposing.sorts_copied) kind (goal_of shown) q.0) r) r
+    (and_from _ _ (blanks_left before inner (kept ++ next_objects s superposing.sorts_copied) (with_sorts s superposing.sorts_copied) kind (goal_of shown) q.0) r) r
 blanks_left before (Qed objects certs) kept s facts goal h = refl
 blanks_left before (Contradiction against) kept s facts goal h = refl
 blanks_left before (Cases lit first second) kept s facts goal h =

@@ -10,7 +10,7 @@ use Rattle.e_literal.specs.declared.object.Scope.{Scope}
 use Rattle.e_literal.specs.declared.literal.Lit.{Lit}
 use Rattle.e_literal.specs.Literal.{negation}
 use Rattle.e_literal.specs.Facts.{with_fact, with_facts}
-use Rattle.e_literal.specs.Scopes.{grown, next_objects}
+use Rattle.e_literal.specs.Scopes.{with_sorts, next_objects}
 use Rattle.e_literal.specs.Use.{StatementView}
 use Rattle.e_construct.specs.Construct.{sorts_made, gives_of_construction}
 use Rattle.e_construct.specs.Superposing as superposing
@@ -131,7 +131,7 @@ names_left before (Hence lit cert rest) kept s facts goal less ns f h =
     either (λ x. NewNamesFit before less (script_without_certs x)) (is_kept before (Hence lit cert rest) s facts (wants before rest s (with_fact facts lit) goal)) _ _ r r
 names_left before (Make construction names certs rest) kept s facts goal less ns f h =
     let after = with_facts facts (gives_of_construction construction s) in
-    let wide = grown s (sorts_made construction) in
+    let wide = with_sorts s (sorts_made construction) in
     let both = both_named less ns (sorts_made construction) names f in
     either (λ x. NewNamesFit before less (script_without_certs x)) (is_kept before (Make construction names certs rest) s facts (wants before rest wide after goal)) _ _
     (still_fresh less ns [] names f h.0, h.1, still_few (named less (sorts_made construction) names) (named ns (sorts_made construction) names) both h.2, names_left before rest (kept ++ next_objects s (sorts_made construction)) wide after goal (named less (sorts_made construction) names) (named ns (sorts_made construction) names) both h.3)
@@ -140,7 +140,7 @@ names_left before (Apply theorem args names certs rest) kept s facts goal less n
     let here = Apply theorem args names certs rest in
     let new = (theorem_at before theorem).made in
     let after = with_facts facts (joins_at before here s) in
-    let wide = grown s new in
+    let wide = with_sorts s new in
     let both = both_named less ns new names f in
     either (λ x. NewNamesFit before less (script_without_certs x)) (is_kept before here s facts (wants before rest wide after goal)) _ _
     (still_fresh less ns [] names f h.0, h.1, still_few (named less new names) (named ns new names) both h.2, names_left before rest (kept ++ next_objects s new) wide after goal (named less new names) (named ns new names) both h.3)
@@ -156,7 +156,7 @@ names_left before (Superposed superposition names shown certs inner rest) kept s
       still_fresh less ns [] names f h.0,
       h.1,
       still_few (named less superposing.sorts_copied names) (named ns superposing.sorts_copied names) both h.2,
-      names_left before inner (kept ++ next_objects s superposing.sorts_copied) (grown s superposing.sorts_copied) kind (goal_of shown) (named less superposing.sorts_copied names) (named ns superposing.sorts_copied names) both h.3,
+      names_left before inner (kept ++ next_objects s superposing.sorts_copied) (with_sorts s superposing.sorts_copied) kind (goal_of shown) (named less superposing.sorts_copied names) (named ns superposing.sorts_copied names) both h.3,
       r,
     )
     r

@@ -12,7 +12,7 @@ use Rattle.e_literal.specs.declared.object.Scope.{Scope}
 use Rattle.e_literal.specs.declared.literal.Lit.{Lit}
 use Rattle.e_literal.specs.Literal.{negation}
 use Rattle.e_literal.specs.Facts.{with_fact, with_facts}
-use Rattle.e_literal.specs.Scopes.{grown, next_objects}
+use Rattle.e_literal.specs.Scopes.{with_sorts, next_objects}
 use Rattle.e_literal.specs.Use.{StatementView, scope_of, is_statement}
 use Rattle.e_clause.specs.declared.cert.Version.TheVariants.{One}
 use Rattle.e_construct.specs.Construct.{sorts_made, gives_of_construction}
@@ -37,7 +37,7 @@ use Rattle.e_book.proofs.fit_theorems.Fitting.{small_statement}
 use Rattle.e_book.proofs.fit_theorems.WrittenScripts.{erased_literals, written_well}
 use Rattle.e_read.specs.Text.{at_start, piece_from}
 use Rattle.e_read.proofs.Bridge.{derives}
-use Rattle.e_trim.specs.Trimmed.{declared_of, joins_at, lit_among_kept, is_kept, wants, trimmed_from, trimmed}
+use Rattle.e_trim.specs.Trimmed.{declared_of, joins_at, lit_among_kept, is_kept, wants, trimmed_from, trimmed_script}
 use Rattle.e_trim.proofs.kept_scripts.Shorter.{trimmed_shorter}
 use Rattle.e_trim.proofs.kept_scripts.CertifiedDerivations.{trimmed_certified}
 use Rattle.e_judgement.proofs.WithCertificates.{size_erased}
@@ -61,17 +61,17 @@ theorems_left known before (Hence lit cert rest) kept s facts goal h =
     let r = theorems_left known before rest kept s (with_fact facts lit) goal h in
     either (λ x. names_theorems known (script_without_certs x)) (is_kept before (Hence lit cert rest) s facts (wants before rest s (with_fact facts lit) goal)) _ _ r r
 theorems_left known before (Make construction names certs rest) kept s facts goal h =
-    either (λ x. names_theorems known (script_without_certs x)) (is_kept before (Make construction names certs rest) s facts (wants before rest (grown s (sorts_made construction)) (with_facts facts (gives_of_construction construction s)) goal)) _ _
-    (theorems_left known before rest (kept ++ next_objects s (sorts_made construction)) (grown s (sorts_made construction)) (with_facts facts (gives_of_construction construction s)) goal h)
-    (theorems_left known before rest kept (grown s (sorts_made construction)) (with_facts facts (gives_of_construction construction s)) goal h)
+    either (λ x. names_theorems known (script_without_certs x)) (is_kept before (Make construction names certs rest) s facts (wants before rest (with_sorts s (sorts_made construction)) (with_facts facts (gives_of_construction construction s)) goal)) _ _
+    (theorems_left known before rest (kept ++ next_objects s (sorts_made construction)) (with_sorts s (sorts_made construction)) (with_facts facts (gives_of_construction construction s)) goal h)
+    (theorems_left known before rest kept (with_sorts s (sorts_made construction)) (with_facts facts (gives_of_construction construction s)) goal h)
 theorems_left known before (Apply theorem args names certs rest) kept s facts goal h =
     let here = Apply theorem args names certs rest in
     let new = (theorem_at before theorem).made in
     let p = and_parts (is_named_by_title known theorem) (names_theorems known (script_without_certs rest)) h in
     let after = with_facts facts (joins_at before here s) in
-    either (λ x. names_theorems known (script_without_certs x)) (is_kept before here s facts (wants before rest (grown s new) after goal)) _ _
-    (and_from (is_named_by_title known theorem) _ p.0 (theorems_left known before rest (kept ++ next_objects s new) (grown s new) after goal p.1))
-    (theorems_left known before rest kept (grown s new) after goal p.1)
+    either (λ x. names_theorems known (script_without_certs x)) (is_kept before here s facts (wants before rest (with_sorts s new) after goal)) _ _
+    (and_from (is_named_by_title known theorem) _ p.0 (theorems_left known before rest (kept ++ next_objects s new) (with_sorts s new) after goal p.1))
+    (theorems_left known before rest kept (with_sorts s new) after goal p.1)
 theorems_left known before (Claim shown inner rest) kept s facts goal h =
     let p = and_parts (names_theorems known (script_without_certs inner)) (names_theorems known (script_without_certs rest)) h in
     let r = theorems_left known before rest kept s (with_facts facts shown) goal p.1 in
@@ -81,7 +81,7 @@ theorems_left known before (Superposed superposition names shown certs inner res
     let p = and_parts (names_theorems known (script_without_certs inner)) (names_theorems known (script_without_certs rest)) h in
     let r = theorems_left known before rest kept s (with_facts facts shown) goal p.1 in
     either (λ x. names_theorems known (script_without_certs x)) (is_kept before (Superposed superposition names shown certs inner rest) s facts (wants before rest s (with_facts facts shown) goal)) _ _
-    (and_from _ _ (theorems_left known before inner (kept ++ next_objects s superposing.sorts_copied) (grown s superposing.sorts_copied) (with_facts facts (superposing.gives_of_superposition superposition s)) (goal_of shown) p.0) r) r
+    (and_from _ _ (theorems_left known before inner (kept ++ next_objects s superposing.sorts_copied) (with_sorts s superposing.sorts_copied) (with_facts facts (superposing.gives_of_superposition superposition s)) (goal_of shown) p.0) r) r
 theorems_left known before (Qed objects certs) kept s facts goal h = refl
 theorems_left known before (Contradiction against) kept s facts goal h = refl
 theorems_left known before (Cases lit first second) kept s facts goal h =
@@ -105,17 +105,17 @@ plain_left before (Hence lit cert rest) kept s facts goal h =
 plain_left before (Make construction names certs rest) kept s facts goal h =
     let p = and_parts (list_all is_name names) (is_plain (script_without_certs rest)) h in
     let after = with_facts facts (gives_of_construction construction s) in
-    either (λ x. is_plain (script_without_certs x)) (is_kept before (Make construction names certs rest) s facts (wants before rest (grown s (sorts_made construction)) after goal)) _ _
-    (and_from (list_all is_name names) _ p.0 (plain_left before rest (kept ++ next_objects s (sorts_made construction)) (grown s (sorts_made construction)) after goal p.1))
-    (plain_left before rest kept (grown s (sorts_made construction)) after goal p.1)
+    either (λ x. is_plain (script_without_certs x)) (is_kept before (Make construction names certs rest) s facts (wants before rest (with_sorts s (sorts_made construction)) after goal)) _ _
+    (and_from (list_all is_name names) _ p.0 (plain_left before rest (kept ++ next_objects s (sorts_made construction)) (with_sorts s (sorts_made construction)) after goal p.1))
+    (plain_left before rest kept (with_sorts s (sorts_made construction)) after goal p.1)
 plain_left before (Apply theorem args names certs rest) kept s facts goal h =
     let here = Apply theorem args names certs rest in
     let new = (theorem_at before theorem).made in
     let p = and_parts (list_all is_name names) (is_plain (script_without_certs rest)) h in
     let after = with_facts facts (joins_at before here s) in
-    either (λ x. is_plain (script_without_certs x)) (is_kept before here s facts (wants before rest (grown s new) after goal)) _ _
-    (and_from (list_all is_name names) _ p.0 (plain_left before rest (kept ++ next_objects s new) (grown s new) after goal p.1))
-    (plain_left before rest kept (grown s new) after goal p.1)
+    either (λ x. is_plain (script_without_certs x)) (is_kept before here s facts (wants before rest (with_sorts s new) after goal)) _ _
+    (and_from (list_all is_name names) _ p.0 (plain_left before rest (kept ++ next_objects s new) (with_sorts s new) after goal p.1))
+    (plain_left before rest kept (with_sorts s new) after goal p.1)
 plain_left before (Claim shown inner rest) kept s facts goal h =
     let p = and_parts (nat_lt 0 (length shown)) (is_plain (script_without_certs inner) && is_plain (script_without_certs rest)) h in
     let q = and_parts (is_plain (script_without_certs inner)) (is_plain (script_without_certs rest)) p.1 in
@@ -129,7 +129,7 @@ plain_left before (Superposed superposition names shown certs inner rest) kept s
     let r = plain_left before rest kept s (with_facts facts shown) goal q.1 in
     let kind = with_facts facts (superposing.gives_of_superposition superposition s) in
     either (λ x. is_plain (script_without_certs x)) (is_kept before (Superposed superposition names shown certs inner rest) s facts (wants before rest s (with_facts facts shown) goal)) _ _
-    (and_from (list_all is_name names) _ o.0 (and_from _ _ (some_left kept shown p.0) (and_from _ _ (plain_left before inner (kept ++ next_objects s superposing.sorts_copied) (grown s superposing.sorts_copied) kind (goal_of shown) q.0) r))) r
+    (and_from (list_all is_name names) _ o.0 (and_from _ _ (some_left kept shown p.0) (and_from _ _ (plain_left before inner (kept ++ next_objects s superposing.sorts_copied) (with_sorts s superposing.sorts_copied) kind (goal_of shown) q.0) r))) r
 plain_left before (Qed objects certs) kept s facts goal h = refl
 plain_left before (Contradiction against) kept s facts goal h = refl
 plain_left before (Cases lit first second) kept s facts goal h =
@@ -146,7 +146,7 @@ states : (known : List TitledStatement) (t : TheoremView) → HasSpelling known 
 states known t h = (and_parts (is_statement (stated t.statement)) (is_small (all_objects (stated t.statement))) (small_statement known (record t { script = script_without_certs t.script }) h.fits)).0
 
 abbrev left_of : List TitledStatement → TheoremView → Script
-left_of known t = trimmed (stated_by known) (stated t.statement) t.script
+left_of known t = trimmed_script (stated_by known) (stated t.statement) t.script
 
 trimmed_fits : (known : List TitledStatement) (t : TheoremView) → Fits known (record t { script = script_without_certs t.script }) → has_well_formed_literals t.script ≡ true → Certified (stated_by known) (stated t.statement) (left_of known t) → Fits known (record t { script = script_without_certs (left_of known t) })
 trimmed_fits known t h good c =

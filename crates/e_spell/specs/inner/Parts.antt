@@ -33,7 +33,7 @@ use Rattle.e_theorem.specs.declared.statement.Statement.{Statement}
 use Rattle.e_line.specs.declared.raw_line.RawLine.{RawLine}
 use Rattle.e_names.specs.TitledStatements.{TitledStatement, theorem_of}
 use Rattle.e_book.specs.TheoremViews.{TheoremView}
-use Rattle.e_text.specs.Tokens.{spaced}
+use Rattle.e_text.specs.Tokens.{with_spaces}
 use Rattle.e_line.specs.Canonical.{lit_words, sort_word, line_of}
 use Rattle.e_names.specs.Canonical.{raw_of, rule_name, name_of_object, by_raw_line, hence_raw_line}
 use Rattle.e_names.specs.Canonical.{let_raw_line, apply_raw_line, claim_raw_line}
@@ -47,14 +47,14 @@ use Rattle.e_spell.specs.Spelling.{wanted_words, script_lines}
 
 -- a literal after the first word of its line
 abbrev pub lit_text : List ℕ → Names → Lit → List ℕ
-lit_text word ns l = word ++ (spaced (lit_words (raw_of ns l)) ++ 10 ∷ [])
+lit_text word ns l = word ++ (with_spaces (lit_words (raw_of ns l)) ++ 10 ∷ [])
 
 abbrev pub lits_text : List ℕ → Names → List Lit → List ℕ
 lits_text word ns ls = flat_map (lit_text word ns) ls
 
 -- a line of these words after the sign `|`
 abbrev pub bar_text : List (List ℕ) → List ℕ
-bar_text ws = codes "|" ++ (spaced ws ++ 10 ∷ [])
+bar_text ws = codes "|" ++ (with_spaces ws ++ 10 ∷ [])
 
 abbrev pub row_text : Names → ℤ × RowName → List ℕ
 row_text ns r = bar_text (signed_decimal r.0 ∷ row_words ns r.1)
@@ -183,20 +183,20 @@ role_words Made s = codes "made" ++ 32 ∷ sort_word s
 
 -- what comes before the name of an object, by the sort of the object before it: nothing on a line
 -- of that sort
-abbrev pub opening : Role → Option Sort → Sort → List ℕ
-opening role None s = role_words role s
-opening role (Some t) s = if same_sort t s then [] else 10 ∷ role_words role s
+abbrev pub before_name : Role → Option Sort → Sort → List ℕ
+before_name role None s = role_words role s
+before_name role (Some t) s = if same_sort t s then [] else 10 ∷ role_words role s
 
 -- the end of the last line, where there is one
-abbrev pub closing : Option Sort → List ℕ
-closing None = []
-closing (Some t) = 10 ∷ []
+abbrev pub last_line_end : Option Sort → List ℕ
+last_line_end None = []
+last_line_end (Some t) = 10 ∷ []
 
 -- the lines of these objects, after an object of this sort
 abbrev pub objects_rest : Role → Names → Option Sort → List Obj → List ℕ
-objects_rest role ns last [] = closing last
+objects_rest role ns last [] = last_line_end last
 objects_rest role ns last (o ∷ os) =
-    (opening role last o.sort ++ 32 ∷ name_of_object ns o) ++ objects_rest role ns (Some o.sort) os
+    (before_name role last o.sort ++ 32 ∷ name_of_object ns o) ++ objects_rest role ns (Some o.sort) os
 
 abbrev pub objects_text : Role → Names → List Obj → List ℕ
 objects_text role ns os = objects_rest role ns None os
@@ -221,7 +221,7 @@ theorem_text known t d =
 
 -- what happened at a line of a theorem
 abbrev pub place_line : List ℕ → List ℕ → ℕ → List ℕ
-place_line what title step = what ++ (spaced (title ∷ decimal step ∷ []) ++ 10 ∷ [])
+place_line what title step = what ++ (with_spaces (title ∷ decimal step ∷ []) ++ 10 ∷ [])
 
 abbrev pub wanted_line : Names → Wanted → List ℕ
 wanted_line ns wanted = bar_text (codes "wanted" ∷ wanted_words ns wanted)

@@ -6,7 +6,7 @@ use Rattle.e_literal.specs.declared.object.Obj.{Obj}
 use Rattle.e_literal.specs.declared.object.Scope.{Scope}
 use Rattle.e_literal.specs.declared.literal.Lit.{Lit}
 use Rattle.e_literal.specs.Literal.{count_of, is_in_scope, all_in_scope, objects_of_atom}
-use Rattle.e_literal.specs.Scopes.{nothing, grown, next_objects}
+use Rattle.e_literal.specs.Scopes.{nothing, with_sorts, next_objects}
 use Rattle.e_literal.specs.Rename.{same_obj}
 use Rattle.e_literal.specs.Facts.{with_facts}
 use Rattle.e_literal.specs.WellFormed.{is_well_formed}
@@ -89,9 +89,9 @@ given_speaks t (l ∷ ls) h =
 
 pub apply_goes : (before : List StatementView) → list_all is_statement before ≡ true → (kept : List Obj) (s : Scope) (facts : List Lit) (goal : Goal) (theorem : ℕ) (args : List (Option Obj)) (names : List (List ℕ)) (certs : List Cert) (rest : Script)
     → list_all (is_cert_of version.One) certs ≡ true → is_certified before (as_step (Apply theorem args names certs rest) s facts goal) ≡ true
-    → ((more : List Obj) → Goes before more (grown s (theorem_at before theorem).made) (with_facts facts (joins_at before (Apply theorem args names certs rest) s)) goal
-    (wants before rest (grown s (theorem_at before theorem).made) (with_facts facts (joins_at before (Apply theorem args names certs rest) s)) goal)
-    (trimmed_from before more rest (grown s (theorem_at before theorem).made) (with_facts facts (joins_at before (Apply theorem args names certs rest) s)) goal))
+    → ((more : List Obj) → Goes before more (with_sorts s (theorem_at before theorem).made) (with_facts facts (joins_at before (Apply theorem args names certs rest) s)) goal
+    (wants before rest (with_sorts s (theorem_at before theorem).made) (with_facts facts (joins_at before (Apply theorem args names certs rest) s)) goal)
+    (trimmed_from before more rest (with_sorts s (theorem_at before theorem).made) (with_facts facts (joins_at before (Apply theorem args names certs rest) s)) goal))
     → Goes before kept s facts goal (wants before (Apply theorem args names certs rest) s facts goal) (trimmed_from before kept (Apply theorem args names certs rest) s facts goal)
 unfolding wants trimmed_from placed_steps
 apply_goes before st kept s facts goal theorem args names certs rest v h more now goal' r = by (is_kept before here s facts w) refl r
@@ -118,22 +118,22 @@ apply_goes before st kept s facts goal theorem args names certs rest v h more no
     after = with_facts facts given
 
     w : Wants
-    w = wants before rest (grown s th.made) after goal
+    w = wants before rest (with_sorts s th.made) after goal
 
     own : Wants
     own = of_step before (as_step here s facts goal)
 
     t : Script
-    t = trimmed_from before wide rest (grown s th.made) after goal
+    t = trimmed_from before wide rest (with_sorts s th.made) after goal
 
     states : is_statement th ≡ true
     states = theorem_states before theorem st
 
-    halves : (list_all (λ (l : Lit). is_well_formed l && all_in_scope (scope_of th) l) th.given ≡ true) × (list_all (λ (l : Lit). is_well_formed l && all_in_scope (grown (scope_of th) th.made) l) th.shown ≡ true)
-    halves = and_parts (list_all (λ (l : Lit). is_well_formed l && all_in_scope (scope_of th) l) th.given) (list_all (λ (l : Lit). is_well_formed l && all_in_scope (grown (scope_of th) th.made) l) th.shown) states
+    halves : (list_all (λ (l : Lit). is_well_formed l && all_in_scope (scope_of th) l) th.given ≡ true) × (list_all (λ (l : Lit). is_well_formed l && all_in_scope (with_sorts (scope_of th) th.made) l) th.shown ≡ true)
+    halves = and_parts (list_all (λ (l : Lit). is_well_formed l && all_in_scope (scope_of th) l) th.given) (list_all (λ (l : Lit). is_well_formed l && all_in_scope (with_sorts (scope_of th) th.made) l) th.shown) states
 
     by : (b : Bool) → is_kept before here s facts w ≡ b → Ready kept s facts now goal goal' (cond b (both w (both own no_wants)) w)
-        → certified_from before (cond b (Apply theorem (args_at kept args) names (map (cert_at kept) certs) t) (trimmed_from before kept rest (grown s th.made) after goal)) (scope_kept kept) now goal' ≡ true
+        → certified_from before (cond b (Apply theorem (args_at kept args) names (map (cert_at kept) certs) t) (trimmed_from before kept rest (with_sorts s th.made) after goal)) (scope_kept kept) now goal' ≡ true
     by true e k =
         let line_ready = first kept s facts now goal goal' own no_wants (second kept s facts now goal goal' w (both own no_wants) k) in
         let looked = of_certs facts needs certs in
@@ -155,7 +155,7 @@ apply_goes before st kept s facts goal theorem args names certs rest v h more no
         = needs_declared th os' (scope_kept kept) states fit' ∙ at_vars kept vars os th.given z speaks ∙ ap (map (lit_among_kept kept)) (sym needs_is) in
         let over : OverLits kept needs = subst (OverLits kept) (sym needs_is) (vars_over kept vars os th.given z speaks objects) in
         let done = certs_stay kept s facts now own.lits needs certs v line_ready.stays over own_certs q.0 in
-        let shown_scope = good_scope (grown (scope_of th) th.made) th.shown halves.1 in
+        let shown_scope = good_scope (with_sorts (scope_of th) th.made) th.shown halves.1 in
         let gives_move : gives_of_use th os' (scope_kept kept) ≡ map (lit_among_kept wide) given = use_at kept th s os th.shown line_ready.bound objects fit shown_scope in
         let targets_kept : AllKept wide (targets th os s)
         = λ o i. elim (in_either o os (next_objects s th.made) i) [ inl j ↦ in_left o kept (next_objects s th.made) (objects o j) | inr j ↦ in_right o kept (next_objects s th.made) j ] in

@@ -10,7 +10,7 @@ use Rattle.e_literal.specs.declared.object.Scope.{Scope}
 use Rattle.e_literal.specs.declared.object.Sort.{Sort}
 use Rattle.e_literal.specs.declared.literal.Lit.{Lit}
 use Rattle.e_literal.specs.Literal.{negation, count_of, is_in_scope, all_in_scope}
-use Rattle.e_literal.specs.Scopes.{grown, next_objects}
+use Rattle.e_literal.specs.Scopes.{with_sorts, next_objects}
 use Rattle.e_literal.specs.Facts.{has, has_all, others, with_facts}
 use Rattle.e_literal.specs.Rename.{same_obj}
 use Rattle.e_literal.proofs.Sorts.{same_obj_self}
@@ -115,7 +115,7 @@ pub record Ready (kept : List Obj) (s : Scope) (facts now : List Lit) (goal goal
 -- ---- more objects
 
 -- the goal goes on where objects come that are kept
-pub goal_grows : (kept : List Obj) (s : Scope) (xs : List Sort) (goal now : Goal) → Bound s kept → GoalGoes kept s goal now → GoalGoes (kept ++ next_objects s xs) (grown s xs) goal now
+pub goal_grows : (kept : List Obj) (s : Scope) (xs : List Sort) (goal now : Goal) → Bound s kept → GoalGoes kept s goal now → GoalGoes (kept ++ next_objects s xs) (with_sorts s xs) goal now
 goal_grows kept s xs goal now b (inl g) =
     inl (record { shown = g.shown; before = g.before; after = g.after ∙ ap goal_of (old_lits kept s xs g.shown b g.over); over = λ l i. over_more kept (next_objects s xs) l (g.over l i) })
   where
@@ -138,7 +138,7 @@ goal_grows kept s xs goal now b (inr g) = inr (record {
 })
 
 -- and where objects come that are not
-pub goal_widens : (kept : List Obj) (s : Scope) (xs : List Sort) (goal now : Goal) → GoalGoes kept s goal now → GoalGoes kept (grown s xs) goal now
+pub goal_widens : (kept : List Obj) (s : Scope) (xs : List Sort) (goal now : Goal) → GoalGoes kept s goal now → GoalGoes kept (with_sorts s xs) goal now
 goal_widens kept s xs goal now (inl g) = inl g
 goal_widens kept s xs goal now (inr g) = inr (record {
   statement = g.statement;
@@ -153,12 +153,12 @@ goal_widens kept s xs goal now (inr g) = inr (record {
 
 -- a kept step that makes objects: what it gives joins on both sides, over the new objects too
 pub made_ready : (kept : List Obj) (s : Scope) (xs : List Sort) (facts now ls : List Lit) (goal goal' : Goal) (w : Wants) → OverLits (kept ++ next_objects s xs) ls → Ready kept s facts now goal goal' w
-    → Ready (kept ++ next_objects s xs) (grown s xs) (with_facts facts ls) (with_facts now (map (lit_among_kept (kept ++ next_objects s xs)) ls)) goal goal' w
+    → Ready (kept ++ next_objects s xs) (with_sorts s xs) (with_facts facts ls) (with_facts now (map (lit_among_kept (kept ++ next_objects s xs)) ls)) goal goal' w
 made_ready kept s xs facts now ls goal goal' w o r = record {
   stays = joins_all (kept ++ next_objects s xs) facts now w.lits ls o (comes kept s xs facts now w.lits r.bound r.stays);
   needed = λ x i h. elim (cases_lt x.num (count_of s x.sort)) [
     | inl l ↦ in_left x kept (next_objects s xs) (r.needed x i (lt-ltb x.num (count_of s x.sort) l))
-    | inr l ↦ in_right x kept (next_objects s xs) (next_in s xs x l (ltb-true x.num (count_of (grown s xs) x.sort) h))
+    | inr l ↦ in_right x kept (next_objects s xs) (next_in s xs x l (ltb-true x.num (count_of (with_sorts s xs) x.sort) h))
   ];
   bound = bound_more s kept xs r.bound;
   goes = goal_grows kept s xs goal goal' r.bound r.goes;
@@ -166,12 +166,12 @@ made_ready kept s xs facts now ls goal goal' w o r = record {
 
 -- a dropped step: none of its objects is needed, and none of its literals looked up
 pub unmade_ready : (kept : List Obj) (s : Scope) (xs : List Sort) (facts now ls : List Lit) (goal goal' : Goal) (w : Wants) → list_any (supplies facts w) ls ≡ false → list_any (is_needed w) (next_objects s xs) ≡ false
-    → Ready kept s facts now goal goal' w → Ready kept (grown s xs) (with_facts facts ls) now goal goal' w
+    → Ready kept s facts now goal goal' w → Ready kept (with_sorts s xs) (with_facts facts ls) now goal goal' w
 unmade_ready kept s xs facts now ls goal goal' w e n r = record {
   stays = dropped_all kept facts now w ls e r.stays;
   needed = λ x i h. elim (cases_lt x.num (count_of s x.sort)) [
     | inl l ↦ r.needed x i (lt-ltb x.num (count_of s x.sort) l)
-    | inr l ↦ absurd (true≢false (sym (any_in (is_needed w) x (next_objects s xs) (next_in s xs x l (ltb-true x.num (count_of (grown s xs) x.sort) h)) (any_in (same_obj x) x w.objects i (same_obj_self x))) ∙ n))
+    | inr l ↦ absurd (true≢false (sym (any_in (is_needed w) x (next_objects s xs) (next_in s xs x l (ltb-true x.num (count_of (with_sorts s xs) x.sort) h)) (any_in (same_obj x) x w.objects i (same_obj_self x))) ∙ n))
   ];
   bound = bound_wide s kept xs r.bound;
   goes = goal_widens kept s xs goal goal' r.goes;

@@ -10,7 +10,7 @@ use Rattle.e_literal.specs.declared.object.Scope.{Scope}
 use Rattle.e_literal.specs.declared.object.Sort.{Sort}
 use Rattle.e_literal.specs.declared.literal.Lit.{Lit}
 use Rattle.e_literal.specs.Literal.{obj, count_of, is_in_scope, all_in_scope, objects_of_atom}
-use Rattle.e_literal.specs.Scopes.{same_sort, nothing, with_one, grown, next_objects, are_of_sorts}
+use Rattle.e_literal.specs.Scopes.{same_sort, nothing, with_one, with_sorts, next_objects, are_of_sorts}
 use Rattle.e_literal.specs.Rename.{with_images, number_at, image_in, pairs_of}
 use Rattle.e_literal.specs.WellFormed.{is_well_formed}
 use Rattle.e_literal.specs.Use.{StatementView, scope_of, is_statement}
@@ -40,7 +40,7 @@ use Rattle.e_trim.proofs.kept_scripts.TrimmedScripts.{Goes, covered}
 
 -- ---- declared objects keep their numbers
 
-own_number : (b : Scope) (xs : List Sort) (sort : Sort) (n : ℕ) → count_of b sort ≤ n → n ≤ count_of (grown b xs) sort → kept_before (next_objects b xs) sort n + count_of b sort ≡ n
+own_number : (b : Scope) (xs : List Sort) (sort : Sort) (n : ℕ) → count_of b sort ≤ n → n ≤ count_of (with_sorts b xs) sort → kept_before (next_objects b xs) sort n + count_of b sort ≡ n
 own_number b [] sort n h k = omega (arith, h, k)
 own_number b (x ∷ xs) sort n h k = elim (cases_Bool (same_sort x sort)) [
   | inr f ↦
@@ -97,7 +97,7 @@ shown_holds kept s [] shown o h k = (refl, unmoved (map (lit_among_kept kept) sh
 shown_holds kept s (x ∷ os) shown o h k = absurd (true≢false (sym h))
 
 -- the object is made, or declared
-made_or_declared : (t : StatementView) (os : List Obj) (o : Obj) → sorts (next_objects (scope_of t) t.made) ≡ sorts os → is_in_scope (grown (scope_of t) t.made) o ≡ true
+made_or_declared : (t : StatementView) (os : List Obj) (o : Obj) → sorts (next_objects (scope_of t) t.made) ≡ sorts os → is_in_scope (with_sorts (scope_of t) t.made) o ≡ true
     → ((y : Obj) × (image_in (pairs_of (next_objects (scope_of t) t.made) os) o ≡ Some y)) ⊎ ((image_in (pairs_of (next_objects (scope_of t) t.made) os) o ≡ None) × (o.num < count_of (scope_of t) o.sort))
 made_or_declared t os o z h = by (image_in (pairs_of (next_objects (scope_of t) t.made) os) o) refl
   where
@@ -108,12 +108,12 @@ made_or_declared t os o z h = by (image_in (pairs_of (next_objects (scope_of t) 
       e,
       elim (cases_lt o.num (count_of (scope_of t) o.sort)) [
         | inl l ↦ l
-        | inr l ↦ absurd (true≢false (sym (var_image (next_objects (scope_of t) t.made) os o z (next_member (scope_of t) t.made o l (ltb-true o.num (count_of (grown (scope_of t) t.made) o.sort) h))) ∙ ap is_some e))
+        | inr l ↦ absurd (true≢false (sym (var_image (next_objects (scope_of t) t.made) os o z (next_member (scope_of t) t.made o l (ltb-true o.num (count_of (with_sorts (scope_of t) t.made) o.sort) h))) ∙ ap is_some e))
       ],
     )
 
 number_goes : (kept : List Obj) (t : StatementView) (more os : List Obj) (o : Obj) → kept ≡ declared_of t ++ more → ((k : Obj) → In k more → count_of (scope_of t) k.sort ≤ k.num) → sorts (next_objects (scope_of t) t.made) ≡ sorts os
-    → is_in_scope (grown (scope_of t) t.made) o ≡ true
+    → is_in_scope (with_sorts (scope_of t) t.made) o ≡ true
     → number_at (image_in (pairs_of (next_objects (scope_of t) t.made) (map (obj_at kept) os))) o.sort o.num ≡ kept_before kept o.sort (number_at (image_in (pairs_of (next_objects (scope_of t) t.made) os)) o.sort o.num)
 number_goes kept t more os o first above z h = elim (made_or_declared t os o z h) [
   | inl y ↦ number_moves kept (next_objects (scope_of t) t.made) os o z (ap is_some y.1)
@@ -124,37 +124,37 @@ number_goes kept t more os o first above z h = elim (made_or_declared t os o z h
 ]
 
 shown_move : (kept : List Obj) (t : StatementView) (more os : List Obj) (ls : List Lit) → kept ≡ declared_of t ++ more → ((k : Obj) → In k more → count_of (scope_of t) k.sort ≤ k.num) → sorts (next_objects (scope_of t) t.made) ≡ sorts os
-    → list_all (λ (l : Lit). is_well_formed l && all_in_scope (grown (scope_of t) t.made) l) ls ≡ true
+    → list_all (λ (l : Lit). is_well_formed l && all_in_scope (with_sorts (scope_of t) t.made) l) ls ≡ true
     → map (with_images (image_in (pairs_of (next_objects (scope_of t) t.made) (map (obj_at kept) os)))) ls ≡ map (lit_among_kept kept) (map (with_images (image_in (pairs_of (next_objects (scope_of t) t.made) os))) ls)
 shown_move kept t more os [] first above z h = refl
 shown_move kept t more os (l ∷ ls) first above z h =
     let made = next_objects (scope_of t) t.made in
-    let p = and_parts (is_well_formed l && all_in_scope (grown (scope_of t) t.made) l) (list_all (λ (x : Lit). is_well_formed x && all_in_scope (grown (scope_of t) t.made) x) ls) h in
-    let q = and_parts (is_well_formed l) (all_in_scope (grown (scope_of t) t.made) l) p.0 in
+    let p = and_parts (is_well_formed l && all_in_scope (with_sorts (scope_of t) t.made) l) (list_all (λ (x : Lit). is_well_formed x && all_in_scope (with_sorts (scope_of t) t.made) x) ls) h in
+    let q = and_parts (is_well_formed l) (all_in_scope (with_sorts (scope_of t) t.made) l) p.0 in
     let one = ap (λ a. record { neg = l.neg; atom = a }) (moved_atom kept (number_at (image_in (pairs_of made os))) (number_at (image_in (pairs_of made (map (obj_at kept) os)))) l.atom
-    (λ o i. number_goes kept t more os o first above z (all_in (is_in_scope (grown (scope_of t) t.made)) (objects_of_atom l.atom) o q.1 i))) in
+    (λ o i. number_goes kept t more os o first above z (all_in (is_in_scope (with_sorts (scope_of t) t.made)) (objects_of_atom l.atom) o q.1 i))) in
     ap (λ x. x ∷ map (with_images (image_in (pairs_of made (map (obj_at kept) os)))) ls) one ∙ ap (λ xs. lit_among_kept kept (with_images (image_in (pairs_of made os)) l) ∷ xs) (shown_move kept t more os ls first above z p.1)
 
 shown_over : (kept : List Obj) (t : StatementView) (more os : List Obj) (ls : List Lit) → kept ≡ declared_of t ++ more → AllKept kept os → sorts (next_objects (scope_of t) t.made) ≡ sorts os
-    → list_all (λ (l : Lit). is_well_formed l && all_in_scope (grown (scope_of t) t.made) l) ls ≡ true → OverLits kept (map (with_images (image_in (pairs_of (next_objects (scope_of t) t.made) os))) ls)
+    → list_all (λ (l : Lit). is_well_formed l && all_in_scope (with_sorts (scope_of t) t.made) l) ls ≡ true → OverLits kept (map (with_images (image_in (pairs_of (next_objects (scope_of t) t.made) os))) ls)
 shown_over kept t more os [] first k z h m i = absurd i
 shown_over kept t more os (l ∷ ls) first k z h m (inr i) =
-    let p = and_parts (is_well_formed l && all_in_scope (grown (scope_of t) t.made) l) (list_all (λ (x : Lit). is_well_formed x && all_in_scope (grown (scope_of t) t.made) x) ls) h in
+    let p = and_parts (is_well_formed l && all_in_scope (with_sorts (scope_of t) t.made) l) (list_all (λ (x : Lit). is_well_formed x && all_in_scope (with_sorts (scope_of t) t.made) x) ls) h in
     shown_over kept t more os ls first k z p.1 m i
 shown_over kept t more os (l ∷ ls) first k z h m (inl e) = subst (OverLit kept) e one
   where
     made : List Obj
     made = next_objects (scope_of t) t.made
 
-    scoped : all_in_scope (grown (scope_of t) t.made) l ≡ true
+    scoped : all_in_scope (with_sorts (scope_of t) t.made) l ≡ true
     scoped =
-        let p = and_parts (is_well_formed l && all_in_scope (grown (scope_of t) t.made) l) (list_all (λ (x : Lit). is_well_formed x && all_in_scope (grown (scope_of t) t.made) x) ls) h in
-        (and_parts (is_well_formed l) (all_in_scope (grown (scope_of t) t.made) l) p.0).1
+        let p = and_parts (is_well_formed l && all_in_scope (with_sorts (scope_of t) t.made) l) (list_all (λ (x : Lit). is_well_formed x && all_in_scope (with_sorts (scope_of t) t.made) x) ls) h in
+        (and_parts (is_well_formed l) (all_in_scope (with_sorts (scope_of t) t.made) l) p.0).1
 
     one : OverLit kept (with_images (image_in (pairs_of made os)) l)
     one x i =
         let o = object_from (number_at (image_in (pairs_of made os))) l.atom x i in
-        elim (made_or_declared t os o.0 z (all_in (is_in_scope (grown (scope_of t) t.made)) (objects_of_atom l.atom) o.0 scoped o.1)) [
+        elim (made_or_declared t os o.0 z (all_in (is_in_scope (with_sorts (scope_of t) t.made)) (objects_of_atom l.atom) o.0 scoped o.1)) [
           | inl y ↦
               let sort = image_sort made os o.0 y.0 z y.1 in
               let num = ap (λ w. option_map_or (λ (v : Obj). v.num) w o.0.num) y.1 in
@@ -171,7 +171,7 @@ statement_holds : (kept : List Obj) (s : Scope) (os : List Obj) (t : StatementVi
 statement_holds kept s os t more first above good h k =
     let made = next_objects (scope_of t) t.made in
     let z = sorts_are s (sorts made) os h in
-    let shown = (and_parts (list_all (λ (l : Lit). is_well_formed l && all_in_scope (scope_of t) l) t.given) (list_all (λ (l : Lit). is_well_formed l && all_in_scope (grown (scope_of t) t.made) l) t.shown) good).1 in
+    let shown = (and_parts (list_all (λ (l : Lit). is_well_formed l && all_in_scope (scope_of t) l) t.given) (list_all (λ (l : Lit). is_well_formed l && all_in_scope (with_sorts (scope_of t) t.made) l) t.shown) good).1 in
     (of_sorts_at kept s (sorts made) os h k, shown_move kept t more os t.shown first above z shown, shown_over kept t more os t.shown first k z shown)
 
 pub goal_holds : (kept : List Obj) (s : Scope) (os : List Obj) (goal now : Goal) → GoalGoes kept s goal now → Holds kept s os goal now

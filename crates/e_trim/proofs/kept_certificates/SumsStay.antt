@@ -23,7 +23,7 @@ use Rattle.e_clause.specs.declared.cert.Version.TheVariants as version
 use Rattle.e_clause.specs.Versions.{is_name_of, is_sum_of, are_sums_of}
 use Rattle.e_clause.specs.System.{pos_row, top_row, right_row, least_row}
 use Rattle.e_clause.specs.Sum.{Place, is_step_term, fact_row, goal_row, says_differ, unless_not, row_named, weighed_rows, is_nonzero_bounded, is_limited_sum, refutes}
-use Rattle.e_clause.specs.MetricCertificate.{differing_of, differing, above_row, below_row, both_refute, sums_refute}
+use Rattle.e_clause.specs.MetricCertificate.{differing_of, differing_row, above_row, below_row, both_refute, sums_refute}
 use Rattle.e_trim.specs.Looked.{Wants, both, wanted_lits, first_that, parts_ends, of_term, of_row, of_sum, of_sums}
 use Rattle.e_trim.specs.Trimmed as trimmed
 use Rattle.e_trim.specs.Trimmed.{kept_before, lit_among_kept, sum_at, sums_at}
@@ -226,7 +226,7 @@ differing_of_moves kept facts now looked wanted (FactAt k) v st g c = absurd (tr
 differing_of_moves kept facts now looked wanted name v st g c = λ x e. none_some x e
 
 differing_moves : (kept : List Obj) (facts now looked : List Lit) (wanted : Option Lit) (name : RowName) → is_name_of version.One name ≡ true → Stays kept facts now looked → ((l : Lit) → wanted ≡ Some l → OverLit kept l)
-    → Covered kept looked (of_row facts wanted name) → Moves kept (differing facts wanted name) (differing now (wanted_at kept wanted) (trimmed.row_name_among_kept kept name))
+    → Covered kept looked (of_row facts wanted name) → Moves kept (differing_row facts wanted name) (differing_row now (wanted_at kept wanted) (trimmed.row_name_among_kept kept name))
 differing_moves kept facts now looked wanted name v st g c x e =
     let a = and_then_is (λ (r : Row). cond (says_differ r.sense) (Some r) None) (differing_of facts wanted name) x e in
     let s = differs_step (says_differ a.0.sense) a.0 x a.2 in
@@ -262,7 +262,7 @@ sums_stay kept facts now looked wanted (Two differs first second) v st g c h =
     let sums = cover_right kept looked (of_row facts wanted differs) (both (of_sum facts wanted first) (of_sum facts wanted second)) c in
     let one = cover_left kept looked (of_sum facts wanted first) (of_sum facts wanted second) sums in
     let other = cover_right kept looked (of_sum facts wanted first) (of_sum facts wanted second) sums in
-    let a = map_or_is (λ r. both_refute facts wanted r first second) (differing facts wanted differs) h in
+    let a = map_or_is (λ r. both_refute facts wanted r first second) (differing_row facts wanted differs) h in
     let m = differing_moves kept facts now looked wanted differs named.0 st g own a.0 a.1 in
     let r = a.0 in
     let p = place facts wanted (Some (above_row r)) None in

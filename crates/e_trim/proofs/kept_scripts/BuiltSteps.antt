@@ -9,7 +9,7 @@ use Rattle.e_literal.specs.declared.object.Sort.{Sort}
 use Rattle.e_literal.specs.declared.literal.Lit.{Lit}
 use Rattle.e_literal.specs.Literal.{negation}
 use Rattle.e_literal.specs.Facts.{with_fact, with_facts}
-use Rattle.e_literal.specs.Scopes.{grown, next_objects}
+use Rattle.e_literal.specs.Scopes.{with_sorts, next_objects}
 use Rattle.e_literal.specs.Use.{StatementView, gives_of_use}
 use Rattle.e_literal.proofs.Booleans.{and_left, and_right}
 use Rattle.e_literal.proofs.GrownScopes.{total_grown}
@@ -84,7 +84,7 @@ over_step before step rest x goal pile under e =
     (flag (is_kept before (step_script step rest) x.scope x.facts (wants before rest after.scope after.facts goal)) (step_flags before (step_script step rest) x.scope x.facts)))
 
 abbrev wide : List StatementView → Step → Script → Scope → Scope
-wide before step rest s = grown s (makes_at before (step_script step rest))
+wide before step rest s = with_sorts s (makes_at before (step_script step rest))
 
 -- a dropped step leaves what is built after it
 pub built_dropped : (before : List StatementView) (kept : List Obj) (step : Step) (rest : Script) (s : Scope) (pile popped left : List Bool) (flagged : Bool) (done now : List Step) (close : Close)
@@ -155,7 +155,7 @@ small_claim before shown inner s r =
     }
 
 pub small_superposed : (before : List StatementView) (superposition : Superpose) (names : List (List ℕ)) (shown : List Lit) (certs : List Cert) (inner : Box Block Global) (s : Scope) → IsSmallStep before (SuperposedBlock superposition names shown certs inner) s
-    → AreSmall before (script_of inner.value) (grown s superposing.sorts_copied)
+    → AreSmall before (script_of inner.value) (with_sorts s superposing.sorts_copied)
 small_superposed before superposition names shown certs inner s r =
     let x : StepState = record { scope = s; facts = r.small.facts } in
     let step = SuperposedBlock superposition names shown certs inner in
@@ -180,14 +180,14 @@ first_small : (d : Script) (s : Scope) (before : List StatementView) (facts : Li
 unfolding placed_steps
 first_small (Cite x rest) s before facts goal h = (and_parts (is_small s) (list_all (λ (y : PlacedStep). is_small y.scope) (placed_steps before rest rest s (with_fact facts x.lit) goal)) h).0
 first_small (Hence lit cert rest) s before facts goal h = (and_parts (is_small s) (list_all (λ (y : PlacedStep). is_small y.scope) (placed_steps before rest rest s (with_fact facts lit) goal)) h).0
-first_small (Make construction names certs rest) s before facts goal h = (and_parts (is_small s) (list_all (λ (y : PlacedStep). is_small y.scope) (placed_steps before rest rest (grown s (sorts_made construction)) (with_facts facts (gives_of_construction construction s)) goal)) h).0
+first_small (Make construction names certs rest) s before facts goal h = (and_parts (is_small s) (list_all (λ (y : PlacedStep). is_small y.scope) (placed_steps before rest rest (with_sorts s (sorts_made construction)) (with_facts facts (gives_of_construction construction s)) goal)) h).0
 first_small (Apply theorem args names certs rest) s before facts goal h =
-    (and_parts (is_small s) (list_all (λ (y : PlacedStep). is_small y.scope) (placed_steps before rest rest (grown s (theorem_at before theorem).made) (with_facts facts (gives_of_use (theorem_at before theorem) (args_of (Apply theorem args names certs rest)) s)) goal)) h).0
+    (and_parts (is_small s) (list_all (λ (y : PlacedStep). is_small y.scope) (placed_steps before rest rest (with_sorts s (theorem_at before theorem).made) (with_facts facts (gives_of_use (theorem_at before theorem) (args_of (Apply theorem args names certs rest)) s)) goal)) h).0
 first_small (Claim shown inner rest) s before facts goal h =
     (and_parts (is_small s) (list_all (λ (y : PlacedStep). is_small y.scope) (placed_steps before inner inner s facts (goal_of shown) ++ placed_steps before rest rest s (with_facts facts shown) goal)) h).0
 first_small (Superposed superposition names shown certs inner rest) s before facts goal h =
     (and_parts (is_small s)
-    (list_all (λ (y : PlacedStep). is_small y.scope) (placed_steps before inner inner (grown s superposing.sorts_copied) (with_facts facts (superposing.gives_of_superposition superposition s)) (goal_of shown) ++ placed_steps before rest rest s (with_facts facts shown) goal)) h).0
+    (list_all (λ (y : PlacedStep). is_small y.scope) (placed_steps before inner inner (with_sorts s superposing.sorts_copied) (with_facts facts (superposing.gives_of_superposition superposition s)) (goal_of shown) ++ placed_steps before rest rest s (with_facts facts shown) goal)) h).0
 first_small (Qed objects certs) s before facts goal h = (and_parts (is_small s) true h).0
 first_small (Contradiction against) s before facts goal h = (and_parts (is_small s) true h).0
 first_small (Cases lit first second) s before facts goal h =
@@ -225,10 +225,10 @@ next_length s [] = refl
 next_length s (x ∷ xs) = ap (λ n. suc n) (next_length (Rattle.e_literal.specs.Scopes.with_one s x) xs)
 
 -- more objects are in scope, whether they are kept or not
-pub few_wide : (s : Scope) (xs : List Sort) (kept : List Obj) → FewKept s kept → FewKept (grown s xs) kept
+pub few_wide : (s : Scope) (xs : List Sort) (kept : List Obj) → FewKept s kept → FewKept (with_sorts s xs) kept
 few_wide s xs kept k = let n = total_grown s xs in omega (arith, n, k)
 
-pub few_more : (s : Scope) (xs : List Sort) (kept : List Obj) → FewKept s kept → FewKept (grown s xs) (kept ++ next_objects s xs)
+pub few_more : (s : Scope) (xs : List Sort) (kept : List Obj) → FewKept s kept → FewKept (with_sorts s xs) (kept ++ next_objects s xs)
 few_more s xs kept k =
     let n = total_grown s xs in
     let m = length-append kept (next_objects s xs) in

@@ -9,7 +9,7 @@ use Rattle.e_literal.specs.declared.object.Obj.{Obj}
 use Rattle.e_literal.specs.declared.object.Scope.{Scope}
 use Rattle.e_literal.specs.declared.literal.Lit.{Lit}
 use Rattle.e_literal.specs.Literal.{negation, count_of, is_in_scope, all_in_scope, objects_of_atom}
-use Rattle.e_literal.specs.Scopes.{nothing, grown, next_objects}
+use Rattle.e_literal.specs.Scopes.{nothing, with_sorts, next_objects}
 use Rattle.e_literal.specs.Facts.{with_fact, with_facts}
 use Rattle.e_literal.specs.Use.{StatementView, scope_of, is_statement}
 use Rattle.e_literal.specs.WellFormed.{is_well_formed}
@@ -22,7 +22,7 @@ use Rattle.e_clause.specs.Versions.{is_cert_of}
 use Rattle.e_deriv.specs.PlacedSteps.{placed_steps, theorem_at}
 use Rattle.e_deriv.specs.Versions.{has_certs_of}
 use Rattle.e_deriv.specs.Certified.{is_certified}
-use Rattle.e_trim.specs.Trimmed.{joins_at, as_step, wants, trimmed_from, trimmed, declared_of}
+use Rattle.e_trim.specs.Trimmed.{joins_at, as_step, wants, trimmed_from, trimmed_script, declared_of}
 use Rattle.e_trim.specs.Laws.{TrimmedIsCertified}
 use Rattle.e_trim.proofs.renumbering.Members.{In, all_in}
 use Rattle.e_trim.proofs.renumbering.Counting.{scope_kept, scope_more, next_below}
@@ -49,14 +49,14 @@ goes before st (Hence l cert rest) kept s facts goal v h =
     hence_goes before kept s facts goal l cert rest n.0 p.0 (goes before st rest kept s (with_fact facts l) goal n.1 p.1)
 goes before st (Make construction names certs rest) kept s facts goal v h =
     let n = and_parts (list_all (is_cert_of version.One) certs) (has_certs_of version.One rest) v in
-    let p = and_parts (is_certified before (as_step (Make construction names certs rest) s facts goal)) (certified_from before rest (grown s (sorts_made construction)) (with_facts facts (gives_of_construction construction s)) goal) h in
-    make_goes before kept s facts goal construction names certs rest n.0 p.0 (λ more. goes before st rest more (grown s (sorts_made construction)) (with_facts facts (gives_of_construction construction s)) goal n.1 p.1)
+    let p = and_parts (is_certified before (as_step (Make construction names certs rest) s facts goal)) (certified_from before rest (with_sorts s (sorts_made construction)) (with_facts facts (gives_of_construction construction s)) goal) h in
+    make_goes before kept s facts goal construction names certs rest n.0 p.0 (λ more. goes before st rest more (with_sorts s (sorts_made construction)) (with_facts facts (gives_of_construction construction s)) goal n.1 p.1)
 goes before st (Apply theorem args names certs rest) kept s facts goal v h =
     let n = and_parts (list_all (is_cert_of version.One) certs) (has_certs_of version.One rest) v in
     let here = Apply theorem args names certs rest in
     let new = (theorem_at before theorem).made in
-    let p = and_parts (is_certified before (as_step here s facts goal)) (certified_from before rest (grown s new) (with_facts facts (joins_at before here s)) goal) h in
-    apply_goes before st kept s facts goal theorem args names certs rest n.0 p.0 (λ more. goes before st rest more (grown s new) (with_facts facts (joins_at before here s)) goal n.1 p.1)
+    let p = and_parts (is_certified before (as_step here s facts goal)) (certified_from before rest (with_sorts s new) (with_facts facts (joins_at before here s)) goal) h in
+    apply_goes before st kept s facts goal theorem args names certs rest n.0 p.0 (λ more. goes before st rest more (with_sorts s new) (with_facts facts (joins_at before here s)) goal n.1 p.1)
 goes before st (Claim shown inner rest) kept s facts goal v h =
     let n = and_parts (has_certs_of version.One inner) (has_certs_of version.One rest) v in
     let p = and_parts (is_certified before (as_step (Claim shown inner rest) s facts goal)) (list_all (is_certified before) (placed_steps before inner inner s facts (goal_of shown) ++ placed_steps before rest rest s (with_facts facts shown) goal)) h in
@@ -65,11 +65,11 @@ goes before st (Claim shown inner rest) kept s facts goal v h =
 goes before st (Superposed superposition names shown certs inner rest) kept s facts goal v h =
     let n = and_parts (list_all (is_cert_of version.One) certs) (has_certs_of version.One inner && has_certs_of version.One rest) v in
     let m = and_parts (has_certs_of version.One inner) (has_certs_of version.One rest) n.1 in
-    let p = and_parts (is_certified before (as_step (Superposed superposition names shown certs inner rest) s facts goal)) (list_all (is_certified before) (placed_steps before inner inner (grown s superposing.sorts_copied) (with_facts facts (superposing.gives_of_superposition superposition s)) (goal_of shown) ++ placed_steps before rest rest s (with_facts facts shown) goal)) h in
-    let q = and_parts (certified_from before inner (grown s superposing.sorts_copied) (with_facts facts (superposing.gives_of_superposition superposition s)) (goal_of shown)) (certified_from before rest s (with_facts facts shown) goal)
-    (sym (list_all-append (is_certified before) (placed_steps before inner inner (grown s superposing.sorts_copied) (with_facts facts (superposing.gives_of_superposition superposition s)) (goal_of shown)) (placed_steps before rest rest s (with_facts facts shown) goal)) ∙ p.1) in
+    let p = and_parts (is_certified before (as_step (Superposed superposition names shown certs inner rest) s facts goal)) (list_all (is_certified before) (placed_steps before inner inner (with_sorts s superposing.sorts_copied) (with_facts facts (superposing.gives_of_superposition superposition s)) (goal_of shown) ++ placed_steps before rest rest s (with_facts facts shown) goal)) h in
+    let q = and_parts (certified_from before inner (with_sorts s superposing.sorts_copied) (with_facts facts (superposing.gives_of_superposition superposition s)) (goal_of shown)) (certified_from before rest s (with_facts facts shown) goal)
+    (sym (list_all-append (is_certified before) (placed_steps before inner inner (with_sorts s superposing.sorts_copied) (with_facts facts (superposing.gives_of_superposition superposition s)) (goal_of shown)) (placed_steps before rest rest s (with_facts facts shown) goal)) ∙ p.1) in
     superposed_goes before kept s facts goal superposition names shown certs inner rest n.0 p.0
-    (goes before st inner (kept ++ next_objects s superposing.sorts_copied) (grown s superposing.sorts_copied) (with_facts facts (superposing.gives_of_superposition superposition s)) (goal_of shown) m.0 q.0) (goes before st rest kept s (with_facts facts shown) goal m.1 q.1)
+    (goes before st inner (kept ++ next_objects s superposing.sorts_copied) (with_sorts s superposing.sorts_copied) (with_facts facts (superposing.gives_of_superposition superposition s)) (goal_of shown) m.0 q.0) (goes before st rest kept s (with_facts facts shown) goal m.1 q.1)
 goes before st (Qed objects certs) kept s facts goal v h = qed_goes before kept s facts goal objects certs v (and_parts (is_certified before (as_step (Qed objects certs) s facts goal)) true h).0
 goes before st (Contradiction against) kept s facts goal v h = contradiction_goes before kept s facts goal against v (and_parts (is_certified before (as_step (Contradiction against) s facts goal)) true h).0
 goes before st (Cases l one other) kept s facts goal v h =
@@ -103,7 +103,7 @@ trimmed_certified before t d st own one c =
     let facts = facts_of_statement t in
     let goal = goal_of_statement t in
     let w = wants before d (scope_of t) facts goal in
-    let parts = and_parts (list_all (λ (l : Lit). is_well_formed l && all_in_scope (scope_of t) l) t.given) (list_all (λ (l : Lit). is_well_formed l && all_in_scope (grown (scope_of t) t.made) l) t.shown) own in
+    let parts = and_parts (list_all (λ (l : Lit). is_well_formed l && all_in_scope (scope_of t) l) t.given) (list_all (λ (l : Lit). is_well_formed l && all_in_scope (with_sorts (scope_of t) t.made) l) t.shown) own in
     let fine = given_in t t.given [] parts.0 (λ m i. absurd i) in
     let stays : Stays kept facts facts w.lits = record {
       there = λ m i h. (subst (λ x. In x facts) (sym (own_lit t m (fine m i))) i, declared_over t m (fine m i));
@@ -115,4 +115,4 @@ trimmed_certified before t d st own one c =
       bound = λ k i. next_below nothing t.declared k i;
       goes = inr (record { statement = t; before = refl; after = refl; more = []; first = sym (append-nil kept); above = λ o i. absurd i; wide = λ x. omega arith; good = own });
     } in
-    ap (λ s. certified_from before (trimmed before t d) s facts goal) (sym (kept_scope t)) ∙ goes before st d kept (scope_of t) facts goal one c facts goal ready
+    ap (λ s. certified_from before (trimmed_script before t d) s facts goal) (sym (kept_scope t)) ∙ goes before st d kept (scope_of t) facts goal one c facts goal ready

@@ -8,7 +8,7 @@ use Rattle.e_literal.specs.declared.object.Sort.{Sort}
 use Rattle.e_literal.specs.declared.literal.Lit.{Lit}
 use Rattle.e_literal.specs.Literal.{negation}
 use Rattle.e_literal.specs.Facts.{with_fact, with_facts}
-use Rattle.e_literal.specs.Scopes.{grown, next_objects}
+use Rattle.e_literal.specs.Scopes.{with_sorts, next_objects}
 use Rattle.e_literal.specs.Use.{StatementView}
 use Rattle.e_construct.specs.declared.construction.Construction.{Construction}
 use Rattle.e_construct.specs.declared.superpose.Superpose.{Superpose}
@@ -76,7 +76,7 @@ claim_built before kept step made shown new inner block s pile left is e script 
 
 superposed_done : (before : List StatementView) (kept wide : List Obj) (superposition : Superpose) (now : Superpose) (names same : List (List ℕ)) (shown new : List Lit) (certs cs : List Cert) (inner : Box Block Global) (block : Block) (s : Scope) (pile left : List Bool)
     → wide ≡ kept ++ next_objects s superposing.sorts_copied → now ≡ superpose_at kept superposition → same ≡ names → new ≡ map (lit_among_kept kept) shown → cs ≡ map (cert_at kept) certs
-    → BlockIsBuilt before wide (script_of inner.value) (grown s superposing.sorts_copied) pile left block
+    → BlockIsBuilt before wide (script_of inner.value) (with_sorts s superposing.sorts_copied) pile left block
     → (rest more : Script) (facts : List Lit) (under : List Bool) → pile ≡ under ++ step_flags before (Superposed superposition names shown certs (script_of inner.value) rest) s facts
     → (Superposed now same new cs (script_of block) more ≡ kept_step before kept (Superposed superposition names shown certs (script_of inner.value) rest) s facts more) × (left ≡ under)
 superposed_done before kept wide superposition now names same shown new certs cs inner block s pile left w f n e g built rest more facts under h =
@@ -87,13 +87,13 @@ superposed_done before kept wide superposition now names same shown new certs cs
           ∙ ap (λ x. Superposed (superpose_at kept superposition) names x cs (script_of block) more) e
           ∙ ap (λ x. Superposed (superpose_at kept superposition) names (map (lit_among_kept kept) shown) x (script_of block) more) g
           ∙ ap (λ x. Superposed (superpose_at kept superposition) names (map (lit_among_kept kept) shown) (map (cert_at kept) certs) x more)
-          (r.0 ∙ ap (λ ks. trimmed_from before ks (script_of inner.value) (grown s superposing.sorts_copied) opened (goal_of shown)) w),
+          (r.0 ∙ ap (λ ks. trimmed_from before ks (script_of inner.value) (with_sorts s superposing.sorts_copied) opened (goal_of shown)) w),
       r.1,
     )
 
 pub superposed_built : (before : List StatementView) (kept wide : List Obj) (step made : Step) (superposition now : Superpose) (names same : List (List ℕ)) (shown new : List Lit) (certs cs : List Cert) (inner : Box Block Global) (block : Block) (s : Scope) (pile left : List Bool)
     → step ≡ SuperposedBlock superposition names shown certs inner → wide ≡ kept ++ next_objects s superposing.sorts_copied → now ≡ superpose_at kept superposition → same ≡ names → new ≡ map (lit_among_kept kept) shown → cs ≡ map (cert_at kept) certs
-    → ((more : Script) → step_script made more ≡ Superposed now same new cs (script_of block) more) → BlockIsBuilt before wide (script_of inner.value) (grown s superposing.sorts_copied) pile left block → StepIsBuilt before kept step s pile left made
+    → ((more : Script) → step_script made more ≡ Superposed now same new cs (script_of block) more) → BlockIsBuilt before wide (script_of inner.value) (with_sorts s superposing.sorts_copied) pile left block → StepIsBuilt before kept step s pile left made
 superposed_built before kept wide step made superposition now names same shown new certs cs inner block s pile left is w f n e g script built =
     subst (λ st. StepIsBuilt before kept st s pile left made) (sym is)
     (λ rest more facts under h.

@@ -5,7 +5,7 @@ use Rattle.e_literal.specs.declared.object.Scope.{Scope}
 use Rattle.e_literal.specs.declared.literal.Lit.{Lit}
 use Rattle.e_literal.specs.Literal.{negation}
 use Rattle.e_literal.specs.Facts.{with_fact, with_facts}
-use Rattle.e_literal.specs.Scopes.{grown, next_objects}
+use Rattle.e_literal.specs.Scopes.{with_sorts, next_objects}
 use Rattle.e_literal.specs.Use.{StatementView}
 use Rattle.e_construct.specs.Construct.{sorts_made, gives_of_construction}
 use Rattle.e_construct.specs.Superposing as superposing
@@ -32,21 +32,21 @@ shorter (Hence lit cert rest) before kept s facts goal =
     let r = shorter rest before kept s (with_fact facts lit) goal in
     either (is_kept before (Hence lit cert rest) s facts (wants before rest s (with_fact facts lit) goal)) _ _ (Hence lit cert rest) (omega (arith, r.0), r.1) (omega (arith, r.0), r.1)
 shorter (Make construction names certs rest) before kept s facts goal =
-    let one = shorter rest before (kept ++ next_objects s (sorts_made construction)) (grown s (sorts_made construction)) (with_facts facts (gives_of_construction construction s)) goal in
-    let other = shorter rest before kept (grown s (sorts_made construction)) (with_facts facts (gives_of_construction construction s)) goal in
-    either (is_kept before (Make construction names certs rest) s facts (wants before rest (grown s (sorts_made construction)) (with_facts facts (gives_of_construction construction s)) goal)) _ _ (Make construction names certs rest) (omega (arith, one.0), one.1) (omega (arith, other.0), other.1)
+    let one = shorter rest before (kept ++ next_objects s (sorts_made construction)) (with_sorts s (sorts_made construction)) (with_facts facts (gives_of_construction construction s)) goal in
+    let other = shorter rest before kept (with_sorts s (sorts_made construction)) (with_facts facts (gives_of_construction construction s)) goal in
+    either (is_kept before (Make construction names certs rest) s facts (wants before rest (with_sorts s (sorts_made construction)) (with_facts facts (gives_of_construction construction s)) goal)) _ _ (Make construction names certs rest) (omega (arith, one.0), one.1) (omega (arith, other.0), other.1)
 shorter (Apply theorem args names certs rest) before kept s facts goal =
     let here = Apply theorem args names certs rest in
     let new = (theorem_at before theorem).made in
-    let one = shorter rest before (kept ++ next_objects s new) (grown s new) (with_facts facts (joins_at before here s)) goal in
-    let other = shorter rest before kept (grown s new) (with_facts facts (joins_at before here s)) goal in
-    either (is_kept before here s facts (wants before rest (grown s new) (with_facts facts (joins_at before here s)) goal)) _ _ here (omega (arith, one.0), one.1) (omega (arith, other.0), other.1)
+    let one = shorter rest before (kept ++ next_objects s new) (with_sorts s new) (with_facts facts (joins_at before here s)) goal in
+    let other = shorter rest before kept (with_sorts s new) (with_facts facts (joins_at before here s)) goal in
+    either (is_kept before here s facts (wants before rest (with_sorts s new) (with_facts facts (joins_at before here s)) goal)) _ _ here (omega (arith, one.0), one.1) (omega (arith, other.0), other.1)
 shorter (Claim shown inner rest) before kept s facts goal =
     let i = shorter inner before kept s facts (goal_of shown) in
     let r = shorter rest before kept s (with_facts facts shown) goal in
     either (is_kept before (Claim shown inner rest) s facts (wants before rest s (with_facts facts shown) goal)) _ _ (Claim shown inner rest) (omega (arith, i.0, r.0), omega (arith, i.1, r.1)) (omega (arith, r.0), omega (arith, r.1))
 shorter (Superposed superposition names shown certs inner rest) before kept s facts goal =
-    let i = shorter inner before (kept ++ next_objects s superposing.sorts_copied) (grown s superposing.sorts_copied) (with_facts facts (superposing.gives_of_superposition superposition s)) (goal_of shown) in
+    let i = shorter inner before (kept ++ next_objects s superposing.sorts_copied) (with_sorts s superposing.sorts_copied) (with_facts facts (superposing.gives_of_superposition superposition s)) (goal_of shown) in
     let r = shorter rest before kept s (with_facts facts shown) goal in
     either (is_kept before (Superposed superposition names shown certs inner rest) s facts (wants before rest s (with_facts facts shown) goal)) _ _ (Superposed superposition names shown certs inner rest)
     (omega (arith, i.0, r.0), omega (arith, i.1, r.1)) (omega (arith, r.0), omega (arith, r.1))

@@ -21,7 +21,7 @@ use Rattle.e_deriv.specs.Fitting.{is_small, is_small_statement, all_objects}
 use Rattle.e_deriv.proofs.Smallness.{few_objects}
 use Rattle.e_trim.specs.Trimmable.{IsTrimmable}
 use Rattle.e_trim.specs.Laws.{TrimmedIsCertified}
-use Rattle.e_trim.specs.Trimmed.{declared_of, trimmed, trimmed_from}
+use Rattle.e_trim.specs.Trimmed.{declared_of, trimmed_script, trimmed_from}
 use Rattle.e_trim.specs.declared.step_state.StepState.{StepState}
 use Rattle.e_trim.specs.inner.Flags.{flags_of}
 use Rattle.e_trim.specs.inner.StepState.{IsReady, FewKept, start_of}
@@ -76,14 +76,14 @@ goal_same made shown t e f = ap (λ ms. record { made = ms; shown = shown }) e �
 
 -- what is built by the flags is what is trimmed
 pub built_trimmed : (before : List StatementView) (t : StatementView) (d : Script) (kept : List Obj) (s : Scope) (pile left : List Bool) (block : Block) → kept ≡ declared_of t → s ≡ scope_of t
-    → pile ≡ flags_of before d (scope_of t) (facts_of_statement t) (goal_of_statement t) → BlockIsBuilt before kept d s pile left block → script_of block ≡ trimmed before t d
+    → pile ≡ flags_of before d (scope_of t) (facts_of_statement t) (goal_of_statement t) → BlockIsBuilt before kept d s pile left block → script_of block ≡ trimmed_script before t d
 built_trimmed before t d kept s pile left block k e f built =
     let facts = facts_of_statement t in
     let goal = goal_of_statement t in
     let r = built facts goal [] (f ∙ ap (λ x. flags_of before d x facts goal) (sym e)) in
     r.0 ∙ ap (λ ks. trimmed_from before ks d s facts goal) k ∙ ap (λ x. trimmed_from before (declared_of t) d x facts goal) e
 
-pub built_certified : (before : List StatementView) (t : StatementView) (d : Script) (block : Block) → TrimmedIsCertified → IsTrimmable before t d → script_of block ≡ trimmed before t d → Certified before t (script_of block)
+pub built_certified : (before : List StatementView) (t : StatementView) (d : Script) (block : Block) → TrimmedIsCertified → IsTrimmable before t d → script_of block ≡ trimmed_script before t d → Certified before t (script_of block)
 built_certified before t d block law h e = subst (Certified before t) (sym e) (law before t d (are_statements before h.statements) (is_stated t h.statement) h.version h.certified)
 
 -- few objects are kept at the start

@@ -10,7 +10,7 @@ use Rattle.e_literal.specs.declared.object.Scope.{Scope}
 use Rattle.e_literal.specs.declared.object.Sort.{Sort}
 use Rattle.e_literal.specs.declared.literal.Lit.{Lit}
 use Rattle.e_literal.specs.Literal.{negation, is_in_scope, all_in_scope, objects_of_atom}
-use Rattle.e_literal.specs.Scopes.{same_sort, grown, next_objects, are_of_sorts}
+use Rattle.e_literal.specs.Scopes.{same_sort, with_sorts, next_objects, are_of_sorts}
 use Rattle.e_literal.specs.Facts.{has, with_fact, with_facts}
 use Rattle.e_literal.specs.Use.{StatementView}
 use Rattle.e_clause.specs.declared.cert.By.{By}
@@ -336,8 +336,8 @@ form_in s construction h =
 
 pub make_goes : (before : List StatementView) (kept : List Obj) (s : Scope) (facts : List Lit) (goal : Goal) (construction : Construction) (names : List (List ℕ)) (certs : List Cert) (rest : Script)
     → list_all (is_cert_of version.One) certs ≡ true → is_certified before (as_step (Make construction names certs rest) s facts goal) ≡ true
-    → ((more : List Obj) → Goes before more (grown s (sorts_made construction)) (with_facts facts (gives_of_construction construction s)) goal (wants before rest (grown s (sorts_made construction)) (with_facts facts (gives_of_construction construction s)) goal)
-    (trimmed_from before more rest (grown s (sorts_made construction)) (with_facts facts (gives_of_construction construction s)) goal))
+    → ((more : List Obj) → Goes before more (with_sorts s (sorts_made construction)) (with_facts facts (gives_of_construction construction s)) goal (wants before rest (with_sorts s (sorts_made construction)) (with_facts facts (gives_of_construction construction s)) goal)
+    (trimmed_from before more rest (with_sorts s (sorts_made construction)) (with_facts facts (gives_of_construction construction s)) goal))
     → Goes before kept s facts goal (wants before (Make construction names certs rest) s facts goal) (trimmed_from before kept (Make construction names certs rest) s facts goal)
 unfolding wants trimmed_from placed_steps
 make_goes before kept s facts goal construction names certs rest v h more now goal' r = by (is_kept before here s facts w) refl r
@@ -355,7 +355,7 @@ make_goes before kept s facts goal construction names certs rest v h more now go
     after = with_facts facts (gives_of_construction construction s)
 
     w : Wants
-    w = wants before rest (grown s new) after goal
+    w = wants before rest (with_sorts s new) after goal
 
     own : Wants
     own = of_step before (as_step here s facts goal)
@@ -364,10 +364,10 @@ make_goes before kept s facts goal construction names certs rest v h more now go
     named = construction.args ++ construction.avoid
 
     t : Script
-    t = trimmed_from before wide rest (grown s new) after goal
+    t = trimmed_from before wide rest (with_sorts s new) after goal
 
     by : (b : Bool) → is_kept before here s facts w ≡ b → Ready kept s facts now goal goal' (cond b (both w (both own no_wants)) w)
-        → certified_from before (cond b (Make (construction_among_kept kept construction) names (map (cert_at kept) certs) t) (trimmed_from before kept rest (grown s new) after goal)) (scope_kept kept) now goal' ≡ true
+        → certified_from before (cond b (Make (construction_among_kept kept construction) names (map (cert_at kept) certs) t) (trimmed_from before kept rest (with_sorts s new) after goal)) (scope_kept kept) now goal' ≡ true
     by true e k =
         let line_ready = first kept s facts now goal goal' own no_wants (second kept s facts now goal goal' w (both own no_wants) k) in
         let looked = of_certs facts (needs_of_construction construction) certs in
@@ -406,9 +406,9 @@ superposed_in s x h = sorted_in s (sorts_of superposing.superposed_args) (superp
 
 pub superposed_goes : (before : List StatementView) (kept : List Obj) (s : Scope) (facts : List Lit) (goal : Goal) (superposition : Superpose) (names : List (List ℕ)) (shown : List Lit) (certs : List Cert) (inner rest : Script)
     → list_all (is_cert_of version.One) certs ≡ true → is_certified before (as_step (Superposed superposition names shown certs inner rest) s facts goal) ≡ true
-    → Goes before (kept ++ next_objects s superposing.sorts_copied) (grown s superposing.sorts_copied) (with_facts facts (superposing.gives_of_superposition superposition s)) (goal_of shown)
-    (wants before inner (grown s superposing.sorts_copied) (with_facts facts (superposing.gives_of_superposition superposition s)) (goal_of shown))
-    (trimmed_from before (kept ++ next_objects s superposing.sorts_copied) inner (grown s superposing.sorts_copied) (with_facts facts (superposing.gives_of_superposition superposition s)) (goal_of shown))
+    → Goes before (kept ++ next_objects s superposing.sorts_copied) (with_sorts s superposing.sorts_copied) (with_facts facts (superposing.gives_of_superposition superposition s)) (goal_of shown)
+    (wants before inner (with_sorts s superposing.sorts_copied) (with_facts facts (superposing.gives_of_superposition superposition s)) (goal_of shown))
+    (trimmed_from before (kept ++ next_objects s superposing.sorts_copied) inner (with_sorts s superposing.sorts_copied) (with_facts facts (superposing.gives_of_superposition superposition s)) (goal_of shown))
     → Goes before kept s (with_facts facts shown) goal (wants before rest s (with_facts facts shown) goal) (trimmed_from before kept rest s (with_facts facts shown) goal)
     → Goes before kept s facts goal (wants before (Superposed superposition names shown certs inner rest) s facts goal) (trimmed_from before kept (Superposed superposition names shown certs inner rest) s facts goal)
 unfolding wants trimmed_from placed_steps
@@ -427,13 +427,13 @@ superposed_goes before kept s facts goal superposition names shown certs inner r
     w = wants before rest s (with_facts facts shown) goal
 
     v : Wants
-    v = wants before inner (grown s superposing.sorts_copied) (with_facts facts given) (goal_of shown)
+    v = wants before inner (with_sorts s superposing.sorts_copied) (with_facts facts given) (goal_of shown)
 
     t : Script
     t = trimmed_from before kept rest s (with_facts facts shown) goal
 
     i : Script
-    i = trimmed_from before wide inner (grown s superposing.sorts_copied) (with_facts facts given) (goal_of shown)
+    i = trimmed_from before wide inner (with_sorts s superposing.sorts_copied) (with_facts facts given) (goal_of shown)
 
     own : Wants
     own = of_step before (as_step here s facts goal)
@@ -468,12 +468,12 @@ superposed_goes before kept s facts goal superposition names shown certs inner r
         let block_done = block (with_facts now (map (lit_among_kept wide) given)) (goal_of shown') opened in
         let next = more (with_facts now shown') goal' (joined_ready kept s facts now shown goal goal' w over (first kept s facts now goal goal' w (both own (wants_outside s facts v)) k)) in
         and_from (is_certified before (as_step (Superposed (superpose_at kept superposition) names shown' (map (cert_at kept) certs) i t) (scope_kept kept) now goal'))
-        (list_all (is_certified before) (placed_steps before i i (grown (scope_kept kept) superposing.sorts_copied) (with_facts now (superposing.gives_of_superposition (superpose_at kept superposition) (scope_kept kept))) (goal_of shown') ++ placed_steps before t t (scope_kept kept) (with_facts now shown') goal'))
+        (list_all (is_certified before) (placed_steps before i i (with_sorts (scope_kept kept) superposing.sorts_copied) (with_facts now (superposing.gives_of_superposition (superpose_at kept superposition) (scope_kept kept))) (goal_of shown') ++ placed_steps before t t (scope_kept kept) (with_facts now shown') goal'))
         (and_from (superposing.fits_superposition (superpose_at kept superposition) (scope_kept kept) && are_over (scope_kept kept) shown') (certify_all (scope_kept kept) now (superposing.needs_of_superposition (superpose_at kept superposition)) (map (cert_at kept) certs) && true)
         (and_from (superposing.fits_superposition (superpose_at kept superposition) (scope_kept kept)) (are_over (scope_kept kept) shown') (superposition_fits kept s superposition f.0 args) (lits_scope kept shown over))
         (and_from (certify_all (scope_kept kept) now (superposing.needs_of_superposition (superpose_at kept superposition)) (map (cert_at kept) certs)) true (ap (λ ls. certify_all (scope_kept kept) now ls (map (cert_at kept) certs)) (superposition_needs kept s superposition f.0) ∙ done) refl))
-        (list_all-append (is_certified before) (placed_steps before i i (grown (scope_kept kept) superposing.sorts_copied) (with_facts now (superposing.gives_of_superposition (superpose_at kept superposition) (scope_kept kept))) (goal_of shown')) (placed_steps before t t (scope_kept kept) (with_facts now shown') goal')
-        ∙ and_from (certified_from before i (grown (scope_kept kept) superposing.sorts_copied) (with_facts now (superposing.gives_of_superposition (superpose_at kept superposition) (scope_kept kept))) (goal_of shown')) (certified_from before t (scope_kept kept) (with_facts now shown') goal')
+        (list_all-append (is_certified before) (placed_steps before i i (with_sorts (scope_kept kept) superposing.sorts_copied) (with_facts now (superposing.gives_of_superposition (superpose_at kept superposition) (scope_kept kept))) (goal_of shown')) (placed_steps before t t (scope_kept kept) (with_facts now shown') goal')
+        ∙ and_from (certified_from before i (with_sorts (scope_kept kept) superposing.sorts_copied) (with_facts now (superposing.gives_of_superposition (superpose_at kept superposition) (scope_kept kept))) (goal_of shown')) (certified_from before t (scope_kept kept) (with_facts now shown') goal')
         (ap (λ z. certified_from before i z (with_facts now (superposing.gives_of_superposition (superpose_at kept superposition) (scope_kept kept))) (goal_of shown')) (sym (scope_more kept s superposing.sorts_copied))
         ∙ ap (λ ls. certified_from before i (scope_kept wide) (with_facts now ls) (goal_of shown')) gives' ∙ block_done)
         next)

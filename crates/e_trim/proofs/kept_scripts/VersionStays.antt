@@ -8,7 +8,7 @@ use Rattle.e_literal.specs.declared.object.Scope.{Scope}
 use Rattle.e_literal.specs.declared.literal.Lit.{Lit}
 use Rattle.e_literal.specs.Literal.{negation}
 use Rattle.e_literal.specs.Facts.{with_fact, with_facts}
-use Rattle.e_literal.specs.Scopes.{grown, next_objects}
+use Rattle.e_literal.specs.Scopes.{with_sorts, next_objects}
 use Rattle.e_literal.specs.Use.{StatementView, scope_of}
 use Rattle.e_literal.proofs.WithImages.{renamed_well_formed}
 use Rattle.e_clause.specs.declared.cert.Version.{Version}
@@ -96,17 +96,17 @@ version_left v before (Hence lit cert rest) kept s facts goal h =
 version_left v before (Make construction names certs rest) kept s facts goal h =
     let after = with_facts facts (gives_of_construction construction s) in
     let p = and_parts (list_all (is_cert_of v) certs) (has_certs_of v rest) h in
-    either (has_certs_of v) (is_kept before (Make construction names certs rest) s facts (wants before rest (grown s (sorts_made construction)) after goal)) _ _
-    (and_from _ _ (certs_stay v kept certs ∙ p.0) (version_left v before rest (kept ++ next_objects s (sorts_made construction)) (grown s (sorts_made construction)) after goal p.1))
-    (version_left v before rest kept (grown s (sorts_made construction)) after goal p.1)
+    either (has_certs_of v) (is_kept before (Make construction names certs rest) s facts (wants before rest (with_sorts s (sorts_made construction)) after goal)) _ _
+    (and_from _ _ (certs_stay v kept certs ∙ p.0) (version_left v before rest (kept ++ next_objects s (sorts_made construction)) (with_sorts s (sorts_made construction)) after goal p.1))
+    (version_left v before rest kept (with_sorts s (sorts_made construction)) after goal p.1)
 version_left v before (Apply theorem args names certs rest) kept s facts goal h =
     let here = Apply theorem args names certs rest in
     let new = (theorem_at before theorem).made in
     let after = with_facts facts (joins_at before here s) in
     let p = and_parts (list_all (is_cert_of v) certs) (has_certs_of v rest) h in
-    either (has_certs_of v) (is_kept before here s facts (wants before rest (grown s new) after goal)) _ _
-    (and_from _ _ (certs_stay v kept certs ∙ p.0) (version_left v before rest (kept ++ next_objects s new) (grown s new) after goal p.1))
-    (version_left v before rest kept (grown s new) after goal p.1)
+    either (has_certs_of v) (is_kept before here s facts (wants before rest (with_sorts s new) after goal)) _ _
+    (and_from _ _ (certs_stay v kept certs ∙ p.0) (version_left v before rest (kept ++ next_objects s new) (with_sorts s new) after goal p.1))
+    (version_left v before rest kept (with_sorts s new) after goal p.1)
 version_left v before (Claim shown inner rest) kept s facts goal h =
     let q = and_parts (has_certs_of v inner) (has_certs_of v rest) h in
     let r = version_left v before rest kept s (with_facts facts shown) goal q.1 in
@@ -117,7 +117,7 @@ version_left v before (Superposed superposition names shown certs inner rest) ke
     let r = version_left v before rest kept s (with_facts facts shown) goal q.1 in
     let kind = with_facts facts (superposing.gives_of_superposition superposition s) in
     either (has_certs_of v) (is_kept before (Superposed superposition names shown certs inner rest) s facts (wants before rest s (with_facts facts shown) goal)) _ _
-    (and_from _ _ (certs_stay v kept certs ∙ p.0) (and_from _ _ (version_left v before inner (kept ++ next_objects s superposing.sorts_copied) (grown s superposing.sorts_copied) kind (goal_of shown) q.0) r)) r
+    (and_from _ _ (certs_stay v kept certs ∙ p.0) (and_from _ _ (version_left v before inner (kept ++ next_objects s superposing.sorts_copied) (with_sorts s superposing.sorts_copied) kind (goal_of shown) q.0) r)) r
 version_left v before (Qed objects certs) kept s facts goal h = certs_stay v kept certs ∙ h
 version_left v before (Contradiction against) kept s facts goal h = against_stays v kept against ∙ h
 version_left v before (Cases lit first second) kept s facts goal h =

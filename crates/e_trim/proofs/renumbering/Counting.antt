@@ -8,7 +8,7 @@ use Rattle.e_literal.specs.declared.object.Scope.{Scope}
 use Rattle.e_literal.specs.declared.object.Sort.{Sort}
 use Rattle.e_literal.specs.declared.object.Sort.TheVariants.{Point, Line, Circle}
 use Rattle.e_literal.specs.Literal.{obj, count_of, is_in_scope}
-use Rattle.e_literal.specs.Scopes.{same_sort, with_one, grown, next_objects}
+use Rattle.e_literal.specs.Scopes.{same_sort, with_one, with_sorts, next_objects}
 use Rattle.e_literal.proofs.Sorts.{same_sort_is, same_sort_self}
 use Rattle.e_trim.specs.Trimmed.{is_lesser_of_sort, kept_before, obj_at}
 use Rattle.e_trim.proofs.renumbering.Members.{In, in_either}
@@ -187,15 +187,15 @@ next_above s [] o i = absurd i
 next_above s (x ∷ sorts) o (inl e) = subst (λ (k : Obj). count_of s k.sort ≤ k.num) e (omega arith)
 next_above s (x ∷ sorts) o (inr i) = let more = next_above (with_one s x) sorts o i in let less = counts_grow s x o.sort in omega (arith, more, less)
 
-counts_grown : (s : Scope) (sorts : List Sort) (y : Sort) → count_of s y ≤ count_of (grown s sorts) y
+counts_grown : (s : Scope) (sorts : List Sort) (y : Sort) → count_of s y ≤ count_of (with_sorts s sorts) y
 counts_grown s [] y = omega arith
 counts_grown s (x ∷ sorts) y = let a = counts_grow s x y in let b = counts_grown (with_one s x) sorts y in omega (arith, a, b)
 
 -- and are in the wider scope
-pub next_below : (s : Scope) (sorts : List Sort) (o : Obj) → In o (next_objects s sorts) → o.num < count_of (grown s sorts) o.sort
+pub next_below : (s : Scope) (sorts : List Sort) (o : Obj) → In o (next_objects s sorts) → o.num < count_of (with_sorts s sorts) o.sort
 next_below s [] o i = absurd i
 next_below s (x ∷ sorts) o (inl e) =
-    subst (λ (k : Obj). k.num < count_of (grown (with_one s x) sorts) k.sort) e
+    subst (λ (k : Obj). k.num < count_of (with_sorts (with_one s x) sorts) k.sort) e
     (let a = count_more s x in let b = counts_grown (with_one s x) sorts x in omega (arith, a, b))
 next_below s (x ∷ sorts) o (inr i) = next_below (with_one s x) sorts o i
 
@@ -203,13 +203,13 @@ next_below s (x ∷ sorts) o (inr i) = next_below (with_one s x) sorts o i
 abbrev pub Bound : Scope → List Obj → Type 0
 Bound s kept = (k : Obj) → In k kept → k.num < count_of s k.sort
 
-pub bound_more : (s : Scope) (kept : List Obj) (sorts : List Sort) → Bound s kept → Bound (grown s sorts) (kept ++ next_objects s sorts)
+pub bound_more : (s : Scope) (kept : List Obj) (sorts : List Sort) → Bound s kept → Bound (with_sorts s sorts) (kept ++ next_objects s sorts)
 bound_more s kept sorts h k i = elim (in_either k kept (next_objects s sorts) i) [
   | inl j ↦ let a = h k j in let b = counts_grown s sorts k.sort in omega (arith, a, b)
   | inr j ↦ next_below s sorts k j
 ]
 
-pub bound_wide : (s : Scope) (kept : List Obj) (sorts : List Sort) → Bound s kept → Bound (grown s sorts) kept
+pub bound_wide : (s : Scope) (kept : List Obj) (sorts : List Sort) → Bound s kept → Bound (with_sorts s sorts) kept
 bound_wide s kept sorts h k i = let a = h k i in let b = counts_grown s sorts k.sort in omega (arith, a, b)
 
 tally_one : (kept : List Obj) (x : Sort) (n : ℕ) → scope_kept (kept ++ obj x n ∷ []) ≡ with_one (scope_kept kept) x
@@ -232,13 +232,13 @@ tally_one kept Circle n =
     let c' : tally (kept ++ obj Circle n ∷ []) Circle ≡ tally kept Circle + 1 = omega (arith, c) in
     rw (a', b', c') refl
 
-pub scope_more : (kept : List Obj) (s : Scope) (sorts : List Sort) → scope_kept (kept ++ next_objects s sorts) ≡ grown (scope_kept kept) sorts
+pub scope_more : (kept : List Obj) (s : Scope) (sorts : List Sort) → scope_kept (kept ++ next_objects s sorts) ≡ with_sorts (scope_kept kept) sorts
 scope_more kept s [] = ap scope_kept (append-nil kept)
 scope_more kept s (x ∷ sorts) =
     let o = obj x (count_of s x) in
     ap scope_kept (sym (append_assoc kept (o ∷ []) (next_objects (with_one s x) sorts)))
     ∙ scope_more (kept ++ o ∷ []) (with_one s x) sorts
-    ∙ ap (λ t. grown t sorts) (tally_one kept x (count_of s x))
+    ∙ ap (λ t. with_sorts t sorts) (tally_one kept x (count_of s x))
 
 -- the next objects take the next numbers
 pub next_at : (kept : List Obj) (s : Scope) (sorts : List Sort) → Bound s kept → map (obj_at (kept ++ next_objects s sorts)) (next_objects s sorts) ≡ next_objects (scope_kept kept) sorts

@@ -18,7 +18,7 @@ use Rattle.e_literal.specs.declared.literal.Atom.{Atom}
 use Rattle.e_literal.specs.declared.literal.Atom.TheVariants as atoms
 use Rattle.e_literal.specs.declared.literal.Lit.{Lit}
 use Rattle.e_literal.specs.Literal.{obj, count_of, is_in_scope, objects_of_atom, all_in_scope}
-use Rattle.e_literal.specs.Scopes.{same_sort, nothing, with_one, grown, next_objects, are_of_sorts}
+use Rattle.e_literal.specs.Scopes.{same_sort, nothing, with_one, with_sorts, next_objects, are_of_sorts}
 use Rattle.e_literal.specs.Rename.{with_images, term_at, mono_at, atom_at, number_at, same_obj, image_in, pairs_of, has_images}
 use Rattle.e_literal.specs.Use.{StatementView, scope_of, image_in_use, are_arguments}
 use Rattle.e_literal.proofs.Sorts.{same_sort_is, same_obj_is}
@@ -365,7 +365,7 @@ map_targets kept t args s b k =
     ∙ ap (λ xs. map (obj_at kept) args ++ xs) (next_at kept s t.made b)
 
 -- an object in the scope of a list of sorts is one of the next objects
-pub next_member : (b : Scope) (xs : List Sort) (o : Obj) → count_of b o.sort ≤ o.num → o.num < count_of (grown b xs) o.sort → is_var (next_objects b xs) o ≡ true
+pub next_member : (b : Scope) (xs : List Sort) (o : Obj) → count_of b o.sort ≤ o.num → o.num < count_of (with_sorts b xs) o.sort → is_var (next_objects b xs) o ≡ true
 next_member b [] o h k = absurd (omega (arith, h, k))
 next_member b (x ∷ xs) o h k = elim (or_known (same_obj (obj x (count_of b x)) o)) [
   | inl e ↦ or_left (same_obj (obj x (count_of b x)) o) (is_var (next_objects (with_one b x) xs) o) e
@@ -393,25 +393,25 @@ any_right : (p : Obj → Bool) (xs ys : List Obj) → list_any p ys ≡ true →
 any_right p xs ys h = list_any-append p xs ys ∙ or_right (list_any p xs) (list_any p ys) h
 
 -- the objects of a statement are its sources
-source_of : (t : StatementView) (o : Obj) → is_in_scope (grown (scope_of t) t.made) o ≡ true → is_var (sources t) o ≡ true
+source_of : (t : StatementView) (o : Obj) → is_in_scope (with_sorts (scope_of t) t.made) o ≡ true → is_var (sources t) o ≡ true
 source_of t o h = elim (cases_lt o.num (count_of (scope_of t) o.sort)) [
   | inl l ↦ any_left (λ v. same_obj v o) (next_objects nothing t.declared) (next_objects (scope_of t) t.made) (next_member nothing t.declared o (no_less o) l)
-  | inr l ↦ any_right (λ v. same_obj v o) (next_objects nothing t.declared) (next_objects (scope_of t) t.made) (next_member (scope_of t) t.made o l (ltb-true o.num (count_of (grown (scope_of t) t.made) o.sort) h))
+  | inr l ↦ any_right (λ v. same_obj v o) (next_objects nothing t.declared) (next_objects (scope_of t) t.made) (next_member (scope_of t) t.made o l (ltb-true o.num (count_of (with_sorts (scope_of t) t.made) o.sort) h))
 ]
   where
     no_less : (o : Obj) → count_of nothing o.sort ≤ o.num
     no_less o = omega (arith, counts_nothing o.sort)
 
-sources_all : (t : StatementView) (os : List Obj) → list_all (is_in_scope (grown (scope_of t) t.made)) os ≡ true → list_all (is_var (sources t)) os ≡ true
+sources_all : (t : StatementView) (os : List Obj) → list_all (is_in_scope (with_sorts (scope_of t) t.made)) os ≡ true → list_all (is_var (sources t)) os ≡ true
 sources_all t [] h = refl
 sources_all t (o ∷ os) h =
-    let p = and_parts (is_in_scope (grown (scope_of t) t.made) o) (list_all (is_in_scope (grown (scope_of t) t.made)) os) h in
+    let p = and_parts (is_in_scope (with_sorts (scope_of t) t.made) o) (list_all (is_in_scope (with_sorts (scope_of t) t.made)) os) h in
     and_from (is_var (sources t) o) (list_all (is_var (sources t)) os) (source_of t o p.0) (sources_all t os p.1)
 
-pub speak_all : (t : StatementView) (ls : List Lit) → list_all (all_in_scope (grown (scope_of t) t.made)) ls ≡ true → list_all (speaks_of (sources t)) ls ≡ true
+pub speak_all : (t : StatementView) (ls : List Lit) → list_all (all_in_scope (with_sorts (scope_of t) t.made)) ls ≡ true → list_all (speaks_of (sources t)) ls ≡ true
 speak_all t [] h = refl
 speak_all t (l ∷ ls) h =
-    let p = and_parts (all_in_scope (grown (scope_of t) t.made) l) (list_all (all_in_scope (grown (scope_of t) t.made)) ls) h in
+    let p = and_parts (all_in_scope (with_sorts (scope_of t) t.made) l) (list_all (all_in_scope (with_sorts (scope_of t) t.made)) ls) h in
     and_from (speaks_of (sources t) l) (list_all (speaks_of (sources t)) ls) (sources_all t (objects_of_atom l.atom) p.0) (speak_all t ls p.1)
 
 -- the arguments still fit
@@ -419,7 +419,7 @@ pub arguments_at : (kept : List Obj) (t : StatementView) (s : Scope) (args : Lis
 arguments_at kept t s args h k = of_sorts_at kept s t.declared args h k
 
 -- literals of a statement at a use, over the kept objects and the new ones
-pub use_at : (kept : List Obj) (t : StatementView) (s : Scope) (args : List Obj) (ls : List Lit) → Bound s kept → AllKept kept args → are_arguments t s args ≡ true → list_all (all_in_scope (grown (scope_of t) t.made)) ls ≡ true
+pub use_at : (kept : List Obj) (t : StatementView) (s : Scope) (args : List Obj) (ls : List Lit) → Bound s kept → AllKept kept args → are_arguments t s args ≡ true → list_all (all_in_scope (with_sorts (scope_of t) t.made)) ls ≡ true
     → map (with_images (image_in_use t (map (obj_at kept) args) (scope_kept kept))) ls ≡ map (lit_among_kept (kept ++ next_objects s t.made)) (map (with_images (image_in_use t args s)) ls)
 use_at kept t s args ls b k h spoken =
     let more = kept ++ next_objects s t.made in
@@ -491,7 +491,7 @@ vars_over kept vars args (l ∷ ls) z h k m (inl e) = subst (OverLit kept) e one
         k x (subst (λ w. In w args) is (image_member vars args o.0 y.0 y.1))
 
 -- a new object is one of the next ones
-pub next_in : (b : Scope) (xs : List Sort) (o : Obj) → count_of b o.sort ≤ o.num → o.num < count_of (grown b xs) o.sort → In o (next_objects b xs)
+pub next_in : (b : Scope) (xs : List Sort) (o : Obj) → count_of b o.sort ≤ o.num → o.num < count_of (with_sorts b xs) o.sort → In o (next_objects b xs)
 next_in b xs o h k = of_vars (next_objects b xs) o (next_member b xs o h k)
   where
     of_vars : (vs : List Obj) (o : Obj) → is_var vs o ≡ true → In o vs

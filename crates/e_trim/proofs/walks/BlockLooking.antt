@@ -9,7 +9,7 @@ use Rattle.e_literal.specs.declared.object.Sort.{Sort}
 use Rattle.e_literal.specs.declared.literal.Lit.{Lit}
 use Rattle.e_literal.specs.Literal.{negation, all_in_scope}
 use Rattle.e_literal.specs.Facts.{with_fact, with_facts}
-use Rattle.e_literal.specs.Scopes.{grown}
+use Rattle.e_literal.specs.Scopes.{with_sorts}
 use Rattle.e_literal.specs.Use.{StatementView}
 use Rattle.e_construct.specs.declared.construction.Construction.{Construction}
 use Rattle.e_construct.specs.declared.superpose.Superpose.{Superpose}
@@ -54,16 +54,16 @@ block_enough sorts lits x after last outer e k o =
 pub block_back : (sorts : List Sort) (lits : List Lit) (x after last left : StepState) (outer : Checkpoint) → after ≡ state_with sorts lits x → KeepsFacts after last → outer ≡ checkpoint_of x → left ≡ state_at outer last → left ≡ x
 block_back sorts lits x after last left outer e k o f = f ∙ ap (λ y. state_at y last) o ∙ left_back x last (keeps_on x after last (opened_keeps sorts lits x after e) k)
 
-pub block_ready : (before : List StatementView) (d : Script) (goal : Goal) (sorts : List Sort) (lits : List Lit) (x after : StepState) → after ≡ state_with sorts lits x → IsReady before d (grown x.scope sorts) (with_facts x.facts lits) goal → IsReady before d after.scope after.facts goal
+pub block_ready : (before : List StatementView) (d : Script) (goal : Goal) (sorts : List Sort) (lits : List Lit) (x after : StepState) → after ≡ state_with sorts lits x → IsReady before d (with_sorts x.scope sorts) (with_facts x.facts lits) goal → IsReady before d after.scope after.facts goal
 block_ready before d goal sorts lits x after e r = subst (λ (y : StepState). IsReady before d y.scope y.facts goal) (sym e) r
 
 pub block_wants : (before : List StatementView) (d : Script) (goal : Goal) (sorts : List Sort) (lits : List Lit) (x after left : StepState) (w out : Wants) → after ≡ state_with sorts lits x → left ≡ x → w ≡ wants before d after.scope after.facts goal
-    → out ≡ wants_outside left.scope left.facts w → out ≡ wants_outside x.scope x.facts (wants before d (grown x.scope sorts) (with_facts x.facts lits) goal)
+    → out ≡ wants_outside left.scope left.facts w → out ≡ wants_outside x.scope x.facts (wants before d (with_sorts x.scope sorts) (with_facts x.facts lits) goal)
 block_wants before d goal sorts lits x after left w out e b f o =
     o ∙ ap (λ (y : StepState). wants_outside y.scope y.facts w) b ∙ ap (wants_outside x.scope x.facts) (f ∙ ap (λ (y : StepState). wants before d y.scope y.facts goal) e)
 
 pub block_flags : (before : List StatementView) (d : Script) (goal : Goal) (sorts : List Sort) (lits : List Lit) (x after : StepState) (old new : List Bool) → after ≡ state_with sorts lits x → new ≡ old ++ flags_of before d after.scope after.facts goal
-    → new ≡ old ++ flags_of before d (grown x.scope sorts) (with_facts x.facts lits) goal
+    → new ≡ old ++ flags_of before d (with_sorts x.scope sorts) (with_facts x.facts lits) goal
 block_flags before d goal sorts lits x after old new e f = f ∙ ap (λ (y : StepState). old ++ flags_of before d y.scope y.facts goal) e
 
 -- ---- a step with no block inside
@@ -109,8 +109,8 @@ claim_inside before step shown inner x rest is =
     (ap (λ d. inside_of before d x.scope x.facts) e, ap (λ d. step_flags before d x.scope x.facts) e)
 
 pub superposed_inside : (before : List StatementView) (step : Step) (superposition : Superpose) (names : List (List ℕ)) (shown : List Lit) (certs : List Cert) (inner : Box Block Global) (x : StepState) (rest : Script) → step ≡ SuperposedBlock superposition names shown certs inner
-    → (inside_of before (step_script step rest) x.scope x.facts ≡ wants_outside x.scope x.facts (wants before (script_of inner.value) (grown x.scope superposing.sorts_copied) (with_facts x.facts (superposing.gives_of_superposition superposition x.scope)) (goal_of shown)))
-    × (step_flags before (step_script step rest) x.scope x.facts ≡ flags_of before (script_of inner.value) (grown x.scope superposing.sorts_copied) (with_facts x.facts (superposing.gives_of_superposition superposition x.scope)) (goal_of shown))
+    → (inside_of before (step_script step rest) x.scope x.facts ≡ wants_outside x.scope x.facts (wants before (script_of inner.value) (with_sorts x.scope superposing.sorts_copied) (with_facts x.facts (superposing.gives_of_superposition superposition x.scope)) (goal_of shown)))
+    × (step_flags before (step_script step rest) x.scope x.facts ≡ flags_of before (script_of inner.value) (with_sorts x.scope superposing.sorts_copied) (with_facts x.facts (superposing.gives_of_superposition superposition x.scope)) (goal_of shown))
 superposed_inside before step superposition names shown certs inner x rest is =
     let e = ap (λ s. step_script s rest) is ∙ step_script-Superposed superposition names shown certs inner rest in
     (ap (λ d. inside_of before d x.scope x.facts) e, ap (λ d. step_flags before d x.scope x.facts) e)

@@ -5,7 +5,7 @@ use Rattle.std.proofs.lemmas.List.{take_rest}
 use Rattle.e_literal.specs.declared.object.Obj.{Obj}
 use Rattle.e_literal.specs.declared.object.Scope.{Scope}
 use Rattle.e_literal.specs.declared.object.Sort.{Sort}
-use Rattle.e_literal.specs.Scopes.{grown, next_objects}
+use Rattle.e_literal.specs.Scopes.{with_sorts, next_objects}
 use Rattle.e_literal.specs.Use.{StatementView}
 use Rattle.e_deriv.specs.declared.block.Close.{Close}
 use Rattle.e_deriv.specs.declared.block.Step.{Step}
@@ -63,33 +63,33 @@ pub begun_step : (before : List StatementView) (steps : List Step) (head : Step)
 begun_step before steps head sorts s close b = record { rest = steps_script (later_steps steps) close; small = begun_scopes before steps head sorts s close b }
 
 -- the scopes after the first step
-pub begun_rest : (before : List StatementView) (steps : List Step) (head : Step) (sorts : List Sort) (s after : Scope) (close : Script) → Begun before steps head sorts s close → after ≡ grown s sorts → AreSmall before (steps_script (later_steps steps) close) after
+pub begun_rest : (before : List StatementView) (steps : List Step) (head : Step) (sorts : List Sort) (s after : Scope) (close : Script) → Begun before steps head sorts s close → after ≡ with_sorts s sorts → AreSmall before (steps_script (later_steps steps) close) after
 begun_rest before steps head sorts s after close b e =
     let rest = steps_script (later_steps steps) close in
-    subst (AreSmall before rest) (ap (grown s) (sym (b.makes rest)) ∙ sym e) (small_rest before head rest s (begun_scopes before steps head sorts s close b))
+    subst (AreSmall before rest) (ap (with_sorts s) (sym (b.makes rest)) ∙ sym e) (small_rest before head rest s (begun_scopes before steps head sorts s close b))
 
-pub wide_few : (s after : Scope) (sorts : List Sort) (kept : List Obj) → after ≡ grown s sorts → FewKept s kept → FewKept after kept
+pub wide_few : (s after : Scope) (sorts : List Sort) (kept : List Obj) → after ≡ with_sorts s sorts → FewKept s kept → FewKept after kept
 wide_few s after sorts kept e k = subst (λ x. FewKept x kept) (sym e) (few_wide s sorts kept k)
 
-pub more_few : (s after : Scope) (sorts : List Sort) (kept more : List Obj) → after ≡ grown s sorts → more ≡ kept ++ next_objects s sorts → FewKept s kept → FewKept after more
+pub more_few : (s after : Scope) (sorts : List Sort) (kept more : List Obj) → after ≡ with_sorts s sorts → more ≡ kept ++ next_objects s sorts → FewKept s kept → FewKept after more
 more_few s after sorts kept more e f k = subst (FewKept after) (sym f) (subst (λ x. FewKept x (kept ++ next_objects s sorts)) (sym e) (few_more s sorts kept k))
 
 pub dropped_whole : (before : List StatementView) (kept : List Obj) (steps : List Step) (head : Step) (sorts : List Sort) (s after : Scope) (close : Script) (pile popped left : List Bool) (flagged : Bool) (done now : List Step) (new : Close)
-    → Begun before steps head sorts s close → after ≡ grown s sorts → TakesFlag pile popped flagged → flagged ≡ false → IsBuilt before kept (steps_script (later_steps steps) close) after popped left done now new
+    → Begun before steps head sorts s close → after ≡ with_sorts s sorts → TakesFlag pile popped flagged → flagged ≡ false → IsBuilt before kept (steps_script (later_steps steps) close) after popped left done now new
     → IsBuilt before kept (steps_script steps close) s pile left done now new
 dropped_whole before kept steps head sorts s after close pile popped left flagged done now new b e takes off built =
     let rest = steps_script (later_steps steps) close in
-    let at = subst (λ x. IsBuilt before kept rest x popped left done now new) (e ∙ ap (grown s) (b.makes rest)) built in
+    let at = subst (λ x. IsBuilt before kept rest x popped left done now new) (e ∙ ap (with_sorts s) (b.makes rest)) built in
     subst (λ d. IsBuilt before kept d s pile left done now new) (sym (whole_is steps head close b.some b.first)) (built_dropped before kept head rest s pile popped left flagged done now new takes off at)
 
 pub kept_whole : (before : List StatementView) (kept more : List Obj) (steps : List Step) (head : Step) (sorts : List Sort) (s after : Scope) (close : Script) (pile popped over left : List Bool) (flagged : Bool) (done put now : List Step) (step : Step) (new : Close)
-    → Begun before steps head sorts s close → after ≡ grown s sorts → more ≡ kept ++ next_objects s sorts → put ≡ done ++ step ∷ [] → TakesFlag pile popped flagged → flagged ≡ true → StepIsBuilt before kept head s popped over step
+    → Begun before steps head sorts s close → after ≡ with_sorts s sorts → more ≡ kept ++ next_objects s sorts → put ≡ done ++ step ∷ [] → TakesFlag pile popped flagged → flagged ≡ true → StepIsBuilt before kept head s popped over step
     → IsBuilt before more (steps_script (later_steps steps) close) after over left put now new
     → IsBuilt before kept (steps_script steps close) s pile left done now new
 kept_whole before kept more steps head sorts s after close pile popped over left flagged done put now step new b e f g takes on own built =
     let rest = steps_script (later_steps steps) close in
     let same = b.makes rest in
-    let at = subst (λ x. IsBuilt before more rest x over left put now new) (e ∙ ap (grown s) same) built in
-    let kept_at = subst (λ ks. IsBuilt before ks rest (grown s (makes_at before (step_script head rest))) over left put now new) (f ∙ ap (λ xs. kept ++ next_objects s xs) same) at in
-    let put_at = subst (λ xs. IsBuilt before (kept ++ next_objects s (makes_at before (step_script head rest))) rest (grown s (makes_at before (step_script head rest))) over left xs now new) g kept_at in
+    let at = subst (λ x. IsBuilt before more rest x over left put now new) (e ∙ ap (with_sorts s) same) built in
+    let kept_at = subst (λ ks. IsBuilt before ks rest (with_sorts s (makes_at before (step_script head rest))) over left put now new) (f ∙ ap (λ xs. kept ++ next_objects s xs) same) at in
+    let put_at = subst (λ xs. IsBuilt before (kept ++ next_objects s (makes_at before (step_script head rest))) rest (with_sorts s (makes_at before (step_script head rest))) over left xs now new) g kept_at in
     subst (λ d. IsBuilt before kept d s pile left done now new) (sym (whole_is steps head close b.some b.first)) (built_kept before kept head rest s pile popped over left flagged done now step new takes on own put_at)

@@ -14,11 +14,11 @@ use Rattle.e_deriv.specs.declared.block.Step.{Step}
 use Rattle.e_deriv.specs.declared.block.Step.TheVariants.{Cite as CiteStep, Hence as HenceStep, Make as MakeStep, Apply as ApplyStep, Claim' as ClaimStep, Superposed' as SuperposedStep}
 use Rattle.e_deriv.specs.Script.{Script, Cite, Hence, Make, Apply, Claim, Superposed, Qed, Contradiction, Cases, step_script, row_script, close_script}
 use Rattle.e_deriv.proofs.Scripts.{scripts}
-use Rattle.e_trim.specs.Applied.{places_of, noted, noted_all, places_of_step}
+use Rattle.e_trim.specs.Applied.{places_of, with_new_place, with_new_places, places_of_step}
 
-pub noted-append : (ps qs rs : List ℕ) → noted_all ps (qs ++ rs) ≡ noted_all (noted_all ps qs) rs
+pub noted-append : (ps qs rs : List ℕ) → with_new_places ps (qs ++ rs) ≡ with_new_places (with_new_places ps qs) rs
 noted-append ps [] rs = refl
-noted-append ps (q ∷ qs) rs = noted-append (noted ps q) qs rs
+noted-append ps (q ∷ qs) rs = noted-append (with_new_place ps q) qs rs
 
 -- the places of a step, and then those of what comes after it
 pub places-step : (s : Step) (rest : Script) → places_of (step_script s rest) ≡ places_of_step s ++ places_of rest
@@ -30,8 +30,8 @@ places-step (ApplyStep theorem args names certs) rest = refl
 places-step (ClaimStep shown p0 n0 row0 close0) rest = sym (append_assoc (places_of (row_script row0 (close_script close0))) [] (places_of rest))
 places-step (SuperposedStep superposition names shown certs p0 n0 row0 close0) rest = sym (append_assoc (places_of (row_script row0 (close_script close0))) [] (places_of rest))
 
-pub noted_step : (ps : List ℕ) (s : Step) (rest : Script) → noted_all (noted_all ps (places_of_step s)) (places_of rest) ≡ noted_all ps (places_of (step_script s rest))
-noted_step ps s rest = sym (noted-append ps (places_of_step s) (places_of rest)) ∙ ap (noted_all ps) (sym (places-step s rest))
+pub noted_step : (ps : List ℕ) (s : Step) (rest : Script) → with_new_places (with_new_places ps (places_of_step s)) (places_of rest) ≡ with_new_places ps (places_of (step_script s rest))
+noted_step ps s rest = sym (noted-append ps (places_of_step s) (places_of rest)) ∙ ap (with_new_places ps) (sym (places-step s rest))
 
 -- ---- by form
 
@@ -75,10 +75,10 @@ pub ruleset places = (places-Cite, places-Hence, places-Make, places-Apply, plac
 
 -- ---- noted
 
-pub noted_there : (ps : List ℕ) (p : ℕ) → list_any (λ q. eqb q p) ps ≡ true → ps ≡ noted ps p
+pub noted_there : (ps : List ℕ) (p : ℕ) → list_any (λ q. eqb q p) ps ≡ true → ps ≡ with_new_place ps p
 noted_there ps p h = sym (ap (λ b. cond b ps (ps ++ p ∷ [])) h)
 
-pub noted_last : (ps : List ℕ) (p : ℕ) → list_any (λ q. eqb q p) ps ≡ false → ps ++ p ∷ [] ≡ noted ps p
+pub noted_last : (ps : List ℕ) (p : ℕ) → list_any (λ q. eqb q p) ps ≡ false → ps ++ p ∷ [] ≡ with_new_place ps p
 noted_last ps p h = sym (ap (λ b. cond b ps (ps ++ p ∷ [])) h)
 
 pub ruleset noting = (common_steps, noted-append, noted_step, noted_there, noted_last, append-nil, scripts, places)

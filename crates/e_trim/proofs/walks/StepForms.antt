@@ -10,7 +10,7 @@ use Rattle.e_literal.specs.declared.object.Scope.{Scope}
 use Rattle.e_literal.specs.declared.literal.Lit.{Lit}
 use Rattle.e_literal.specs.Literal.{negation}
 use Rattle.e_literal.specs.Facts.{with_fact, with_facts}
-use Rattle.e_literal.specs.Scopes.{grown, next_objects}
+use Rattle.e_literal.specs.Scopes.{with_sorts, next_objects}
 use Rattle.e_literal.specs.Use.{StatementView}
 use Rattle.e_construct.specs.declared.superpose.Superpose.{Superpose}
 use Rattle.e_construct.specs.Superposing as superposing
@@ -39,7 +39,7 @@ use Rattle.e_trim.specs.declared.step_state.StepState.{StepState}
 abbrev pub inner_test : (PlacedStep → Bool) → List StatementView → Script → Scope → List Lit → Bool
 inner_test p before (Claim shown inner rest) s facts = list_all p (placed_steps before inner inner s facts (goal_of shown))
 inner_test p before (Superposed superposition names shown certs inner rest) s facts =
-    list_all p (placed_steps before inner inner (grown s superposing.sorts_copied) (with_facts facts (superposing.gives_of_superposition superposition s)) (goal_of shown))
+    list_all p (placed_steps before inner inner (with_sorts s superposing.sorts_copied) (with_facts facts (superposing.gives_of_superposition superposition s)) (goal_of shown))
 inner_test p before d s facts = true
 
 abbrev lines_test : (PlacedStep → Bool) → List StatementView → Script → StepState → Goal → Bool
@@ -62,7 +62,7 @@ step_lines p before (ClaimStep shown p0 n0 row0 close0) rest x goal =
     both_lists p (p (as_step (Claim shown inner rest) x.scope x.facts goal)) (placed_steps before inner inner x.scope x.facts (goal_of shown)) (placed_steps before rest rest x.scope (with_facts x.facts shown) goal)
 step_lines p before (SuperposedStep superposition names shown certs p0 n0 row0 close0) rest x goal =
     let inner = inner_of (step_script (SuperposedStep superposition names shown certs p0 n0 row0 close0) rest) in
-    both_lists p (p (as_step (Superposed superposition names shown certs inner rest) x.scope x.facts goal)) (placed_steps before inner inner (grown x.scope superposing.sorts_copied) (with_facts x.facts (superposing.gives_of_superposition superposition x.scope)) (goal_of shown))
+    both_lists p (p (as_step (Superposed superposition names shown certs inner rest) x.scope x.facts goal)) (placed_steps before inner inner (with_sorts x.scope superposing.sorts_copied) (with_facts x.facts (superposing.gives_of_superposition superposition x.scope)) (goal_of shown))
     (placed_steps before rest rest x.scope (with_facts x.facts shown) goal)
 
 -- all of a step's lines are so: its own, those of its block, and those after it
@@ -96,7 +96,7 @@ claim_ready before shown inner x r =
     }
 
 pub superposed_ready : (before : List StatementView) (superposition : Superpose) (names : List (List ℕ)) (shown : List Lit) (certs : List Cert) (inner : Box Block Global) (x : StepState) → IsReadyToTrim before (SuperposedBlock superposition names shown certs inner) x
-    → IsReady before (script_of inner.value) (grown x.scope superposing.sorts_copied) (with_facts x.facts (superposing.gives_of_superposition superposition x.scope)) (goal_of shown)
+    → IsReady before (script_of inner.value) (with_sorts x.scope superposing.sorts_copied) (with_facts x.facts (superposing.gives_of_superposition superposition x.scope)) (goal_of shown)
 superposed_ready before superposition names shown certs inner x r =
     let step = SuperposedBlock superposition names shown certs inner in
     let e = step_script-Superposed superposition names shown certs inner r.rest in

@@ -6,7 +6,7 @@ use Rattle.e_literal.specs.declared.object.Obj.{Obj}
 use Rattle.e_literal.specs.declared.object.Scope.{Scope}
 use Rattle.e_literal.specs.declared.literal.Lit.{Lit}
 use Rattle.e_literal.specs.Facts.{with_facts}
-use Rattle.e_literal.specs.Scopes.{grown, next_objects}
+use Rattle.e_literal.specs.Scopes.{with_sorts, next_objects}
 use Rattle.e_literal.specs.Use.{StatementView}
 use Rattle.e_construct.specs.Superposing as superposing
 use Rattle.e_deriv.specs.declared.block.Block.{Block}
@@ -48,7 +48,7 @@ kept_step before kept (Superposed superposition names shown certs inner rest) s 
     Superposed (superpose_at kept superposition) names (map (lit_among_kept kept) shown)
     (map (cert_at kept) certs)
     (trimmed_from before (kept ++ next_objects s superposing.sorts_copied) inner
-    (grown s superposing.sorts_copied)
+    (with_sorts s superposing.sorts_copied)
     (with_facts facts (superposing.gives_of_superposition superposition s)) (goal_of shown))
     more
 kept_step before kept close s facts more = more

@@ -5,7 +5,7 @@ use Rattle.e_literal.specs.declared.object.Scope.{Scope}
 use Rattle.e_literal.specs.declared.literal.Lit.{Lit}
 use Rattle.e_literal.specs.Literal.{negation}
 use Rattle.e_literal.specs.Facts.{with_fact, with_facts}
-use Rattle.e_literal.specs.Scopes.{grown}
+use Rattle.e_literal.specs.Scopes.{with_sorts}
 use Rattle.e_literal.specs.Use.{StatementView}
 use Rattle.e_construct.specs.Construct.{sorts_made, gives_of_construction}
 use Rattle.e_construct.specs.Superposing as superposing
@@ -34,7 +34,7 @@ flags_of before (Hence lit cert rest) s facts goal =
     ++ flag (is_kept before (Hence lit cert rest) s facts (wants before rest s after goal)) []
 flags_of before (Make construction names certs rest) s facts goal =
     let after = with_facts facts (gives_of_construction construction s) in
-    let wide = grown s (sorts_made construction) in
+    let wide = with_sorts s (sorts_made construction) in
     flags_of before rest wide after goal
     ++ flag
     (is_kept before (Make construction names certs rest) s facts
@@ -42,7 +42,7 @@ flags_of before (Make construction names certs rest) s facts goal =
 flags_of before (Apply theorem args names certs rest) s facts goal =
     let here = Apply theorem args names certs rest in
     let after = with_facts facts (joins_at before here s) in
-    let wide = grown s (theorem_at before theorem).made in
+    let wide = with_sorts s (theorem_at before theorem).made in
     flags_of before rest wide after goal
     ++ flag (is_kept before here s facts (wants before rest wide after goal)) []
 flags_of before (Claim shown inner rest) s facts goal =
@@ -56,7 +56,7 @@ flags_of before (Superposed superposition names shown certs inner rest) s facts 
     flags_of before rest s after goal
     ++ flag (is_kept before (Superposed superposition names shown certs inner rest) s facts
     (wants before rest s after goal))
-    (flags_of before inner (grown s superposing.sorts_copied) opened (goal_of shown))
+    (flags_of before inner (with_sorts s superposing.sorts_copied) opened (goal_of shown))
 flags_of before (Qed objects certs) s facts goal = []
 flags_of before (Contradiction against) s facts goal = []
 flags_of before (Cases lit first second) s facts goal =
@@ -68,7 +68,7 @@ abbrev pub inside_of : List StatementView → Script → Scope → List Lit → 
 inside_of before (Claim shown inner rest) s facts =
     wants_outside s facts (wants before inner s facts (goal_of shown))
 inside_of before (Superposed superposition names shown certs inner rest) s facts =
-    wants_outside s facts (wants before inner (grown s superposing.sorts_copied)
+    wants_outside s facts (wants before inner (with_sorts s superposing.sorts_copied)
     (with_facts facts (superposing.gives_of_superposition superposition s)) (goal_of shown))
 inside_of before _ s facts = no_wants
 
@@ -76,6 +76,6 @@ inside_of before _ s facts = no_wants
 abbrev pub step_flags : List StatementView → Script → Scope → List Lit → List Bool
 step_flags before (Claim shown inner rest) s facts = flags_of before inner s facts (goal_of shown)
 step_flags before (Superposed superposition names shown certs inner rest) s facts =
-    flags_of before inner (grown s superposing.sorts_copied)
+    flags_of before inner (with_sorts s superposing.sorts_copied)
     (with_facts facts (superposing.gives_of_superposition superposition s)) (goal_of shown)
 step_flags before _ s facts = []

@@ -6,7 +6,7 @@ use Rattle.e_literal.specs.declared.object.Scope.{Scope}
 use Rattle.e_literal.specs.declared.object.Sort.{Sort}
 use Rattle.e_literal.specs.declared.literal.Lit.{Lit}
 use Rattle.e_literal.specs.Facts.{with_facts}
-use Rattle.e_literal.specs.Scopes.{grown}
+use Rattle.e_literal.specs.Scopes.{with_sorts}
 use Rattle.e_literal.specs.Use.{StatementView, scope_of, are_arguments}
 use Rattle.e_deriv.specs.Goal.{Goal, facts_of_statement}
 use Rattle.e_deriv.specs.Script.{Script, step_script, close_script}
@@ -35,7 +35,7 @@ state_at outer x = record { scope = outer.scope; facts = take outer.facts x.fact
 
 -- with objects of these sorts in scope, and these literals for facts
 abbrev pub state_with : List Sort → List Lit → StepState → StepState
-state_with sorts lits x = record { scope = grown x.scope sorts; facts = with_facts x.facts lits }
+state_with sorts lits x = record { scope = with_sorts x.scope sorts; facts = with_facts x.facts lits }
 
 -- each step fits, and at most 1,000 objects of each sort are in scope before it
 pub record IsReady (before : List StatementView) (d : Script) (s : Scope) (facts : List Lit)

@@ -7,7 +7,7 @@ use Rattle.e_literal.specs.declared.object.Term.TheVariants.{Seg, Ang, Area, Rig
 use Rattle.e_literal.specs.Same.{term_eq}
 use Rattle.e_literal.proofs.Booleans.{and_left, and_right, same_bool}
 use Rattle.e_literal.proofs.Terms.{term_eq_is, equal_terms}
-use Rattle.e_verify.specs.inner.Fingerprint.{packed}
+use Rattle.e_verify.specs.inner.Fingerprint.{packed_number}
 use Rattle.e_verify.specs.inner.Totals.{term_key, is_narrow}
 
 abbrev is_low : ℕ → Bool
@@ -28,7 +28,7 @@ record IsSameNumbers (k l a b c d e f : ℕ) : Type 0 where
   second : b ≡ e
   third : c ≡ f
 
-four : (k l a b c d e f : ℕ) → a < 65536 → b < 65536 → c < 65536 → d < 65536 → e < 65536 → f < 65536 → packed k a b c ≡ packed l d e f → IsSameNumbers k l a b c d e f
+four : (k l a b c d e f : ℕ) → a < 65536 → b < 65536 → c < 65536 → d < 65536 → e < 65536 → f < 65536 → packed_number k a b c ≡ packed_number l d e f → IsSameNumbers k l a b c d e f
 four k l a b c d e f ha hb hc hd he hf is =
     let last = one_more ((k * 65536 + a) * 65536 + b) ((l * 65536 + d) * 65536 + e) c f hc hf is in
     let middle = one_more (k * 65536 + a) (l * 65536 + d) b e hb he last.0 in
@@ -73,7 +73,7 @@ back (Ang a b c) = refl
 back (Area a b c) = refl
 back Right = refl
 
-key_is : (t : Term) → term_key t ≡ packed (kind_of t) (first_of t) (second_of t) (third_of t)
+key_is : (t : Term) → term_key t ≡ packed_number (kind_of t) (first_of t) (second_of t) (third_of t)
 key_is (Seg a b) = refl
 key_is (Ang a b c) = refl
 key_is (Area a b c) = refl

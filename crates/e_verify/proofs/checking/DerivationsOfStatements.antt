@@ -4,7 +4,7 @@ use Rattle.std.proofs.Common.{[], ◌∷◌}
 use Rattle.std.specs.List.{list_all}
 use Rattle.e_literal.specs.declared.literal.Lit.{Lit}
 use Rattle.e_literal.specs.Literal.{all_in_scope}
-use Rattle.e_literal.specs.Scopes.{grown, nothing}
+use Rattle.e_literal.specs.Scopes.{with_sorts, nothing}
 use Rattle.e_literal.specs.Use.{StatementView, scope_of, is_statement}
 use Rattle.e_literal.specs.WellFormed.{is_well_formed}
 use Rattle.e_literal.proofs.GrownScopes.{total_grown}
@@ -33,8 +33,8 @@ each_formed q (l ∷ ls) h =
 shown_formed : (t : StatementView) → is_statement t ≡ true → list_all is_well_formed t.shown ≡ true
 shown_formed t h =
     let s = scope_of t in
-    each_formed (all_in_scope (grown s t.made)) t.shown
-    (and_right (list_all (λ l. is_well_formed l && all_in_scope s l) t.given) (list_all (λ l. is_well_formed l && all_in_scope (grown s t.made) l) t.shown) h)
+    each_formed (all_in_scope (with_sorts s t.made)) t.shown
+    (and_right (list_all (λ l. is_well_formed l && all_in_scope s l) t.given) (list_all (λ l. is_well_formed l && all_in_scope (with_sorts s t.made) l) t.shown) h)
 
 -- the facts that a proof begins with
 facts_formed : (t : StatementView) → is_statement t ≡ true → list_all is_well_formed (facts_of_statement t) ≡ true
@@ -42,7 +42,7 @@ facts_formed t h =
     let s = scope_of t in
     all_joined_formed [] t.given refl
     (each_formed (all_in_scope s) t.given
-    (and_left (list_all (λ l. is_well_formed l && all_in_scope s l) t.given) (list_all (λ l. is_well_formed l && all_in_scope (grown s t.made) l) t.shown) h))
+    (and_left (list_all (λ l. is_well_formed l && all_in_scope s l) t.given) (list_all (λ l. is_well_formed l && all_in_scope (with_sorts s t.made) l) t.shown) h))
 
 pub start_ready : (before : List StatementView) (t : StatementView) (d : Script) (x : StepState) (g : Goal) → IsVerifiable before t d → x ≡ state_at_start t → g ≡ goal_of_statement t → IsCheckable before d x g 1
 start_ready before t d x g v is same =

@@ -4,7 +4,7 @@ use Rattle.e_literal.specs.declared.object.Obj.{Obj}
 use Rattle.e_literal.specs.declared.literal.Lit.{Lit}
 use Rattle.e_literal.specs.Literal.{negation}
 use Rattle.e_literal.specs.Facts.{with_fact, with_facts}
-use Rattle.e_literal.specs.Scopes.{grown}
+use Rattle.e_literal.specs.Scopes.{with_sorts}
 use Rattle.e_literal.specs.Use.{StatementView, gives_of_use}
 use Rattle.e_clause.specs.declared.cert.Against.{Against}
 use Rattle.e_clause.specs.declared.cert.By.{By}
@@ -40,7 +40,7 @@ make_lines before construction names certs x rest goal = refl
 
 -- after an application
 abbrev pub after_apply : StatementView → List Obj → StepState → StepState
-after_apply t args x = record { scope = grown x.scope t.made; facts = with_facts x.facts (gives_of_use t args x.scope) }
+after_apply t args x = record { scope = with_sorts x.scope t.made; facts = with_facts x.facts (gives_of_use t args x.scope) }
 
 pub apply_lines : (before : List StatementView) (theorem : ℕ) (args : List (Option Obj)) (names : List (List ℕ)) (certs : List Cert) (x : StepState) (rest : Script) (goal : Goal)
     → steps_in_state before (Apply theorem args names certs rest) x goal ≡ step_in_state (Apply theorem args names certs rest) x goal ∷ steps_in_state before rest (after_apply (theorem_at before theorem) (written args) x) goal

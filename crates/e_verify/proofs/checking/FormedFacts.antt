@@ -8,7 +8,7 @@ use Rattle.e_literal.specs.declared.object.Scope.{Scope}
 use Rattle.e_literal.specs.declared.literal.Lit.{Lit}
 use Rattle.e_literal.specs.Literal.{all_in_scope}
 use Rattle.e_literal.specs.Facts.{has, with_fact, with_facts}
-use Rattle.e_literal.specs.Scopes.{grown}
+use Rattle.e_literal.specs.Scopes.{with_sorts}
 use Rattle.e_literal.specs.Use.{StatementView, is_statement, are_arguments, gives_of_use}
 use Rattle.e_literal.specs.WellFormed.{is_well_formed}
 use Rattle.e_literal.proofs.Booleans.{and_left, and_right, all_both}
@@ -51,11 +51,11 @@ each p (l ∷ ls) h =
     ∙ each p ls (and_right (p l && is_well_formed l) (list_all (λ l. p l && is_well_formed l) ls) h)
 
 pub make_gives_formed : (construction : Construction) (s : Scope) → fits_construction construction s ≡ true → all_formed (gives_of_construction construction s) ≡ true
-make_gives_formed construction s h = each (all_in_scope (grown s (sorts_made construction))) (gives_of_construction construction s) (gives_good construction s h)
+make_gives_formed construction s h = each (all_in_scope (with_sorts s (sorts_made construction))) (gives_of_construction construction s) (gives_good construction s h)
 
 pub use_gives_formed : (t : StatementView) (args : List Obj) (s : Scope) → is_small_statement t ≡ true → are_arguments t s args ≡ true → all_formed (gives_of_use t args s) ≡ true
 use_gives_formed t args s h k =
-    each (all_in_scope (grown s t.made)) (gives_of_use t args s) (use_gives_good t args s (and_left (is_statement t) (is_small (all_objects t)) h) k)
+    each (all_in_scope (with_sorts s t.made)) (gives_of_use t args s) (use_gives_good t args s (and_left (is_statement t) (is_small (all_objects t)) h) k)
 
 pub superposed_gives_formed : (superposition : Superpose) (s : Scope) → superposing.fits_superposition superposition s ≡ true → all_formed (superposing.gives_of_superposition superposition s) ≡ true
-superposed_gives_formed superposition s h = each (all_in_scope (grown s superposing.sorts_copied)) (superposing.gives_of_superposition superposition s) (superposition_gives superposition s h)
+superposed_gives_formed superposition s h = each (all_in_scope (with_sorts s superposing.sorts_copied)) (superposing.gives_of_superposition superposition s) (superposition_gives superposition s h)

@@ -8,7 +8,7 @@ use Rattle.e_literal.specs.declared.literal.Atom.TheVariants.{On, OnC, Inside, C
 use Rattle.e_literal.specs.Same.{agree, same_atom, same_neg, same_lit}
 use Rattle.e_literal.proofs.Valued.{same_difference}
 use Rattle.e_literal.proofs.Booleans.{and_left, and_right, eqb_self}
-use Rattle.e_verify.specs.inner.Fingerprint.{term_number, sum_weight, packed, atom_fingerprint}
+use Rattle.e_verify.specs.inner.Fingerprint.{term_number, sum_weight, packed_number, atom_fingerprint}
 
 apart_moved : (a b c d : ℕ) → a + d ≡ c + b → abs_diff a b ≡ abs_diff c d
 apart_moved a b c d e = omega (arith, e)
@@ -16,14 +16,14 @@ apart_moved a b c d e = omega (arith, e)
 apart_turned : (a b c d : ℕ) → a + c ≡ d + b → abs_diff a b ≡ abs_diff c d
 apart_turned a b c d e = omega (arith, e)
 
-two : (kind a b c d : ℕ) → (eqb a c && eqb b d) ≡ true → packed kind a b 0 ≡ packed kind c d 0
-two kind a b c d h = ap₂ (λ x y. packed kind x y 0) (eqb-true a c (and_left (eqb a c) (eqb b d) h)) (eqb-true b d (and_right (eqb a c) (eqb b d) h))
+two : (kind a b c d : ℕ) → (eqb a c && eqb b d) ≡ true → packed_number kind a b 0 ≡ packed_number kind c d 0
+two kind a b c d h = ap₂ (λ x y. packed_number kind x y 0) (eqb-true a c (and_left (eqb a c) (eqb b d) h)) (eqb-true b d (and_right (eqb a c) (eqb b d) h))
 
-three : (kind a b c d e f : ℕ) → (eqb a d && (eqb b e && eqb c f)) ≡ true → packed kind a b c ≡ packed kind d e f
+three : (kind a b c d e f : ℕ) → (eqb a d && (eqb b e && eqb c f)) ≡ true → packed_number kind a b c ≡ packed_number kind d e f
 three kind a b c d e f h =
     let rest = and_right (eqb a d) (eqb b e && eqb c f) h in
-    ap (λ x. packed kind x b c) (eqb-true a d (and_left (eqb a d) (eqb b e && eqb c f) h))
-    ∙ ap₂ (λ y z. packed kind d y z) (eqb-true b e (and_left (eqb b e) (eqb c f) rest)) (eqb-true c f (and_right (eqb b e) (eqb c f) rest))
+    ap (λ x. packed_number kind x b c) (eqb-true a d (and_left (eqb a d) (eqb b e && eqb c f) h))
+    ∙ ap₂ (λ y z. packed_number kind d y z) (eqb-true b e (and_left (eqb b e) (eqb c f) rest)) (eqb-true c f (and_right (eqb b e) (eqb c f) rest))
 
 one_fingerprint : (a b : Atom) → same_atom a b ≡ true → atom_fingerprint a ≡ atom_fingerprint b
 unfolding atom_fingerprint

@@ -8,14 +8,14 @@ use Rattle.std.specs.Int.{int_wrap, w128}
 use Rattle.e_literal.specs.declared.object.Term.{Term}
 use Rattle.e_literal.specs.declared.object.Term.TheVariants.{Seg, Ang, Area, Right}
 use Rattle.e_literal.specs.NormalForm.{numbers_of}
-use Rattle.e_verify.specs.inner.Fingerprint.{packed}
+use Rattle.e_verify.specs.inner.Fingerprint.{packed_number}
 
 -- the kind and the points of a term as one number
 abbrev pub term_key : Term → ℕ
-term_key (Seg a b) = packed 0 a b 0
-term_key (Ang a b c) = packed 1 a b c
-term_key (Area a b c) = packed 2 a b c
-term_key Right = packed 3 0 0 0
+term_key (Seg a b) = packed_number 0 a b 0
+term_key (Ang a b c) = packed_number 1 a b c
+term_key (Area a b c) = packed_number 2 a b c
+term_key Right = packed_number 3 0 0 0
 
 -- the points have numbers below 2^16, as those of the program: such terms have keys of their own
 abbrev pub is_narrow : Term → Bool

@@ -1,7 +1,7 @@
 use Rattle.std.proofs.Common.{[], ◌∷◌, refl, ap, ◌∙◌, arith, length, length-append}
 use Rattle.std.proofs.lemmas.Result.{err_from_is_err_and}
 use Rattle.e_book.specs.Grammar.{last_line}
-use Rattle.e_names.specs.TitledStatements.{headed}
+use Rattle.e_names.specs.TitledStatements.{titled_statement}
 use Rattle.e_book.specs.TheoremViews.{entry_of}
 use Rattle.e_judgement.proofs.Passing.{reads_on, closes_at, small_more}
 use Rattle.e_commands.proofs.written_texts.RewrittenTexts.{is_verified, begins, goes_on, breaks_off, breaks_at, ends_so}
@@ -56,7 +56,7 @@ loop-theorem-preserved g c =
     record {
       progress = rw passed.known_now progress;
       small = rw passed.known_now small;
-      few = omega (arith, ap length passed.known_now, length-append c.loop-theorem.known (headed c.in-Ok-Theorem.theorem.title c.in-Ok-Theorem.theorem.statement ∷ []), next.spelled.few_theorems);
+      few = omega (arith, ap length passed.known_now, length-append c.loop-theorem.known (titled_statement c.in-Ok-Theorem.theorem.title c.in-Ok-Theorem.theorem.statement ∷ []), next.spelled.few_theorems);
       last = on.1 ∙ c.loop-theorem.invariant.last;
       rises = omega (arith, c.loop-theorem.invariant.rises, c.pass.ensures.rises);
     }

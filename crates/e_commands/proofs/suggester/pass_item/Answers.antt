@@ -1,4 +1,4 @@
-use Rattle.e_names.specs.Titled.{titled}
+use Rattle.e_names.specs.Titled.{titled_notion}
 use Rattle.e_commands.proofs.answers.SuggesterAnswers.{notion_passes}
 use Rattle.e_commands.proofs.suggester.pass_item.Goals as goal
 
@@ -19,4 +19,4 @@ returns-in-Theorem c = rw c.in-Theorem.is c.pass_theorem.ensures
 
 pub returns-in_ok-add_notion-in-Notion : goal.returns-in_ok-add_notion-in-Notion
 returns-in_ok-add_notion-in-Notion c =
-    rw c.in-Notion.is (notion_passes c.args.known.now c.add_notion.new.self c.args.title c.args.step (titled c.in-Notion.name c.in-Notion.notion) (rw c.in-Notion.is at c.requires.good).1 c.in_ok-add_notion-in-Notion.ensures.ok)
+    rw c.in-Notion.is (notion_passes c.args.known.now c.add_notion.new.self c.args.title c.args.step (titled_notion c.in-Notion.name c.in-Notion.notion) (rw c.in-Notion.is at c.requires.good).1 c.in_ok-add_notion-in-Notion.ensures.ok)

@@ -1,6 +1,6 @@
 use Rattle.std.proofs.Common.{[], ◌∷◌, ap, ◌∙◌, arith, length, length-append}
 use Rattle.e_book.specs.Grammar.{last_line}
-use Rattle.e_names.specs.TitledStatements.{headed}
+use Rattle.e_names.specs.TitledStatements.{titled_statement}
 use Rattle.e_book.specs.TheoremViews.{entry_of}
 use Rattle.e_judgement.proofs.Passing.{closes_so, reads_on, closes_at, goes_on, small_more}
 use Rattle.e_judgement.proofs.judging.judge_theorems.Goals as goal
@@ -26,7 +26,7 @@ loop-theorem-preserved c =
     record {
       history = rw c.in_ok-keep.ensures history;
       small = rw c.in_ok-keep.ensures small;
-      few = omega (arith, ap length c.in_ok-keep.ensures, length-append c.loop-theorem.known (headed c.in-Ok-Theorem.theorem.title c.in-Ok-Theorem.theorem.statement ∷ []), next.spelled.few_theorems);
+      few = omega (arith, ap length c.in_ok-keep.ensures, length-append c.loop-theorem.known (titled_statement c.in-Ok-Theorem.theorem.title c.in-Ok-Theorem.theorem.statement ∷ []), next.spelled.few_theorems);
       last = on.1 ∙ c.loop-theorem.invariant.last;
     }
 

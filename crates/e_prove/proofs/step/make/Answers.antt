@@ -1,7 +1,7 @@
 use Rattle.std.proofs.Common.{◌≡◌, sym, ap, ◌∙◌, subst, true}
 use Rattle.std.specs.Prelude.{IsTrue}
 use Rattle.e_literal.specs.Facts.{with_facts}
-use Rattle.e_literal.specs.Scopes.{grown}
+use Rattle.e_literal.specs.Scopes.{with_sorts}
 use Rattle.e_clause.specs.LimitedFacts.{are_limited_facts}
 use Rattle.e_clause.specs.Certify.{certify_all}
 use Rattle.e_construct.specs.Construct.{sorts_made, gives_of_construction}
@@ -20,7 +20,7 @@ make-requires-clause-room c = subst (λ (b : Basis). HasRoomForMore b.scope) (sy
 pub make-requires-clause-after : goal.make-requires-clause-after
 make-requires-clause-after c =
     let construction = c.args.construction.now in
-    subst (λ (b : Basis). are_limited_facts (grown b.scope (sorts_made construction)) (with_facts b.facts (gives_of_construction construction b.scope)) ≡ true)
+    subst (λ (b : Basis). are_limited_facts (with_sorts b.scope (sorts_made construction)) (with_facts b.facts (gives_of_construction construction b.scope)) ≡ true)
     (sym c.in_ok-certs.ensures.kept) c.requires.after
 
 pub returns-in-Ok-clause-ok : goal.returns-in-Ok-clause-ok

@@ -1,6 +1,6 @@
 use Rattle.std.proofs.Common.{◌≡◌, sym, ap, ◌∙◌, subst, true}
 use Rattle.e_literal.specs.Facts.{with_facts}
-use Rattle.e_literal.specs.Scopes.{grown}
+use Rattle.e_literal.specs.Scopes.{with_sorts}
 use Rattle.e_clause.specs.LimitedFacts.{are_limited_facts}
 use Rattle.e_construct.specs.Superposing as superposing
 use Rattle.e_licence.specs.Contexts.{Basis}
@@ -17,7 +17,7 @@ superpose-requires-clause-room c = subst (λ (b : Basis). HasRoomForMore b.scope
 pub superpose-requires-clause-after : goal.superpose-requires-clause-after
 superpose-requires-clause-after c =
     let superposition = c.args.superposition.now in
-    subst (λ (b : Basis). are_limited_facts (grown b.scope superposing.sorts_copied) (with_facts b.facts (superposing.gives_of_superposition superposition b.scope)) ≡ true)
+    subst (λ (b : Basis). are_limited_facts (with_sorts b.scope superposing.sorts_copied) (with_facts b.facts (superposing.gives_of_superposition superposition b.scope)) ≡ true)
     (sym c.in_ok-certs.ensures.kept) c.requires.after
 
 pub returns-in-Ok-clause-after : goal.returns-in-Ok-clause-after

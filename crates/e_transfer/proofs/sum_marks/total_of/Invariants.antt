@@ -1,11 +1,11 @@
 use Rattle.std.proofs.Common.{◌≡◌, ◌+◌, ◌*◌, ◌≤◌, drop}
 use Rattle.e_literal.specs.Truth.{value_of}
-use Rattle.e_literal.specs.Solution.{carried}
+use Rattle.e_literal.specs.Solution.{values_for_all}
 use Rattle.e_transfer.specs.SumMarks.{mark_of_term}
 use Rattle.e_transfer.proofs.sum_marks.total_of.Given as goal
 
 abbrev pub invariant-loop-mono : goal.invariant-loop-mono
 invariant-loop-mono l = record {
   bound : l.total ≤ 4611686018427387904 * l.mono-index;
-  value : l.total + value_of (carried mark_of_term) (drop l.mono-index l.sum) ≡ value_of (carried mark_of_term) l.sum;
+  value : l.total + value_of (values_for_all mark_of_term) (drop l.mono-index l.sum) ≡ value_of (values_for_all mark_of_term) l.sum;
 }

@@ -5,7 +5,7 @@ use Rattle.e_deriv.specs.declared.block.Close.{Close}
 use Rattle.e_deriv.specs.declared.block.Step.{Step}
 use Rattle.e_deriv.specs.declared.block.Step.TheVariants.{Hence as HenceStep, Make as MakeStep, Apply as ApplyStep}
 use Rattle.e_deriv.specs.Script.{Script, Claim, Superposed, Cases, close_script, script_of, step_script, steps_script}
-use Rattle.e_literal.specs.Scopes.{grown, next_objects}
+use Rattle.e_literal.specs.Scopes.{with_sorts, next_objects}
 use Rattle.e_construct.specs.Superposing as superposing
 use Rattle.e_trim.specs.Trimmed.{obj_at, lit_among_kept, cert_at, args_at, construction_among_kept, superpose_at}
 use Rattle.e_trim.specs.inner.Building.{IsBuilt, AreSmall, IsSmallStep, StepIsBuilt, CloseIsBuilt}
@@ -226,8 +226,8 @@ pub build_step-build_block-requires-in-Superposed : goal.build_step-build_block-
 build_step-build_block-requires-in-Superposed t c = (
   omega (arith, c.decreases, superposed_falls c.args.step.now c.in-Superposed.superposition c.in-Superposed.names c.in-Superposed.shown c.in-Superposed.certs c.in-Superposed.inner c.deref-in-Superposed.result.now c.in-Superposed.is c.deref-in-Superposed.ensures),
   (
-    subst (λ x. AreSmall (all_stated c.args.before.now) (script_of c.deref-in-Superposed.result.now) x) (sym (c.grown.ensures ∙ ap (grown c.args.scope) c.made-copies.ensures))
-        (subst (λ b. AreSmall (all_stated c.args.before.now) (script_of b) (grown c.args.scope superposing.sorts_copied)) (sym c.deref-in-Superposed.ensures)
+    subst (λ x. AreSmall (all_stated c.args.before.now) (script_of c.deref-in-Superposed.result.now) x) (sym (c.grown.ensures ∙ ap (with_sorts c.args.scope) c.made-copies.ensures))
+        (subst (λ b. AreSmall (all_stated c.args.before.now) (script_of b) (with_sorts c.args.scope superposing.sorts_copied)) (sym c.deref-in-Superposed.ensures)
         (small_superposed (all_stated c.args.before.now) c.in-Superposed.superposition c.in-Superposed.names c.in-Superposed.shown c.in-Superposed.certs c.in-Superposed.inner c.args.scope (subst (λ st. IsSmallStep (all_stated c.args.before.now) st c.args.scope) c.in-Superposed.is c.requires.scopes))),
     (c.requires.statements, more_few c.args.scope c.grown.result c.made-copies.result.now c.args.kept.now c.deref-in-Superposed-2.result.now c.grown.ensures (c.deref-in-Superposed-2.ensures.value ∙ c.in_ok-inside-in-Superposed.ensures) c.requires.few),
   ),
@@ -250,4 +250,4 @@ build_step-returns-in_ok-inner-in-Superposed t c =
     (λ made script. superposed_built before kept wide c.args.step.now made y.superposition superposition y.names names y.shown shown y.certs certs y.inner block c.args.scope pile left y.is
     (c.deref-in-Superposed-2.ensures.value ∙ c.in_ok-inside-in-Superposed.ensures ∙ ap (λ xs. kept ++ next_objects c.args.scope xs) c.made-copies.ensures) refl c.items-in-Superposed.ensures
     (ap (map (lit_among_kept kept)) c.items-in-Superposed-2.ensures) (ap (map (cert_at kept)) c.items-in-Superposed-3.ensures) script
-    (boxed before wide c.deref-in-Superposed.result.now y.inner block (grown c.args.scope superposing.sorts_copied) c.grown.result pile left c.deref-in-Superposed.ensures (c.grown.ensures ∙ ap (grown c.args.scope) c.made-copies.ensures) c.in_ok-inner-in-Superposed.ensures)) c.new_superposition.ensures
+    (boxed before wide c.deref-in-Superposed.result.now y.inner block (with_sorts c.args.scope superposing.sorts_copied) c.grown.result pile left c.deref-in-Superposed.ensures (c.grown.ensures ∙ ap (with_sorts c.args.scope) c.made-copies.ensures) c.in_ok-inner-in-Superposed.ensures)) c.new_superposition.ensures

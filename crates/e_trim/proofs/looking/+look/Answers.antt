@@ -9,7 +9,7 @@ use Rattle.e_deriv.specs.Fitting.{is_small, is_small_statement}
 use Rattle.e_trim.specs.declared.step_state.StepState.{StepState}
 use Rattle.e_trim.proofs.kept_scripts.StepParts.{and_so}
 use Rattle.e_trim.proofs.walks.StepForms.{ready_small, ready_fits, claim_ready, superposed_ready, cases_ready}
-use Rattle.e_literal.specs.Scopes.{grown}
+use Rattle.e_literal.specs.Scopes.{with_sorts}
 use Rattle.e_theorem.specs.Statements.{all_stated}
 use Rattle.e_deriv.specs.Script.{close_script, script_of, steps_script, size}
 use Rattle.e_trim.specs.Looked.{Wants, both}
@@ -70,7 +70,7 @@ look_inside-restore-requires t c = block_enough c.args.sorts.now c.args.lits.now
 
 pub look_inside-returns-clause-wanted : goal.look_inside-returns-clause-wanted
 look_inside-returns-clause-wanted t c =
-    ok_map (λ (w : Wants). w ≡ wants_outside c.restore.new.self.scope c.restore.new.self.facts c.in_ok-inside.inside) (λ (w : Wants). w ≡ wants_outside c.args.state.now.scope c.args.state.now.facts (wants (all_stated c.args.before.now) (script_of c.args.block.now) (grown c.args.state.now.scope c.args.sorts.now) (with_facts c.args.state.now.facts c.args.lits.now) (goal_view c.args.goal.now))) c.outside.result
+    ok_map (λ (w : Wants). w ≡ wants_outside c.restore.new.self.scope c.restore.new.self.facts c.in_ok-inside.inside) (λ (w : Wants). w ≡ wants_outside c.args.state.now.scope c.args.state.now.facts (wants (all_stated c.args.before.now) (script_of c.args.block.now) (with_sorts c.args.state.now.scope c.args.sorts.now) (with_facts c.args.state.now.facts c.args.lits.now) (goal_view c.args.goal.now))) c.outside.result
     (λ w h. block_wants (all_stated c.args.before.now) (script_of c.args.block.now) (goal_view c.args.goal.now) c.args.sorts.now c.args.lits.now c.args.state.now c.extend.new.self c.restore.new.self c.in_ok-inside.inside w c.in_ok-extend.ensures (block_back c.args.sorts.now c.args.lits.now c.args.state.now c.extend.new.self c.look.new.state c.restore.new.self c.checkpoint-outer.result c.in_ok-extend.ensures c.in_ok-inside.ensures.kept c.checkpoint-outer.ensures c.restore.ensures) (c.in_ok-inside.ensures.wanted ∙ ap (λ d. wants (all_stated c.args.before.now) d c.extend.new.self.scope c.extend.new.self.facts (goal_view c.args.goal.now)) (ap (λ xs. steps_script xs (close_script c.args.block.now.close)) c.deref.ensures.value)) h) c.outside.ensures
 
 pub look_inside-returns-clause-same : goal.look_inside-returns-clause-same
@@ -133,10 +133,10 @@ look_at_step-look_inside-inside-requires t c = (
     (
       few_copies c.made-made.result.now c.made-made.ensures,
       (
-        subst (λ xs. IsReady (all_stated c.args.before.now) (script_of c.deref-in-Superposed.result.now) (grown c.args.state.now.scope xs) (with_facts c.args.state.now.facts c.deref-in-Superposed-2.result.now) (goal_of c.items-in-Superposed.result.now)) (sym c.made-made.ensures)
-            (subst (λ fs. IsReady (all_stated c.args.before.now) (script_of c.deref-in-Superposed.result.now) (grown c.args.state.now.scope superposing.sorts_copied) (with_facts c.args.state.now.facts fs) (goal_of c.items-in-Superposed.result.now)) (sym (c.deref-in-Superposed-2.ensures.value ∙ c.in_ok-given-in-Superposed.ensures))
-            (subst (λ ls. IsReady (all_stated c.args.before.now) (script_of c.deref-in-Superposed.result.now) (grown c.args.state.now.scope superposing.sorts_copied) (with_facts c.args.state.now.facts (superposing.gives_of_superposition c.in-Superposed.superposition c.args.state.now.scope)) (goal_of ls)) (sym c.items-in-Superposed.ensures)
-            (subst (λ b. IsReady (all_stated c.args.before.now) (script_of b) (grown c.args.state.now.scope superposing.sorts_copied) (with_facts c.args.state.now.facts (superposing.gives_of_superposition c.in-Superposed.superposition c.args.state.now.scope)) (goal_of c.in-Superposed.shown)) (sym c.deref-in-Superposed.ensures)
+        subst (λ xs. IsReady (all_stated c.args.before.now) (script_of c.deref-in-Superposed.result.now) (with_sorts c.args.state.now.scope xs) (with_facts c.args.state.now.facts c.deref-in-Superposed-2.result.now) (goal_of c.items-in-Superposed.result.now)) (sym c.made-made.ensures)
+            (subst (λ fs. IsReady (all_stated c.args.before.now) (script_of c.deref-in-Superposed.result.now) (with_sorts c.args.state.now.scope superposing.sorts_copied) (with_facts c.args.state.now.facts fs) (goal_of c.items-in-Superposed.result.now)) (sym (c.deref-in-Superposed-2.ensures.value ∙ c.in_ok-given-in-Superposed.ensures))
+            (subst (λ ls. IsReady (all_stated c.args.before.now) (script_of c.deref-in-Superposed.result.now) (with_sorts c.args.state.now.scope superposing.sorts_copied) (with_facts c.args.state.now.facts (superposing.gives_of_superposition c.in-Superposed.superposition c.args.state.now.scope)) (goal_of ls)) (sym c.items-in-Superposed.ensures)
+            (subst (λ b. IsReady (all_stated c.args.before.now) (script_of b) (with_sorts c.args.state.now.scope superposing.sorts_copied) (with_facts c.args.state.now.facts (superposing.gives_of_superposition c.in-Superposed.superposition c.args.state.now.scope)) (goal_of c.in-Superposed.shown)) (sym c.deref-in-Superposed.ensures)
             (superposed_ready (all_stated c.args.before.now) c.in-Superposed.superposition c.in-Superposed.names c.in-Superposed.shown c.in-Superposed.certs c.in-Superposed.inner c.args.state.now (subst (λ st. IsReadyToTrim (all_stated c.args.before.now) st c.args.state.now) c.in-Superposed.is c.requires.ready))))),
         c.requires.statements,
       ),
@@ -146,22 +146,22 @@ look_at_step-look_inside-inside-requires t c = (
 
 pub look_at_step-returns-in_ok-inside-in-Superposed-clause-wanted : goal.look_at_step-returns-in_ok-inside-in-Superposed-clause-wanted
 look_at_step-returns-in_ok-inside-in-Superposed-clause-wanted t c =
-    let inside = c.in_ok-inside-in-Superposed.ensures.wanted ∙ ap (λ b. wants_outside c.args.state.now.scope c.args.state.now.facts (wants (all_stated c.args.before.now) (script_of b) (grown c.args.state.now.scope c.made-made.result.now) (with_facts c.args.state.now.facts c.deref-in-Superposed-2.result.now) (goal_of c.items-in-Superposed.result.now))) c.deref-in-Superposed.ensures
-    ∙ ap (λ xs. wants_outside c.args.state.now.scope c.args.state.now.facts (wants (all_stated c.args.before.now) (script_of c.in-Superposed.inner.value) (grown c.args.state.now.scope xs) (with_facts c.args.state.now.facts c.deref-in-Superposed-2.result.now) (goal_of c.items-in-Superposed.result.now))) c.made-made.ensures
-    ∙ ap (λ fs. wants_outside c.args.state.now.scope c.args.state.now.facts (wants (all_stated c.args.before.now) (script_of c.in-Superposed.inner.value) (grown c.args.state.now.scope superposing.sorts_copied) (with_facts c.args.state.now.facts fs) (goal_of c.items-in-Superposed.result.now))) (c.deref-in-Superposed-2.ensures.value ∙ c.in_ok-given-in-Superposed.ensures)
-    ∙ ap (λ ls. wants_outside c.args.state.now.scope c.args.state.now.facts (wants (all_stated c.args.before.now) (script_of c.in-Superposed.inner.value) (grown c.args.state.now.scope superposing.sorts_copied) (with_facts c.args.state.now.facts (superposing.gives_of_superposition c.in-Superposed.superposition c.args.state.now.scope)) (goal_of ls))) c.items-in-Superposed.ensures in
+    let inside = c.in_ok-inside-in-Superposed.ensures.wanted ∙ ap (λ b. wants_outside c.args.state.now.scope c.args.state.now.facts (wants (all_stated c.args.before.now) (script_of b) (with_sorts c.args.state.now.scope c.made-made.result.now) (with_facts c.args.state.now.facts c.deref-in-Superposed-2.result.now) (goal_of c.items-in-Superposed.result.now))) c.deref-in-Superposed.ensures
+    ∙ ap (λ xs. wants_outside c.args.state.now.scope c.args.state.now.facts (wants (all_stated c.args.before.now) (script_of c.in-Superposed.inner.value) (with_sorts c.args.state.now.scope xs) (with_facts c.args.state.now.facts c.deref-in-Superposed-2.result.now) (goal_of c.items-in-Superposed.result.now))) c.made-made.ensures
+    ∙ ap (λ fs. wants_outside c.args.state.now.scope c.args.state.now.facts (wants (all_stated c.args.before.now) (script_of c.in-Superposed.inner.value) (with_sorts c.args.state.now.scope superposing.sorts_copied) (with_facts c.args.state.now.facts fs) (goal_of c.items-in-Superposed.result.now))) (c.deref-in-Superposed-2.ensures.value ∙ c.in_ok-given-in-Superposed.ensures)
+    ∙ ap (λ ls. wants_outside c.args.state.now.scope c.args.state.now.facts (wants (all_stated c.args.before.now) (script_of c.in-Superposed.inner.value) (with_sorts c.args.state.now.scope superposing.sorts_copied) (with_facts c.args.state.now.facts (superposing.gives_of_superposition c.in-Superposed.superposition c.args.state.now.scope)) (goal_of ls))) c.items-in-Superposed.ensures in
     and_so c.append-in-Superposed.result
     (λ h. inside_wants (all_stated c.args.before.now) c.args.step.now c.args.state.now c.args.out.now c.look_step.new.out c.in_ok-inside-in-Superposed.field-0 c.append-in-Superposed.new.self c.in_ok-look_step.ensures
     (λ rest. (superposed_inside (all_stated c.args.before.now) c.args.step.now c.in-Superposed.superposition c.in-Superposed.names c.in-Superposed.shown c.in-Superposed.certs c.in-Superposed.inner c.args.state.now rest c.in-Superposed.is).0 ∙ sym inside) h) c.append-in-Superposed.ensures
 
 pub look_at_step-returns-in_ok-inside-in-Superposed-clause-flags : goal.look_at_step-returns-in_ok-inside-in-Superposed-clause-flags
 look_at_step-returns-in_ok-inside-in-Superposed-clause-flags t c =
-    let inside = c.in_ok-inside-in-Superposed.ensures.flags ∙ ap (λ b. c.args.flags.now.items ++ flags_of (all_stated c.args.before.now) (script_of b) (grown c.args.state.now.scope c.made-made.result.now) (with_facts c.args.state.now.facts c.deref-in-Superposed-2.result.now) (goal_of c.items-in-Superposed.result.now)) c.deref-in-Superposed.ensures
-    ∙ ap (λ xs. c.args.flags.now.items ++ flags_of (all_stated c.args.before.now) (script_of c.in-Superposed.inner.value) (grown c.args.state.now.scope xs) (with_facts c.args.state.now.facts c.deref-in-Superposed-2.result.now) (goal_of c.items-in-Superposed.result.now)) c.made-made.ensures
-    ∙ ap (λ fs. c.args.flags.now.items ++ flags_of (all_stated c.args.before.now) (script_of c.in-Superposed.inner.value) (grown c.args.state.now.scope superposing.sorts_copied) (with_facts c.args.state.now.facts fs) (goal_of c.items-in-Superposed.result.now)) (c.deref-in-Superposed-2.ensures.value ∙ c.in_ok-given-in-Superposed.ensures)
-    ∙ ap (λ ls. c.args.flags.now.items ++ flags_of (all_stated c.args.before.now) (script_of c.in-Superposed.inner.value) (grown c.args.state.now.scope superposing.sorts_copied) (with_facts c.args.state.now.facts (superposing.gives_of_superposition c.in-Superposed.superposition c.args.state.now.scope)) (goal_of ls)) c.items-in-Superposed.ensures in
+    let inside = c.in_ok-inside-in-Superposed.ensures.flags ∙ ap (λ b. c.args.flags.now.items ++ flags_of (all_stated c.args.before.now) (script_of b) (with_sorts c.args.state.now.scope c.made-made.result.now) (with_facts c.args.state.now.facts c.deref-in-Superposed-2.result.now) (goal_of c.items-in-Superposed.result.now)) c.deref-in-Superposed.ensures
+    ∙ ap (λ xs. c.args.flags.now.items ++ flags_of (all_stated c.args.before.now) (script_of c.in-Superposed.inner.value) (with_sorts c.args.state.now.scope xs) (with_facts c.args.state.now.facts c.deref-in-Superposed-2.result.now) (goal_of c.items-in-Superposed.result.now)) c.made-made.ensures
+    ∙ ap (λ fs. c.args.flags.now.items ++ flags_of (all_stated c.args.before.now) (script_of c.in-Superposed.inner.value) (with_sorts c.args.state.now.scope superposing.sorts_copied) (with_facts c.args.state.now.facts fs) (goal_of c.items-in-Superposed.result.now)) (c.deref-in-Superposed-2.ensures.value ∙ c.in_ok-given-in-Superposed.ensures)
+    ∙ ap (λ ls. c.args.flags.now.items ++ flags_of (all_stated c.args.before.now) (script_of c.in-Superposed.inner.value) (with_sorts c.args.state.now.scope superposing.sorts_copied) (with_facts c.args.state.now.facts (superposing.gives_of_superposition c.in-Superposed.superposition c.args.state.now.scope)) (goal_of ls)) c.items-in-Superposed.ensures in
     on_ok c.append-in-Superposed.result
-    (inside_flags (all_stated c.args.before.now) c.args.step.now c.args.state.now c.args.flags.now.items (flags_of (all_stated c.args.before.now) (script_of c.in-Superposed.inner.value) (grown c.args.state.now.scope superposing.sorts_copied) (with_facts c.args.state.now.facts (superposing.gives_of_superposition c.in-Superposed.superposition c.args.state.now.scope)) (goal_of c.in-Superposed.shown)) c.look_inside-inside.new.flags.items
+    (inside_flags (all_stated c.args.before.now) c.args.step.now c.args.state.now c.args.flags.now.items (flags_of (all_stated c.args.before.now) (script_of c.in-Superposed.inner.value) (with_sorts c.args.state.now.scope superposing.sorts_copied) (with_facts c.args.state.now.facts (superposing.gives_of_superposition c.in-Superposed.superposition c.args.state.now.scope)) (goal_of c.in-Superposed.shown)) c.look_inside-inside.new.flags.items
     (λ rest. (superposed_inside (all_stated c.args.before.now) c.args.step.now c.in-Superposed.superposition c.in-Superposed.names c.in-Superposed.shown c.in-Superposed.certs c.in-Superposed.inner c.args.state.now rest c.in-Superposed.is).1) inside)
 
 pub look_at_step-returns-in-Cite-clause-wanted : goal.look_at_step-returns-in-Cite-clause-wanted

@@ -1,5 +1,5 @@
 use Rattle.std.proofs.Common.{[], ◌∷◌, length, length-append, ap, arith}
-use Rattle.e_names.specs.TitledStatements.{headed}
+use Rattle.e_names.specs.TitledStatements.{titled_statement}
 use Rattle.e_book.specs.TheoremViews.{entry_of}
 use Rattle.e_book.proofs.fit_theorems.Fitting.{fitting, small_statement, one_more_stated}
 use Rattle.e_book.proofs.parsers.ReadingOn.{begun_first}
@@ -61,7 +61,7 @@ returns-clause-book g c =
     record {
       small = rw c.in-Ok-keep.ensures (one_more_stated c.args.self.now.known.theorems t.title t.statement b.small (small_statement c.args.self.now.known.theorems t s.fits));
       notions = b.notions;
-      count = omega (arith, ap length c.in-Ok-keep.ensures, length-append c.args.self.now.known.theorems (headed c.args.theorem.title c.args.theorem.statement ∷ []), b.count);
+      count = omega (arith, ap length c.in-Ok-keep.ensures, length-append c.args.self.now.known.theorems (titled_statement c.args.theorem.title c.args.theorem.statement ∷ []), b.count);
       most = omega (arith, s.few_theorems, b.count);
       steps = omega (arith, b.steps, s.fits.steps, c.size-count.ensures);
       partial_item = rw c.requires.begins tt;

@@ -1,4 +1,4 @@
-use Rattle.e_names.specs.Titled.{titled}
+use Rattle.e_names.specs.Titled.{titled_notion}
 use Rattle.e_commands.proofs.progress.History.{breaks_off, notion_taken}
 use Rattle.e_commands.proofs.progress.TakenBooks.{with_notion}
 use Rattle.e_commands.proofs.book.Book.handle_item.Goals as goal
@@ -20,8 +20,8 @@ returns-in_default-clause-handles g c =
 pub returns-in-Ok-clause-handles : goal.returns-in-Ok-clause-handles
 returns-in-Ok-clause-handles g c =
     λ lines rest after before h read.
-    rw c.in-Ok.ensures.ok (notion_taken lines before (g.K.Sink.written c.args.sink.now) c.args.self.now.known rest after c.args.self.now.steps (titled c.in-Notion.title c.in-Notion.notion) h (rw c.in-Notion.is at read))
+    rw c.in-Ok.ensures.ok (notion_taken lines before (g.K.Sink.written c.args.sink.now) c.args.self.now.known rest after c.args.self.now.steps (titled_notion c.in-Notion.title c.in-Notion.notion) h (rw c.in-Notion.is at read))
 
 pub returns-in-Ok-clause-book : goal.returns-in-Ok-clause-book
 returns-in-Ok-clause-book g c =
-    with_notion c.args.self.now c.add_notion.new.self (titled c.in-Notion.title c.in-Notion.notion) c.requires.book c.requires.begins (rw c.in-Notion.is at c.requires.good).1 c.in-Ok.ensures.ok
+    with_notion c.args.self.now c.add_notion.new.self (titled_notion c.in-Notion.title c.in-Notion.notion) c.requires.book c.requires.begins (rw c.in-Notion.is at c.requires.good).1 c.in-Ok.ensures.ok

@@ -1,7 +1,7 @@
 use Rattle.std.proofs.Common.{◌≡◌, ℕ, false, List, [], ◌∷◌, ◌++◌, length, map, sym, ap, ◌∙◌, arith, length-append}
 use Rattle.std.specs.List.{list_any}
 use Rattle.std.specs.Str.{bytes_eq}
-use Rattle.e_names.specs.Titled.{Titled, titled}
+use Rattle.e_names.specs.Titled.{Titled, titled_notion}
 use Rattle.e_names.proofs.titles.SideBySide.{put_new}
 use Rattle.e_names.proofs.titles.NotionsBeside.{titles_of, append_beside}
 use Rattle.e_names.proofs.notions.Notions.add.Goals as goal
@@ -24,4 +24,4 @@ pub returns-clause-ok : goal.returns-clause-ok
 returns-clause-ok c =
     let s = c.self.inside in
     let pushed = c.in_ok-push.ensures.items in
-    rw (keys_after c, pushed) (append_beside s.titles.keys s.notions.items c.args.title c.args.notion c.self.invariant ∙ ap (λ (h : List Titled). h ++ titled c.args.title c.args.notion ∷ []) c.self.view_is)
+    rw (keys_after c, pushed) (append_beside s.titles.keys s.notions.items c.args.title c.args.notion c.self.invariant ∙ ap (λ (h : List Titled). h ++ titled_notion c.args.title c.args.notion ∷ []) c.self.view_is)

@@ -1,7 +1,7 @@
 use Rattle.std.proofs.Common.{◌≡◌, ℕ, false, List, [], ◌∷◌, ◌++◌, length, sym, ap, ◌∙◌}
 use Rattle.std.specs.List.{list_any}
 use Rattle.std.specs.Str.{bytes_eq}
-use Rattle.e_names.specs.TitledStatements.{TitledStatement, headed, titles}
+use Rattle.e_names.specs.TitledStatements.{TitledStatement, titled_statement, titles}
 use Rattle.e_names.proofs.titles.SideBySide.{titles_of, put_new, one_more_each, append_side_by_side}
 use Rattle.e_names.proofs.theorems.Theorems.add.Goals as goal
 
@@ -23,4 +23,4 @@ pub returns-clause-ok : goal.returns-clause-ok
 returns-clause-ok c =
     let s = c.self.inside in
     let pushed = c.in_ok-push.ensures.items in
-    rw (keys_after c, pushed) (append_side_by_side s.titles.keys s.statements.items c.args.title c.args.statement c.self.invariant ∙ ap (λ (h : List TitledStatement). h ++ headed c.args.title c.args.statement ∷ []) c.self.view_is)
+    rw (keys_after c, pushed) (append_side_by_side s.titles.keys s.statements.items c.args.title c.args.statement c.self.invariant ∙ ap (λ (h : List TitledStatement). h ++ titled_statement c.args.title c.args.statement ∷ []) c.self.view_is)
