@@ -23,7 +23,7 @@ use Rattle.e_names.specs.TitledStatements.{TitledStatement, theorem_of}
 use Rattle.e_names.specs.Scope.{scope_of_names}
 use Rattle.e_line.specs.Limits.{most_of, most_steps, most_depth, most_facts, most_terms}
 use Rattle.e_line.specs.Limits.{most_blanks, count_monomials}
-use Rattle.e_line.specs.LineLimits.{are_short, are_small}
+use Rattle.e_line.specs.LineLimits.{have_few_monomials, have_low_coefficients}
 use Rattle.e_book.specs.Open.{Head, Opener, ByClaim, BySuperposition, ByCase, ByElse, Enclosing}
 use Rattle.e_book.specs.Open.{Open, Stating, Proving, Splitting, Proved, Ended}
 
@@ -148,8 +148,8 @@ limits_at f at steps depth =
     ∷ (nat_le steps most_steps, limits.Steps)
     ∷ (nat_le depth most_depth, limits.Depth)
     ∷ (nat_le (length at.facts) most_facts, limits.Facts)
-    ∷ (are_short (literals_on f), limits.Monomials)
-    ∷ (are_small (literals_on f), limits.Coefficient)
+    ∷ (have_few_monomials (literals_on f), limits.Monomials)
+    ∷ (have_low_coefficients (literals_on f), limits.Coefficient)
     ∷ (nat_le (count_monomials at.facts) most_terms, limits.Terms)
     ∷ (nat_le (blanks_on f) most_blanks, limits.Blanks) ∷ []
 

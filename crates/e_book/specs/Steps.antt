@@ -39,7 +39,7 @@ use Rattle.e_line.specs.Limits.{count_monomials}
 use Rattle.e_theorem.specs.Statements.{stated}
 use Rattle.e_names.specs.TitledStatements.{TitledStatement, is_known, theorem_of}
 use Rattle.e_book.specs.ParserViews.{statement_of_parser, script_of_close}
-use Rattle.e_line.specs.LineLimits.{count_monos, few_monos}
+use Rattle.e_line.specs.LineLimits.{count_raw_monomials, check_literal_limits}
 use Rattle.e_book.specs.LineLimits.{few_objects, FewNamed}
 use Rattle.e_book.specs.Blocks.{made_in}
 use Rattle.e_names.specs.Superposes.{superpose_in}
@@ -89,7 +89,7 @@ with_step d s given = do
 -- this many monomials and those of the literals, or the limit of all
 abbrev pub terms_after_raw : ℕ → List RawLit → Result ℕ FaultKind
 terms_after_raw n raws =
-    within (n + count_monos raws) most_terms limits.Terms >>= λ few. Ok (n + count_monos raws)
+    within (n + count_raw_monomials raws) most_terms limits.Terms >>= λ few. Ok (n + count_raw_monomials raws)
 
 abbrev pub terms_after : ℕ → List Lit → Result ℕ FaultKind
 terms_after n ls =
@@ -98,7 +98,7 @@ terms_after n ls =
 -- the limits of literals that become facts, after that of facts
 unfoldable pub with_terms : TheoremParser → List RawLit → Result TheoremParser FaultKind
 with_terms d raws = do
-  few ← few_monos raws
+  few ← check_literal_limits raws
   n ← terms_after_raw d.terms raws
   Ok (record d { terms = n })
 
@@ -161,7 +161,7 @@ unfoldable pub terms_inside : TheoremParser → (given : List Lit) → (raws : L
     → Result ℕ FaultKind
 terms_inside d given raws = do
   room ← room_inside d (length given)
-  few ← few_monos raws
+  few ← check_literal_limits raws
   terms_after d.terms given
 
 -- a line that begins an inner block, within these limits
@@ -177,7 +177,7 @@ unfoldable pub after_claim : TheoremParser → List RawLit → Result TheoremPar
 after_claim d raws = do
   ls ← lits_in d.in_scope raws
   e ← inside_if_room d (kind.Claim ls) 0
-  few ← few_monos raws
+  few ← check_literal_limits raws
   Ok e
 
 -- the block of a superposition begins with these names and facts
@@ -185,7 +185,7 @@ unfoldable pub after_copies : TheoremParser → BlockKind → Names → (given :
     → (shown : List RawLit) → Result TheoremParser FaultKind
 after_copies d what after given shown = do
   e ← inside_if_room d what (length given)
-  few ← few_monos shown
+  few ← check_literal_limits shown
   n ← terms_after e.terms given
   Ok (record e { in_scope = after; terms = n })
 
@@ -197,7 +197,7 @@ after_superpose d raw = do
   let after = named d.in_scope superposing.sorts_copied raw.new
   objects ← few_objects after
   e ← inside_if_room d (kind.Superpose p.0 raw.new p.1) (length given)
-  few ← few_monos raw.shown
+  few ← check_literal_limits raw.shown
   n ← terms_after e.terms given
   Ok (record e { in_scope = after; terms = n })
 
@@ -301,7 +301,7 @@ after_made d sort ns =
 -- shown literals
 abbrev pub after_show : TheoremParser → List RawLit → Result TheoremParser FaultKind
 after_show d raws =
-    with_front d.shown (lits_in d.names raws) >>= λ ls. few_monos raws
+    with_front d.shown (lits_in d.names raws) >>= λ ls. check_literal_limits raws
     >>= λ few. Ok (record d { shown = ls; section = Showing })
 
 -- the proof begins with the declared objects, and the names of the made ones are free again

@@ -10,7 +10,7 @@ use crate::parser::{Section, TheoremParser};
 use crate::steps::{CloseLine, Steps};
 use e_construct::Superpose;
 use e_deriv::{Names, Step};
-use e_line::{FaultKind, LineError, RawLit, RawSuperpose, What, few_monos, within};
+use e_line::{FaultKind, LineError, RawLit, RawSuperpose, What, check_literal_limits, within};
 use e_literal::{Items, Lit, Sort};
 use e_names::{Placement, lit_in, put_lits, put_names, qed_in, scope_of_names, superpose_in};
 use e_text::Name;
@@ -78,7 +78,7 @@ impl TheoremParser {
         ensures room { IfOk result (λ n. HasRoom self.now (length given.now)) }
     {
         self.room_inside(given.len())?;
-        few_monos(raw)?;
+        check_literal_limits(raw)?;
         terms_of(self.terms, given)
     }
 
@@ -175,7 +175,7 @@ impl TheoremParser {
     {
         put_lits(alloc, &self.in_scope, raw, shown)?;
         self.room_inside(0)?;
-        few_monos(raw)?;
+        check_literal_limits(raw)?;
         Ok(())
     }
 

@@ -7,7 +7,7 @@ ghost use Rattle.e_book.specs.LineLimits.{few_objects, FewNamed};
 ghost use Rattle.e_book.specs.Steps.{terms_after_raw, terms_after};
 
 use e_deriv::Names;
-use e_line::{FaultKind, LineError, RawLit, What, count_of, within};
+use e_line::{FaultKind, LineError, RawLit, What, monomial_count, within};
 use e_literal::{Atom, Lit, Sort};
 
 /// How many bytes a book may have.
@@ -88,7 +88,7 @@ pub(crate) fn terms_with(before: usize, lits: &[RawLit]) -> Result<usize, LineEr
 {
     let mut terms = before;
     for lit in lits {
-        let more = count_of(lit);
+        let more = monomial_count(lit);
         if more > MAX_TERMS - terms {
             return Err(LineError::Fault(FaultKind::Limit(What::Terms)));
         }

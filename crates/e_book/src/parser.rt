@@ -17,7 +17,9 @@ use crate::steps::{CloseLine, Steps};
 use crate::theorem::Theorem;
 use e_construct::Construction;
 use e_deriv::{Names, Step};
-use e_line::{FaultKind, LineError, RawApply, RawLet, RawLine, RawLit, What, few_monos, within};
+use e_line::{
+    FaultKind, LineError, RawApply, RawLet, RawLine, RawLit, What, check_literal_limits, within,
+};
 use e_literal::{Items, Lit, NOTHING, Scope, Sort, with_sorts};
 use e_names::{
     Application, Theorems, apply_in, by_in, count_blanks, fresh, let_in, lit_in, put_lits,
@@ -316,7 +318,7 @@ impl TheoremParser {
         ensures fits { OnOk result (FitsScope self.new) }
     {
         put_lits(alloc, &self.names, raw, &mut self.shown)?;
-        few_monos(raw)?;
+        check_literal_limits(raw)?;
         self.section = Section::Showing;
         Ok(())
     }
@@ -510,7 +512,7 @@ impl TheoremParser {
         ensures value { Moves result self.new (with_terms self.old raw.now) }
         ensures fits { OnOk result (FitsScope self.new) }
     {
-        few_monos(raw)?;
+        check_literal_limits(raw)?;
         self.terms = terms_with(self.terms, raw)?;
         Ok(())
     }

@@ -6,7 +6,7 @@ use Rattle.e_line.specs.declared.fault.FaultKind.{FaultKind}
 use Rattle.e_line.specs.declared.fault.FaultKind.TheVariants.{Malformed}
 use Rattle.e_line.specs.declared.literal.RawLit.{RawLit}
 use Rattle.e_line.specs.declared.sum.RawTerm.{RawTerm}
-use Rattle.e_line.specs.Reading.{◌>>=◌, first_title, end_at, names_of}
+use Rattle.e_line.specs.Reading.{◌>>=◌, first_title, no_word_left, names_of}
 use Rattle.e_text.specs.Numerals.{number_of}
 use Rattle.e_line.specs.Sums.{term_of}
 use Rattle.e_line.specs.Literals.{lit_of, diagram_lit_of}
@@ -38,7 +38,7 @@ few_places (Some n) k e = let p = passed (ltb n (2 ^ 32)) (read_ok n) k e in ap 
 
 module _ (P : RawLit → Type 0) (literal : (ws : List (List ℕ)) (l : RawLit) → lit_of ws ≡ Ok l → P l) where
   bare_row_lit : (ws : List (List ℕ)) (row r : RawRow) → OfRow P row → bare_row ws row ≡ Ok r → OfRow P r
-  bare_row_lit ws row r h e = let n = bind_ok (end_at ws) (λ none. read_ok row) r e in subst (OfRow P) (ok_is row r n.2) h
+  bare_row_lit ws row r h e = let n = bind_ok (no_word_left ws) (λ none. read_ok row) r e in subst (OfRow P) (ok_is row r n.2) h
 
   term_row_lit : (ws : List (List ℕ)) (f : RawTerm → RawRow) (r : RawRow) → ((t : RawTerm) → OfRow P (f t)) → (term_of ws >>= λ t. read_ok (f t)) ≡ Ok r → OfRow P r
   term_row_lit ws f r h e = let t = bind_ok (term_of ws) (λ t. read_ok (f t)) r e in subst (OfRow P) (ok_is (f t.0) r t.2) (h t.0)
@@ -85,13 +85,13 @@ module _ (P : RawLit → Type 0) (literal : (ws : List (List ℕ)) (l : RawLit) 
 
   module _ (Q : RawLit → Type 0) (clashing : (ws : List (List ℕ)) (l : RawLit) → diagram_lit_of ws ≡ Ok l → Q l) where
     bare_lit : (ws : List (List ℕ)) (cert_line m : CertLine) → OfCertLine P Q cert_line → bare_cert_line ws cert_line ≡ Ok m → OfCertLine P Q m
-    bare_lit ws cert_line m h e = let n = bind_ok (end_at ws) (λ none. read_ok cert_line) m e in subst (OfCertLine P Q) (ok_is cert_line m n.2) h
+    bare_lit ws cert_line m h e = let n = bind_ok (no_word_left ws) (λ none. read_ok cert_line) m e in subst (OfCertLine P Q) (ok_is cert_line m n.2) h
 
     fact_cert_line_lit : (ws : List (List ℕ)) (m : CertLine) → fact_cert_line_of ws ≡ Ok m → OfCertLine P Q m
     unfolding fact_cert_line_of
     fact_cert_line_lit [] m e = subst (OfCertLine P Q) (ok_is certlines.Fact m e) tt
     fact_cert_line_lit (w ∷ ws) m e =
-        let n = bind_ok (end_at ws) (λ none. place_of_digits w >>= λ k. read_ok (certlines.FactAt k)) m e in
+        let n = bind_ok (no_word_left ws) (λ none. place_of_digits w >>= λ k. read_ok (certlines.FactAt k)) m e in
         let k = bind_ok (place_of_digits w) (λ k. read_ok (certlines.FactAt k)) m n.2 in
         subst (OfCertLine P Q) (ok_is (certlines.FactAt k.0) m k.2) (few_places (number_of w) k.0 k.1)
 

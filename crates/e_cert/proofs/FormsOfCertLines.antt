@@ -28,7 +28,7 @@ use Rattle.e_line.specs.declared.fault.FaultKind.TheVariants.{Malformed}
 use Rattle.e_line.specs.declared.literal.RawLit.{RawLit}
 use Rattle.e_line.specs.Reading.{◌>>=◌, or_malformed}
 use Rattle.e_names.specs.Scope.{lit_in, term_in, args_in, variables_of, right_count}
-use Rattle.e_line.specs.LineLimits.{few_monos}
+use Rattle.e_line.specs.LineLimits.{check_literal_limits}
 use Rattle.e_line.proofs.base.Bound.{bind_ok, ok_is, read_ok}
 use Rattle.e_names.proofs.literals.FewSums.{few_ok, one_lit}
 use Rattle.e_line.proofs.read_lines.SumsOfLiterals.{AtomSaid, lit_said}
@@ -81,8 +81,8 @@ strict_said line ws m e =
 
 good_fact : (ns : Names) (raw : RawLit) (l : Lit) → AtomSaid raw.atom → fact_in ns raw ≡ Ok l → is_well_formed l ≡ true
 good_fact ns raw l said e =
-    let x = bind_ok (lit_in ns raw) (λ x. few_monos (raw ∷ []) >>= λ few. read_ok x) l e in
-    let f = bind_ok (few_monos (raw ∷ [])) (λ few. read_ok x.0) l x.2 in
+    let x = bind_ok (lit_in ns raw) (λ x. check_literal_limits (raw ∷ []) >>= λ few. read_ok x) l e in
+    let f = bind_ok (check_literal_limits (raw ∷ [])) (λ few. read_ok x.0) l x.2 in
     let few = few_ok (raw ∷ []) f.0 f.1 in
     let good = good_lits ns (raw ∷ []) (x.0 ∷ []) (one_lit ns raw x.0 x.1) (said, tt) few.short few.small in
     subst (λ (y : Lit). is_well_formed y ≡ true) (ok_is x.0 l f.2) (and_parts (is_well_formed x.0) true good).0

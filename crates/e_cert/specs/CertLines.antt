@@ -10,7 +10,7 @@ use Rattle.e_clause.specs.declared.cert.Version.{Version}
 use Rattle.e_clause.specs.Versions.{by_literals, by_places}
 use Rattle.e_line.specs.declared.fault.FaultKind.{FaultKind}
 use Rattle.e_line.specs.declared.fault.FaultKind.TheVariants.{Malformed}
-use Rattle.e_line.specs.Reading.{◌>>=◌, first_title, end_at, names_of}
+use Rattle.e_line.specs.Reading.{◌>>=◌, first_title, no_word_left, names_of}
 use Rattle.e_line.specs.Sums.{term_of}
 use Rattle.e_line.specs.Literals.{lit_of, diagram_lit_of}
 use Rattle.e_line.specs.Canonical.{term_words, lit_words}
@@ -53,7 +53,7 @@ fact_row_of (w ∷ ws) =
     (lit_of (w ∷ ws) >>= λ l. Ok (rows.Fact l))
 
 abbrev pub bare_row : List (List ℕ) → RawRow → Result RawRow FaultKind
-bare_row words row = end_at words >>= λ none. Ok row
+bare_row words row = no_word_left words >>= λ none. Ok row
 
 -- a row, by its first word
 unfoldable pub raw_row_named : List ℕ → List (List ℕ) → Result RawRow FaultKind
@@ -81,7 +81,7 @@ may_differ row = false
 -- ---- lines
 
 abbrev pub bare_cert_line : List (List ℕ) → CertLine → Result CertLine FaultKind
-bare_cert_line words cert_line = end_at words >>= λ none. Ok cert_line
+bare_cert_line words cert_line = no_word_left words >>= λ none. Ok cert_line
 
 unfoldable pub differs_of : List (List ℕ) → Result CertLine FaultKind
 differs_of words =
@@ -98,7 +98,7 @@ transfer_of words = do
 unfoldable pub fact_cert_line_of : List (List ℕ) → Result CertLine FaultKind
 fact_cert_line_of [] = Ok certlines.Fact
 fact_cert_line_of (w ∷ ws) =
-    end_at ws >>= λ none. place_of_digits w >>= λ k. Ok (certlines.FactAt k)
+    no_word_left ws >>= λ none. place_of_digits w >>= λ k. Ok (certlines.FactAt k)
 
 -- a row after its multiplier
 unfoldable pub row_cert_line_of : List ℕ → List (List ℕ) → Result CertLine FaultKind

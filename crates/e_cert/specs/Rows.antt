@@ -11,7 +11,7 @@ use Rattle.e_line.specs.declared.fault.FaultKind.TheVariants.{Malformed}
 use Rattle.e_line.specs.declared.literal.RawLit.{RawLit}
 use Rattle.e_line.specs.Reading.{◌>>=◌}
 use Rattle.e_names.specs.Scope.{lit_in, term_in}
-use Rattle.e_line.specs.LineLimits.{few_monos}
+use Rattle.e_line.specs.LineLimits.{check_literal_limits}
 use Rattle.e_cert.specs.declared.cert_line.RawRow.{RawRow}
 use Rattle.e_cert.specs.declared.cert_line.RawRow.TheVariants as rows
 
@@ -21,7 +21,7 @@ most_rows = 4096
 
 -- a literal of a certificate, with its names and its limits
 abbrev pub fact_in : Names → RawLit → Result Lit FaultKind
-fact_in ns raw = lit_in ns raw >>= λ l. few_monos (raw ∷ []) >>= λ few. Ok l
+fact_in ns raw = lit_in ns raw >>= λ l. check_literal_limits (raw ∷ []) >>= λ few. Ok l
 
 -- a row with the objects of its names
 unfoldable pub row_in : Names → RawRow → Result RowName FaultKind

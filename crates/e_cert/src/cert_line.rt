@@ -203,7 +203,7 @@ fn differs_of(alloc: Global, words: &[&[u8]]) -> Result<CertLine, LineError>
 }
 
 /// A rule, and the names of its arguments.
-#[tactic(auto, unfolding(crate::specs::CertLines::transfer_of, e_line::specs::Reading::first_title, e_line::specs::Reading::word_at))]
+#[tactic(auto, unfolding(crate::specs::CertLines::transfer_of, e_line::specs::Reading::first_title, e_line::specs::Reading::first_word))]
 fn transfer_of(alloc: Global, words: &[&[u8]]) -> Result<CertLine, LineError>
     ensures { Gives (λ m. m) result (transfer_of (texts words.now)) }
 {

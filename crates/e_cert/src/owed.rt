@@ -18,7 +18,7 @@ use e_clause::{
     Against, Cert, InstanceFault, MetricCert, Part, RowName, Rule, Sums, TransferCert, instance,
 };
 use e_deriv::Names;
-use e_line::{LineError, RawLit, few_monos};
+use e_line::{LineError, RawLit, check_literal_limits};
 use e_literal::{Items, Lit, Obj, same};
 use e_names::{args_in, lit_in, term_in};
 use e_text::{Name, Title};
@@ -86,7 +86,7 @@ fn fact_in(alloc: Global, names: &Names, raw: &RawLit) -> Result<Lit, LineError>
     ensures { Gives (λ l. l) result (fact_in names.now raw.now) }
 {
     let lit = lit_in(alloc, names, raw)?;
-    match few_monos(slice::from_ref(raw)) {
+    match check_literal_limits(slice::from_ref(raw)) {
         Ok(()) => Ok(lit),
         Err(error) => {
             mem::drop(lit);

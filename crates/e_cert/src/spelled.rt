@@ -6,10 +6,10 @@ ghost use Rattle.e_line.specs.Comparison.{past};
 ghost use Rattle.e_cert.specs.CertLines.{raw_row_words, cert_line_words, cert_line_text};
 
 use crate::cert_line::{CertLine, RawRow};
-use e_line::{Comparison, RawTerm};
+use e_line::{RawTerm, SpellingCheck};
 
 /// A row that is said of a term.
-fn compare_term_row(text: &mut Comparison, word: &[u8], term: &RawTerm)
+fn compare_term_row(text: &mut SpellingCheck, word: &[u8], term: &RawTerm)
     ensures { text.new ≡ past text.old (word.now ∷ term_words term.now) }
 {
     text.word(word);
@@ -17,14 +17,14 @@ fn compare_term_row(text: &mut Comparison, word: &[u8], term: &RawTerm)
 }
 
 /// A fact by its place.
-fn compare_place(text: &mut Comparison, place: u32)
+fn compare_place(text: &mut SpellingCheck, place: u32)
     ensures { text.new ≡ past text.old (codes "fact" ∷ decimal place ∷ []) }
 {
     text.word(b"fact");
     text.number(place);
 }
 
-fn compare_row(text: &mut Comparison, row: &RawRow)
+fn compare_row(text: &mut SpellingCheck, row: &RawRow)
     ensures { text.new ≡ past text.old (raw_row_words row.now) }
 {
     match row {
@@ -44,7 +44,7 @@ fn compare_row(text: &mut Comparison, row: &RawRow)
 }
 
 /// A line of a certificate after its sign.
-fn compare_words(text: &mut Comparison, cert_line: &CertLine)
+fn compare_words(text: &mut SpellingCheck, cert_line: &CertLine)
     ensures { text.new ≡ past text.old (cert_line_words cert_line.now) }
 {
     match cert_line {
@@ -82,7 +82,7 @@ pub(crate) fn is_cert_line_text(line: &[u8], cert_line: &CertLine) -> bool
     if *sign != b'|' {
         return false;
     }
-    let mut text = Comparison::new(words);
+    let mut text = SpellingCheck::new(words);
     compare_words(&mut text, cert_line);
     text.is_spelled()
 }

@@ -6,7 +6,7 @@ use Rattle.e_figure.specs.declared.figure.Round.{Round}
 use Rattle.e_figure.specs.Figure.{has_direction, has_inside}
 use Rattle.e_line.specs.declared.fault.FaultKind.{FaultKind}
 use Rattle.e_line.specs.declared.fault.FaultKind.TheVariants.{Malformed}
-use Rattle.e_line.specs.Reading.{◌>>=◌, first_name, end_at}
+use Rattle.e_line.specs.Reading.{◌>>=◌, first_name, no_word_left}
 use Rattle.e_line.specs.Literals.{diagram_lits_of}
 use Rattle.e_drawing.specs.declared.raw.RawLine.{RawLine}
 use Rattle.e_drawing.specs.declared.raw.RawLine.TheVariants as raw
@@ -18,7 +18,7 @@ plan_point_of words = do
   n ← first_name words
   x ← coordinate_at n.1
   y ← coordinate_at x.1
-  none ← end_at y.1
+  none ← no_word_left y.1
   Ok (raw.Point n.0 (record { x = x.0; y = y.0 }))
 
 -- a direction that is not two zeros
@@ -33,7 +33,7 @@ straight_of words = do
   y ← coordinate_at x.1
   dx ← coordinate_at y.1
   dy ← coordinate_at dx.1
-  none ← end_at dy.1
+  none ← no_word_left dy.1
   line_with_direction n.0 (record { x = x.0; y = y.0; dx = dx.0; dy = dy.0 })
 
 -- a square that is not 0
@@ -47,11 +47,11 @@ round_of words = do
   x ← coordinate_at n.1
   y ← coordinate_at x.1
   q ← square_at y.1
-  none ← end_at q.1
+  none ← no_word_left q.1
   circle_with_inside n.0 (record { x = x.0; y = y.0; square = q.0 })
 
 abbrev pub line_of_one_word : List (List ℕ) → RawLine → Result RawLine FaultKind
-line_of_one_word words line = end_at words >>= λ none. Ok line
+line_of_one_word words line = no_word_left words >>= λ none. Ok line
 
 -- by the first word
 unfoldable pub plan_line_named : List ℕ → List (List ℕ) → Result RawLine FaultKind

@@ -4,7 +4,7 @@ use Rattle.std.specs.Prelude.{Ok, Err, if◌then◌else◌}
 use Rattle.e_text.specs.Numerals.{is_numeral, value_from}
 use Rattle.e_line.specs.declared.fault.FaultKind.{FaultKind}
 use Rattle.e_line.specs.declared.fault.FaultKind.TheVariants.{Malformed}
-use Rattle.e_line.specs.Reading.{◌>>=◌, word_at}
+use Rattle.e_line.specs.Reading.{◌>>=◌, first_word}
 
 -- the largest size of a coordinate, and of a number of a direction
 abbrev pub most_size : ℕ
@@ -40,13 +40,13 @@ square_of w = if is_numeral w then Ok (value_to most_square w) else Err Malforme
 -- the next word, a coordinate
 unfoldable pub coordinate_at : List (List ℕ) → Result (ℤ × List (List ℕ)) FaultKind
 coordinate_at words = do
-  w ← word_at words
+  w ← first_word words
   z ← coordinate_of w.0
   Ok (z, w.1)
 
 -- the next word, a square
 unfoldable pub square_at : List (List ℕ) → Result (ℕ × List (List ℕ)) FaultKind
 square_at words = do
-  w ← word_at words
+  w ← first_word words
   n ← square_of w.0
   Ok (n, w.1)

@@ -16,7 +16,7 @@ use Rattle.e_line.specs.declared.items.Listing.{Listing}
 use Rattle.e_line.specs.declared.items.Listing.TheVariants.{Given, Show, Claim, Superpose}
 use Rattle.e_line.specs.declared.items.BookLine.{BookLine}
 use Rattle.e_line.specs.declared.items.BookLine.TheVariants.{Plain, Define, Listed}
-use Rattle.e_line.specs.Reading.{◌>>=◌, each, first_title, end_at, names_of}
+use Rattle.e_line.specs.Reading.{◌>>=◌, each, first_title, no_word_left, names_of}
 use Rattle.e_line.specs.Literals.{is_semicolon, lit_of}
 use Rattle.e_line.specs.Lets.{are_words_of, new_words, argument_words}
 use Rattle.e_line.specs.Superposes.{superpose_pieces}
@@ -57,7 +57,7 @@ has_item words = list_any begins_item (slice_split is_semicolon words)
 unfoldable pub define_of : List (List ℕ) → Result BookLine FaultKind
 define_of words = do
   t ← first_title words
-  none ← end_at t.1
+  none ← no_word_left t.1
   Ok (Define t.0)
 
 -- the words of a superposition up to show

@@ -13,23 +13,23 @@ use Rattle.e_line.specs.Limits.{most_monomials, most_coefficient}
 -- ---- literals that are written
 
 -- no literal has more monomials than it may
-abbrev pub are_short : List RawLit → Bool
-are_short raws = list_all (λ l. nat_le (length (monos_of l.atom)) most_monomials) raws
+abbrev pub have_few_monomials : List RawLit → Bool
+have_few_monomials raws = list_all (λ l. nat_le (length (monos_of l.atom)) most_monomials) raws
 
 -- no coefficient is larger than it may be
-abbrev pub are_small : List RawLit → Bool
-are_small raws =
+abbrev pub have_low_coefficients : List RawLit → Bool
+have_low_coefficients raws =
     list_all (λ l. list_all (λ m. nat_le m.coeff most_coefficient) (monos_of l.atom)) raws
 
-abbrev pub count_monos : List RawLit → ℕ
-count_monos raws = sum_by (λ l. length (monos_of l.atom)) raws
+abbrev pub count_raw_monomials : List RawLit → ℕ
+count_raw_monomials raws = sum_by (λ l. length (monos_of l.atom)) raws
 
 abbrev pub or_limit : Bool → What → Result (Unit {0}) FaultKind
 or_limit true what = Ok tt
 or_limit false what = Err (Limit what)
 
 -- the limits of literals that are written
-unfoldable pub few_monos : List RawLit → Result (Unit {0}) FaultKind
-few_monos raws = do
-  short ← or_limit (are_short raws) limits.Monomials
-  or_limit (are_small raws) limits.Coefficient
+unfoldable pub check_literal_limits : List RawLit → Result (Unit {0}) FaultKind
+check_literal_limits raws = do
+  short ← or_limit (have_few_monomials raws) limits.Monomials
+  or_limit (have_low_coefficients raws) limits.Coefficient

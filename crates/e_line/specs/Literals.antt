@@ -13,8 +13,8 @@ use Rattle.e_line.specs.declared.literal.RawAtom.{RawAtom}
 use Rattle.e_line.specs.declared.literal.RawAtom.TheVariants.{On, Inside, Center, Between, Same}
 use Rattle.e_line.specs.declared.literal.RawAtom.TheVariants.{Meets, Equal, SumsEqual, SumsLess}
 use Rattle.e_line.specs.declared.literal.RawAtom.TheVariants.{SumsAtMost}
-use Rattle.e_line.specs.declared.literal.Sign.{Sign}
-use Rattle.e_line.specs.declared.literal.Sign.TheVariants as signs
+use Rattle.e_line.specs.declared.literal.Relation.{Relation}
+use Rattle.e_line.specs.declared.literal.Relation.TheVariants as signs
 use Rattle.e_line.specs.Reading.{◌>>=◌, each, or_malformed}
 unfoldable pub use Rattle.e_line.specs.Reading.{two_names, three_names}
 use Rattle.e_line.specs.Sums.{sum_of}
@@ -22,15 +22,15 @@ use Rattle.e_line.specs.Sums.{sum_of}
 -- ---- comparisons
 
 -- the sign that a word is
-abbrev pub sign_of : List ℕ → Option Sign
-sign_of w =
+abbrev pub relation_of : List ℕ → Option Relation
+relation_of w =
     if bytes_eq w (codes "=") then Some signs.Equal else
     if bytes_eq w (codes "!=") then Some signs.Differ else
     if bytes_eq w (codes "<") then Some signs.Less else
     if bytes_eq w (codes "<=") then Some signs.AtMost else None
 
-abbrev pub is_sign : List ℕ → Bool
-is_sign w = is_some (sign_of w)
+abbrev pub is_relation : List ℕ → Bool
+is_relation w = is_some (relation_of w)
 
 -- a side that is one name
 abbrev pub single_name : List (List ℕ) → Option (List ℕ)
@@ -53,7 +53,7 @@ equal_sides (Some x) (Some y) sums = Ok (Equal x y)
 equal_sides (Some x) None sums = sums >>= λ p. Ok (SumsEqual p.0 p.1)
 equal_sides None y sums = sums >>= λ p. Ok (SumsEqual p.0 p.1)
 
-unfoldable pub sides_of : Sign → List (List ℕ) → List (List ℕ) → Result RawAtom FaultKind
+unfoldable pub sides_of : Relation → List (List ℕ) → List (List ℕ) → Result RawAtom FaultKind
 sides_of signs.Equal left right =
     equal_sides (single_name left) (single_name right) (sums_of left right)
 sides_of signs.Differ left right =
@@ -62,7 +62,7 @@ sides_of signs.Less left right = sums_of left right >>= λ p. Ok (SumsLess p.0 p
 sides_of signs.AtMost left right = sums_of left right >>= λ p. Ok (SumsAtMost p.0 p.1)
 
 -- != is a negation, and not may come before neither it nor <=
-abbrev pub negation_of : Bool → Sign → Result Bool FaultKind
+abbrev pub negation_of : Bool → Relation → Result Bool FaultKind
 negation_of negated signs.Equal = Ok negated
 negation_of true signs.Differ = Err Malformed
 negation_of false signs.Differ = Ok true
@@ -71,14 +71,14 @@ negation_of true signs.AtMost = Err Malformed
 negation_of false signs.AtMost = Ok false
 
 -- the first sign and the words after it
-abbrev pub sign_first : List (List ℕ) → Result (Sign × List (List ℕ)) FaultKind
+abbrev pub sign_first : List (List ℕ) → Result (Relation × List (List ℕ)) FaultKind
 sign_first [] = Err Malformed
-sign_first (w ∷ ws) = or_malformed (sign_of w) >>= λ s. Ok (s, ws)
+sign_first (w ∷ ws) = or_malformed (relation_of w) >>= λ s. Ok (s, ws)
 
 -- two sides with a sign between them
 unfoldable pub lit_of_sides : Bool → List (List ℕ) → Result RawLit FaultKind
 lit_of_sides negated words = do
-  let n = position_or_len is_sign words
+  let n = position_or_len is_relation words
   s ← sign_first (drop n words)
   neg ← negation_of negated s.0
   a ← sides_of s.0 (take n words) s.1

@@ -10,7 +10,7 @@ use Rattle.e_line.specs.declared.sum.RawTerm.{RawTerm}
 use Rattle.e_line.specs.declared.sum.RawTerm.TheVariants.{Seg, Ang, Area, Right}
 use Rattle.e_line.specs.declared.sum.RawMono.{RawMono}
 use Rattle.e_line.specs.Limits.{most_coefficient}
-use Rattle.e_line.specs.Reading.{◌>>=◌, each, two_names, three_names, end_at}
+use Rattle.e_line.specs.Reading.{◌>>=◌, each, two_names, three_names, no_word_left}
 
 -- a term, by its first word
 unfoldable pub term_named : List ℕ → List (List ℕ) → Result RawTerm FaultKind
@@ -18,7 +18,7 @@ term_named w ws =
     if bytes_eq w (codes "seg") then (two_names ws >>= λ p. Ok (Seg p.0 p.1)) else
     if bytes_eq w (codes "ang") then (three_names ws >>= λ p. Ok (Ang p.0 p.1 p.2)) else
     if bytes_eq w (codes "area") then (three_names ws >>= λ p. Ok (Area p.0 p.1 p.2)) else
-    if bytes_eq w (codes "right") then (end_at ws >>= λ none. Ok Right) else Err Malformed
+    if bytes_eq w (codes "right") then (no_word_left ws >>= λ none. Ok Right) else Err Malformed
 
 unfoldable pub term_of : List (List ℕ) → Result RawTerm FaultKind
 term_of [] = Err Malformed

@@ -54,7 +54,7 @@ fn made_names(alloc: Global, after: Option<&[&[u8]]>) -> Result<Items<Name>, Lin
 }
 
 /// What comes after `apply`: a title, arguments, and perhaps `as` with names after it.
-#[tactic(auto, unfolding(crate::specs::Applies::apply_of, crate::specs::Reading::first_title, crate::specs::Reading::word_at))]
+#[tactic(auto, unfolding(crate::specs::Applies::apply_of, crate::specs::Reading::first_title, crate::specs::Reading::first_word))]
 pub(crate) fn apply_of(alloc: Global, words: &[&[u8]]) -> Result<RawApply, LineError>
     ensures { Gives (λ a. a) result (apply_of (texts words.now)) }
 {

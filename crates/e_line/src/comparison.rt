@@ -13,14 +13,14 @@ use std::marker::Model;
 
 /// What comes after these bytes.
 #[tactic(auto, using(crate::proofs::base::Past::past_stripped))]
-fn after_bytes<'a>(text: &'a [u8], bytes: &[u8]) -> Option<&'a [u8]>
+fn past_bytes<'a>(text: &'a [u8], bytes: &[u8]) -> Option<&'a [u8]>
     ensures { IsAfter result (past_bytes bytes.now text.now) }
 {
     text.strip_prefix(bytes)
 }
 
 /// What comes after a space and a word.
-fn after_word<'a>(text: &'a [u8], word: &[u8]) -> Option<&'a [u8]>
+fn past_word<'a>(text: &'a [u8], word: &[u8]) -> Option<&'a [u8]>
     ensures { IsAfter result (past_bytes (32 ∷ word.now) text.now) }
 {
     let [first, rest @ ..] = text else {
@@ -29,17 +29,17 @@ fn after_word<'a>(text: &'a [u8], word: &[u8]) -> Option<&'a [u8]>
     if *first != b' ' {
         return None;
     }
-    after_bytes(rest, word)
+    past_bytes(rest, word)
 }
 
 /// A text that is compared, seen as what is left of it, or none where it was not as it should be.
 #[derive(Drop)]
-pub struct Comparison<'a> {
+pub struct SpellingCheck<'a> {
     rest: &'a [u8],
     alike: bool,
 }
 
-impl<'a> Model for Comparison<'a> {
+impl<'a> Model for SpellingCheck<'a> {
     ghost use Rattle.std.specs.Prelude.{List, ℕ, Option, Some, None, if◌then◌else◌};
 
     ghost Value = { Option (List ℕ) };
@@ -47,12 +47,12 @@ impl<'a> Model for Comparison<'a> {
     ghost view = { λ c. if c.alike then Some c.rest.now else None };
 }
 
-impl<'a> Comparison<'a> {
+impl<'a> SpellingCheck<'a> {
     /// The whole text is to be compared.
     pub fn new(text: &'a [u8]) -> Self
         ensures { result ≡ Some text.now }
     {
-        Comparison {
+        SpellingCheck {
             rest: text,
             alike: true,
         }
@@ -63,7 +63,7 @@ impl<'a> Comparison<'a> {
         ensures { self.new ≡ past_word self.old word.now }
     {
         if self.alike {
-            match after_word(self.rest, word) {
+            match past_word(self.rest, word) {
                 Some(rest) => self.rest = rest,
                 None => self.alike = false,
             }

@@ -7,11 +7,11 @@ ghost use Rattle.e_line.specs.Items.{as_of, item_of, items_of, begins_item, has_
 ghost use Rattle.e_line.specs.Items.{placing_of, line_with_items, book_line_of};
 
 use crate::fault::LineError;
-use crate::lets::{Place, are_words_of, names_at};
+use crate::lets::{Slot, are_words_of, names_at};
 use crate::literal::{RawLit, lit_of};
 use crate::raw_line::{RawLine, raw_line_named};
 use crate::superposes::{head_and_lits, superposition_pieces};
-use crate::words::{Words, names_of, place_of};
+use crate::words::{Words, first_index_of, names_of};
 use e_literal::Items;
 use e_text::{Name, Title, is};
 use std::alloc::Global;
@@ -55,7 +55,7 @@ pub enum BookLine {
 }
 
 /// What comes after `as` in a list of literals: a title and names.
-#[tactic(auto, unfolding(crate::specs::Items::as_of, crate::specs::Reading::first_title, crate::specs::Reading::word_at))]
+#[tactic(auto, unfolding(crate::specs::Items::as_of, crate::specs::Reading::first_title, crate::specs::Reading::first_word))]
 fn as_of(alloc: Global, words: &[&[u8]]) -> Result<RawAs, LineError>
     ensures { Gives (λ a. a) result (as_of (texts words.now)) }
 {
@@ -86,12 +86,16 @@ fn item_of(alloc: Global, words: &[&[u8]]) -> Result<RawItem, LineError>
 }
 
 /// One or more of them with semicolons between them, put last.
-fn put_items_of(alloc: Global, words: &[&[u8]], items: &mut Items<RawItem>) -> Result<(), LineError>
+fn read_items_into(
+    alloc: Global,
+    words: &[&[u8]],
+    items: &mut Items<RawItem>,
+) -> Result<(), LineError>
     ensures { Moves result items.new (with_front items.old (items_of (texts words.now))) }
 {
     let mut at = 0;
     while at <= words.len() {
-        let end = at + place_of(&words[at..], b";");
+        let end = at + first_index_of(&words[at..], b";");
         let item = item_of(alloc, &words[at..end])?;
         items.push(item)?;
         at = end + 1;
@@ -105,7 +109,7 @@ fn items_of(alloc: Global, words: &[&[u8]]) -> Result<Items<RawItem>, LineError>
     ensures { Gives (λ i. i) result (items_of (texts words.now)) }
 {
     let mut items = Items::empty(alloc);
-    put_items_of(alloc, words, &mut items)?;
+    read_items_into(alloc, words, &mut items)?;
     Ok(items)
 }
 
@@ -124,7 +128,7 @@ fn has_item(words: &[&[u8]]) -> bool
 {
     let mut at = 0;
     while at <= words.len() {
-        let end = at + place_of(&words[at..], b";");
+        let end = at + first_index_of(&words[at..], b";");
         if begins_item(&words[at..end]) {
             return true;
         }
@@ -150,8 +154,8 @@ fn placing_of(alloc: Global, head: &[&[u8]]) -> Result<Listing, LineError>
     if !are_words_of(superposition_pieces(), head) {
         return Err(LineError::MALFORMED);
     }
-    let new = names_at(alloc, Place::New, superposition_pieces(), head)?;
-    let args = names_at(alloc, Place::Argument, superposition_pieces(), head)?;
+    let new = names_at(alloc, Slot::New, superposition_pieces(), head)?;
+    let args = names_at(alloc, Slot::Argument, superposition_pieces(), head)?;
     Ok(Listing::Superpose { args, new })
 }
 

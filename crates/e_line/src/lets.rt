@@ -75,24 +75,24 @@ fn shapes_of(alloc: Global, avoiding: bool, words: &[&[u8]]) -> Result<Items<Sha
 
 /// What stands at a place of a line that has a name.
 #[derive(Clone, Copy)]
-pub(crate) enum Place {
+pub(crate) enum Slot {
     New,
     Argument,
 }
 
 /// Whether a piece is such a place.
-fn is_place(place: Place, piece: Piece) -> bool
+fn is_place(place: Slot, piece: Piece) -> bool
     ensures { result ≡ is_place (is_new place) (piece_view piece) }
 {
     match (place, piece) {
-        (Place::New, Piece::New) => true,
-        (Place::Argument, Piece::Argument) => true,
+        (Slot::New, Piece::New) => true,
+        (Slot::Argument, Piece::Argument) => true,
         _ => false,
     }
 }
 
 /// Whether such a place is there.
-fn is_place_at(place: Place, pieces: &[Piece], at: usize) -> bool
+fn is_place_at(place: Slot, pieces: &[Piece], at: usize) -> bool
     ensures { result
         ≡ option_map_or (λ p. is_place (is_new place) (piece_view p)) (slice_get pieces.now at) false }
 {
@@ -105,7 +105,7 @@ fn is_place_at(place: Place, pieces: &[Piece], at: usize) -> bool
 /// The names at such places.
 pub(crate) fn names_at(
     alloc: Global,
-    place: Place,
+    place: Slot,
     pieces: &[Piece],
     words: &[&[u8]],
 ) -> Result<Items<Name>, LineError>
@@ -148,8 +148,8 @@ fn let_named(
     let [first, ..] = shapes.items() else {
         return Err(LineError::MALFORMED);
     };
-    let new = names_at(alloc, Place::New, pieces(*first), words)?;
-    let args = names_at(alloc, Place::Argument, pieces(*first), words)?;
+    let new = names_at(alloc, Slot::New, pieces(*first), words)?;
+    let args = names_at(alloc, Slot::Argument, pieces(*first), words)?;
     Ok(RawLet {
         shapes,
         new,

@@ -19,11 +19,11 @@ mod superposes;
 mod words;
 
 pub use applies::RawApply;
-pub use comparison::Comparison;
+pub use comparison::SpellingCheck;
 pub use fault::{BookFault, FaultKind, LineError, What, of_line};
 pub use items::{BookLine, Listing, RawAs, RawItem, book_line_of};
 pub use lets::RawLet;
-pub use limits::{count_of, few_monos, within};
+pub use limits::{check_literal_limits, monomial_count, within};
 pub use lines::{
     put_apply, put_by, put_let, put_named, put_raw_line, put_stated, put_superpose,
     put_word_and_lit,

@@ -4,7 +4,7 @@ ghost use Rattle.std.specs.List.{list_all};
 ghost use Rattle.e_line.specs.Reading.{Gives};
 ghost use Rattle.e_line.specs.Literals.{monos_of};
 ghost use Rattle.e_line.specs.Limits.{most_coefficient, within};
-ghost use Rattle.e_line.specs.LineLimits.{are_short, are_small, few_monos};
+ghost use Rattle.e_line.specs.LineLimits.{have_few_monomials, have_low_coefficients, check_literal_limits};
 
 use crate::fault::{FaultKind, LineError, What};
 use crate::literal::{RawAtom, RawLit};
@@ -24,7 +24,7 @@ pub fn within(count: usize, most: usize, what: What) -> Result<(), LineError>
 }
 
 /// How many monomials a literal has.
-pub fn count_of(lit: &RawLit) -> usize
+pub fn monomial_count(lit: &RawLit) -> usize
     ensures { result ≡ length (monos_of lit.now.atom) }
 {
     match &lit.atom {
@@ -53,28 +53,28 @@ fn is_small(lit: &RawLit) -> bool
 }
 
 /// Whether no literal has more monomials than it may.
-fn are_short(lits: &[RawLit]) -> bool
-    ensures { result ≡ are_short lits.now }
+fn have_few_monomials(lits: &[RawLit]) -> bool
+    ensures { result ≡ have_few_monomials lits.now }
 {
-    lits.iter().all(|lit| count_of(lit) <= MAX_MONOMIALS)
+    lits.iter().all(|lit| monomial_count(lit) <= MAX_MONOMIALS)
 }
 
 /// Whether no coefficient is larger than it may be.
-fn are_small(lits: &[RawLit]) -> bool
-    ensures { result ≡ are_small lits.now }
+fn have_low_coefficients(lits: &[RawLit]) -> bool
+    ensures { result ≡ have_low_coefficients lits.now }
 {
     lits.iter().all(|lit| is_small(lit))
 }
 
 /// The limits of each literal: of its monomials, and then of the coefficients of all.
-#[tactic(auto, unfolding(crate::specs::LineLimits::few_monos))]
-pub fn few_monos(lits: &[RawLit]) -> Result<(), LineError>
-    ensures { Gives (λ u. u) result (few_monos lits.now) }
+#[tactic(auto, unfolding(crate::specs::LineLimits::check_literal_limits))]
+pub fn check_literal_limits(lits: &[RawLit]) -> Result<(), LineError>
+    ensures { Gives (λ u. u) result (check_literal_limits lits.now) }
 {
-    if !are_short(lits) {
+    if !have_few_monomials(lits) {
         return Err(LineError::Fault(FaultKind::Limit(What::Monomials)));
     }
-    if !are_small(lits) {
+    if !have_low_coefficients(lits) {
         return Err(LineError::Fault(FaultKind::Limit(What::Coefficient)));
     }
     Ok(())

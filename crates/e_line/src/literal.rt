@@ -2,14 +2,14 @@
 ghost use Rattle.std.specs.Prelude.{◌≡◌, ◌∷◌, ◌≤◌, List, length};
 ghost use Rattle.std.specs.List.{list_all, position_or_len};
 ghost use Rattle.e_line.specs.Reading.{texts, Gives, Moves, with_front};
-ghost use Rattle.e_line.specs.Literals.{sign_of, is_sign, single_name, sums_of, sides_of};
+ghost use Rattle.e_line.specs.Literals.{relation_of, is_relation, single_name, sums_of, sides_of};
 ghost use Rattle.e_line.specs.Literals.{equal_sides, negation_of, sign_first, lit_of_sides};
 ghost use Rattle.e_line.specs.Literals.{lit_by_first_word, signed_of, lit_of, is_diagram_raw};
 ghost use Rattle.e_line.specs.Literals.{diagram_lit_of, diagram_lits_of, lits_of};
 
 use crate::fault::LineError;
 use crate::sum::{RawMono, sum_of};
-use crate::words::{place_of, three_names, two_names};
+use crate::words::{first_index_of, three_names, two_names};
 use e_literal::Items;
 use e_text::{Name, is};
 use std::alloc::Global;
@@ -49,7 +49,7 @@ pub struct RawLit {
 
 /// The sign of a comparison.
 #[derive(Clone, Copy)]
-pub(crate) enum Sign {
+pub(crate) enum Relation {
     /// `=`
     Equal,
     /// `!=`
@@ -61,37 +61,37 @@ pub(crate) enum Sign {
 }
 
 /// The sign that a word is.
-fn sign_of(word: &[u8]) -> Option<Sign>
-    ensures { result ≡ sign_of word.now }
+fn relation_of(word: &[u8]) -> Option<Relation>
+    ensures { result ≡ relation_of word.now }
 {
     if is(word, b"=") {
-        return Some(Sign::Equal);
+        return Some(Relation::Equal);
     }
     if is(word, b"!=") {
-        return Some(Sign::Differ);
+        return Some(Relation::Differ);
     }
     if is(word, b"<") {
-        return Some(Sign::Less);
+        return Some(Relation::Less);
     }
     if is(word, b"<=") {
-        return Some(Sign::AtMost);
+        return Some(Relation::AtMost);
     }
     None
 }
 
-fn is_sign(word: &[u8]) -> bool
-    ensures { result ≡ is_sign word.now }
+fn is_relation(word: &[u8]) -> bool
+    ensures { result ≡ is_relation word.now }
 {
-    sign_of(word).is_some()
+    relation_of(word).is_some()
 }
 
 /// The place of the first sign, or the number of words.
 fn place_of_sign(words: &[&[u8]]) -> usize
-    ensures place { result ≡ position_or_len is_sign (texts words.now) }
+    ensures place { result ≡ position_or_len is_relation (texts words.now) }
     ensures within { result ≤ length words.now }
 {
     for (i, word) in words.iter().enumerate() {
-        if is_sign(word) {
+        if is_relation(word) {
             return i;
         }
     }
@@ -142,20 +142,20 @@ fn equal_sides(alloc: Global, left: &[&[u8]], right: &[&[u8]]) -> Result<RawAtom
 #[tactic(auto, unfolding(crate::specs::Literals::sides_of))]
 fn sides_of(
     alloc: Global,
-    sign: Sign,
+    sign: Relation,
     left: &[&[u8]],
     right: &[&[u8]],
 ) -> Result<RawAtom, LineError>
     ensures { Gives (λ a. a) result (sides_of sign (texts left.now) (texts right.now)) }
 {
     match sign {
-        Sign::Equal => equal_sides(alloc, left, right),
-        Sign::Differ => equal_sides(alloc, left, right),
-        Sign::Less => {
+        Relation::Equal => equal_sides(alloc, left, right),
+        Relation::Differ => equal_sides(alloc, left, right),
+        Relation::Less => {
             let Sums { left, right } = sums_of(alloc, left, right)?;
             Ok(RawAtom::SumsLess(left, right))
         }
-        Sign::AtMost => {
+        Relation::AtMost => {
             let Sums { left, right } = sums_of(alloc, left, right)?;
             Ok(RawAtom::SumsAtMost(left, right))
         }
@@ -163,19 +163,19 @@ fn sides_of(
 }
 
 /// Whether it is a negation: `!=` is one, and `not` may come before neither it nor `<=`.
-fn negation_of(negated: bool, sign: Sign) -> Result<bool, LineError>
+fn negation_of(negated: bool, sign: Relation) -> Result<bool, LineError>
     ensures { Gives (λ n. n) result (negation_of negated sign) }
 {
     match sign {
-        Sign::Equal => Ok(negated),
-        Sign::Less => Ok(negated),
-        Sign::Differ => {
+        Relation::Equal => Ok(negated),
+        Relation::Less => Ok(negated),
+        Relation::Differ => {
             if negated {
                 return Err(LineError::MALFORMED);
             }
             Ok(true)
         }
-        Sign::AtMost => {
+        Relation::AtMost => {
             if negated {
                 return Err(LineError::MALFORMED);
             }
@@ -193,7 +193,7 @@ fn lit_of_sides(alloc: Global, negated: bool, words: &[&[u8]]) -> Result<RawLit,
     let [sign, right @ ..] = rest else {
         return Err(LineError::MALFORMED);
     };
-    let Some(sign) = sign_of(sign) else {
+    let Some(sign) = relation_of(sign) else {
         return Err(LineError::MALFORMED);
     };
     let neg = negation_of(negated, sign)?;
@@ -297,12 +297,12 @@ pub fn diagram_lit_of(alloc: Global, words: &[&[u8]]) -> Result<RawLit, LineErro
 }
 
 /// One or more literals with semicolons between them, put last.
-fn put_lits_of(alloc: Global, words: &[&[u8]], lits: &mut Items<RawLit>) -> Result<(), LineError>
+fn read_lits_into(alloc: Global, words: &[&[u8]], lits: &mut Items<RawLit>) -> Result<(), LineError>
     ensures { Moves result lits.new (with_front lits.old (lits_of (texts words.now))) }
 {
     let mut at = 0;
     while at <= words.len() {
-        let end = at + place_of(&words[at..], b";");
+        let end = at + first_index_of(&words[at..], b";");
         let lit = lit_of(alloc, &words[at..end])?;
         lits.push(lit)?;
         at = end + 1;
@@ -336,6 +336,6 @@ pub(crate) fn lits_of(alloc: Global, words: &[&[u8]]) -> Result<Items<RawLit>, L
     ensures { Gives (λ l. l) result (lits_of (texts words.now)) }
 {
     let mut lits = Items::empty(alloc);
-    put_lits_of(alloc, words, &mut lits)?;
+    read_lits_into(alloc, words, &mut lits)?;
     Ok(lits)
 }

@@ -79,7 +79,7 @@ fn sort_of(word: &[u8]) -> Result<Sort, LineError>
     Err(LineError::MALFORMED)
 }
 
-#[tactic(auto, unfolding(crate::specs::RawLines::made_of, crate::specs::Reading::word_at))]
+#[tactic(auto, unfolding(crate::specs::RawLines::made_of, crate::specs::Reading::first_word))]
 fn made_of(alloc: Global, words: &[&[u8]]) -> Result<RawLine, LineError>
     ensures { Gives (λ f. f) result (made_of (texts words.now)) }
 {
@@ -91,7 +91,7 @@ fn made_of(alloc: Global, words: &[&[u8]]) -> Result<RawLine, LineError>
     Ok(RawLine::Made(sort, names))
 }
 
-#[tactic(auto, unfolding(crate::specs::RawLines::by_of, crate::specs::Reading::first_title, crate::specs::Reading::word_at))]
+#[tactic(auto, unfolding(crate::specs::RawLines::by_of, crate::specs::Reading::first_title, crate::specs::Reading::first_word))]
 fn by_of(alloc: Global, words: &[&[u8]]) -> Result<RawLine, LineError>
     ensures { Gives (λ f. f) result (by_of (texts words.now)) }
 {

@@ -7,7 +7,7 @@ ghost use Rattle.std.specs.List.{slice_split};
 ghost use Rattle.e_text.specs.Numerals.{is_numeral};
 
 use crate::fault::LineError;
-use crate::words::{Words, place_of, three_names, two_names};
+use crate::words::{Words, first_index_of, three_names, two_names};
 use e_literal::Items;
 use e_text::{Name, is, number, numeral};
 use std::alloc::Global;
@@ -124,13 +124,13 @@ fn is_zero(words: &[&[u8]]) -> bool
 }
 
 /// Monomials with a plus between two, put last.
-fn put_monos_of(words: &[&[u8]], monos: &mut Items<RawMono>) -> Result<(), LineError>
+fn read_monos_into(words: &[&[u8]], monos: &mut Items<RawMono>) -> Result<(), LineError>
     ensures { Moves result monos.new
         (with_front monos.old (each mono_of (slice_split is_plus (texts words.now)))) }
 {
     let mut at = 0;
     while at <= words.len() {
-        let end = at + place_of(&words[at..], b"+");
+        let end = at + first_index_of(&words[at..], b"+");
         let RawMono { coeff, term } = mono_of(&words[at..end])?;
         monos.push(RawMono { coeff, term })?;
         at = end + 1;
@@ -147,6 +147,6 @@ pub(crate) fn sum_of(alloc: Global, words: &[&[u8]]) -> Result<Items<RawMono>, L
         return Ok(Items::empty(alloc));
     }
     let mut monos = Items::new(Vec::with_capacity(alloc, words.len() / 4 + 1)?);
-    put_monos_of(words, &mut monos)?;
+    read_monos_into(words, &mut monos)?;
     Ok(monos)
 }

@@ -5,7 +5,7 @@ ghost use Rattle.e_line.specs.Reading.{texts, Gives};
 ghost use Rattle.e_line.specs.Superposes.{superpose_pieces, raw_superpose_of, superpose_of};
 
 use crate::fault::LineError;
-use crate::lets::{Place, are_words_of, names_at};
+use crate::lets::{Slot, are_words_of, names_at};
 use crate::literal::{RawLit, lits_of};
 use e_construct::Piece;
 use e_literal::Items;
@@ -66,8 +66,8 @@ fn head_of(alloc: Global, head: &[&[u8]], rest: &[&[u8]]) -> Result<RawSuperpose
     if !are_words_of(superposition_pieces(), head) {
         return Err(LineError::MALFORMED);
     }
-    let new = names_at(alloc, Place::New, superposition_pieces(), head)?;
-    let args = names_at(alloc, Place::Argument, superposition_pieces(), head)?;
+    let new = names_at(alloc, Slot::New, superposition_pieces(), head)?;
+    let args = names_at(alloc, Slot::Argument, superposition_pieces(), head)?;
     let shown = lits_of(alloc, rest)?;
     Ok(RawSuperpose { args, new, shown })
 }

@@ -6,8 +6,8 @@ ghost use Rattle.e_text.specs.Tokens.{tokens_of};
 ghost use Rattle.std.specs.List.{position_or_len};
 ghost use Rattle.std.specs.Str.{bytes_eq};
 ghost use Rattle.e_line.specs.Canonical.{sort_word};
-ghost use Rattle.e_line.specs.Reading.{cut_at, texts, texts_after, Gives, Reads, word_at};
-ghost use Rattle.e_line.specs.Reading.{first_name, first_title, end_at, names_of};
+ghost use Rattle.e_line.specs.Reading.{cut_at, texts, texts_after, Gives, Reads, first_word};
+ghost use Rattle.e_line.specs.Reading.{first_name, first_title, no_word_left, names_of};
 ghost use Rattle.e_line.specs.Reading.{some_names, two_names, three_names};
 
 use crate::fault::LineError;
@@ -40,7 +40,7 @@ pub fn words_of_line(alloc: Global, line: &[u8]) -> Result<Vec<&[u8]>, AllocErro
 }
 
 /// Where a word comes first, or the number of words.
-pub fn place_of(words: &[&[u8]], word: &[u8]) -> usize
+pub fn first_index_of(words: &[&[u8]], word: &[u8]) -> usize
     ensures place { result ≡ position_or_len (λ w. bytes_eq w word.now) (texts words.now) }
     ensures within { result ≤ length words.now }
 {
@@ -60,7 +60,7 @@ pub(crate) fn cut_at<'b, 'a>(
     ensures { cut_at word.now (texts words.now)
         ≡ (texts result.0.now, texts_after result.1, is_some result.1) }
 {
-    let end = place_of(words, word);
+    let end = first_index_of(words, word);
     let (part, rest) = words.split_at(end);
     match rest {
         [] => (part, None),
@@ -118,9 +118,9 @@ impl<'b, 'a> Words<'b, 'a> {
     }
 
     /// The next word.
-    #[tactic(auto, unfolding(crate::specs::Reading::word_at))]
+    #[tactic(auto, unfolding(crate::specs::Reading::first_word))]
     pub fn word(&mut self) -> Result<&'a [u8], LineError>
-        ensures { Reads (λ w. w.now) result self.new (word_at self.old) }
+        ensures { Reads (λ w. w.now) result self.new (first_word self.old) }
     {
         match self.rest {
             [] => Err(LineError::MALFORMED),
@@ -154,9 +154,9 @@ impl<'b, 'a> Words<'b, 'a> {
     }
 
     /// No word is left.
-    #[tactic(auto, unfolding(crate::specs::Reading::end_at))]
+    #[tactic(auto, unfolding(crate::specs::Reading::no_word_left))]
     pub fn end(&self) -> Result<(), LineError>
-        ensures { Gives (λ u. u) result (end_at self.now) }
+        ensures { Gives (λ u. u) result (no_word_left self.now) }
     {
         if self.rest.is_empty() {
             Ok(())

@@ -24,8 +24,8 @@ use Rattle.e_deriv.proofs.Scripts.{steps_at, steps_script-append, step_script-Cl
 use Rattle.e_prove.specs.declared.step_stop.StepStop.{StepStop}
 use Rattle.e_prove.specs.declared.place.Place.{Place}
 use Rattle.e_prove.specs.inner.NextPlaces.{after_literal, after_superposed}
-use Rattle.e_prove.specs.inner.StopsOfSteps.{StepStopsAmong, UnlessNoMemory, StopOf}
-use Rattle.e_prove.specs.inner.PassedSteps.{IsReadyFor, IsReadyStep, IsDerivedFrom, KeepsHeld, StopsWithin, IsPassed, StepStops}
+use Rattle.e_prove.specs.inner.StopsOfSteps.{StepStopsAmong, UnlessNoMemory, IsStopOrNoMemory}
+use Rattle.e_prove.specs.inner.PassedSteps.{IsReadyFor, IsReadyStep, IsDerivedFrom, KeepsHeld, StopsWithin, IsPassed, StopsInStep}
 use Rattle.e_prove.proofs.PassedSteps.{passed_none, passed_more, passed_as, stops_first, same_names}
 use Rattle.e_prove.proofs.StopsInLists.{stop_within, before_more, stop_before}
 use Rattle.e_prove.proofs.InnerBlocks.{ClaimReady, claim_size, claim_stops, SuperposedReady, Certifies, superposed_size, superposed_stops, superposed_step_stops, SplitReady, split_ready, split_other, split_derives, split_first, split_second}
@@ -74,7 +74,7 @@ step_ready before items seen done close i s x y goal first n same lt is p r few 
     }
 
 pub step_stops : (before : List StatementView) (items seen done : List Step) (close : Script) (i : ℕ) (s : Step) (x y : Place) (goal : Goal) (first n : ℕ) (t : Stop) → seen ≡ items → i < length seen → s ≡ get_or seen i s →
-    IsPassed before (steps_script (take i items)) x first (steps_script done) y n → IsReadyFor before (steps_script items close) x goal → StepStops before s y n t → StopsWithin before (steps_script items close) x goal first t
+    IsPassed before (steps_script (take i items)) x first (steps_script done) y n → IsReadyFor before (steps_script items close) x goal → StopsInStep before s y n t → StopsWithin before (steps_script items close) x goal first t
 step_stops before items seen done close i s x y goal first n t same lt is p r k =
     let left = steps_script (drop (i + 1) items) close in
     let e = whole items seen i s close same lt is in
@@ -130,7 +130,7 @@ kept_literal lit x y z e k = k ∙ ap (λ w. w.context.held) e
 -- ---- a claim
 
 pub claim_stopped : (before : List StatementView) (step : Step) (shown : List Lit) (inner : Box Block Global) (x : Place) (n : ℕ) (t : Stop) → step ≡ ClaimStep shown inner → ClaimReady before shown (script_of inner.value) x →
-    StopsWithin before (script_of inner.value) x (goal_of shown) (n + 1) t → StepStops before step x n t
+    StopsWithin before (script_of inner.value) x (goal_of shown) (n + 1) t → StopsInStep before step x n t
 claim_stopped before step shown inner x n t is ready k rest goal r =
     let same = ap (λ s. step_script s rest) is ∙ step_script-Claim shown inner rest in
     let count = ap size same ∙ claim_size shown (script_of inner.value) rest in (
@@ -142,7 +142,7 @@ claim_stopped before step shown inner x n t is ready k rest goal r =
 
 pub superposed_stopped : (before : List StatementView) (step : Step) (superposition : Superpose) (names : List (List ℕ)) (shown : List Lit) (written certs : List Cert) (inner : Box Block Global) (x : Place) (n : ℕ) (t : Stop) →
     step ≡ SuperposedStep superposition names shown written inner → SuperposedReady before superposition names shown (script_of inner.value) x → Certifies superposition x certs →
-    StopsWithin before (script_of inner.value) (after_superposed superposition names x) (goal_of shown) (n + 1) t → StepStops before step x n t
+    StopsWithin before (script_of inner.value) (after_superposed superposition names x) (goal_of shown) (n + 1) t → StopsInStep before step x n t
 superposed_stopped before step superposition names shown written certs inner x n t is ready cs k rest goal r =
     let same = ap (λ s. step_script s rest) is ∙ step_script-Superposed superposition names shown written inner rest in
     let count = ap size same ∙ superposed_size superposition names shown written (script_of inner.value) rest in (
@@ -153,7 +153,7 @@ superposed_stopped before step superposition names shown written certs inner x n
     )
 
 pub superposed_refused : (before : List StatementView) (step : Step) (superposition : Superpose) (names : List (List ℕ)) (shown : List Lit) (written : List Cert) (inner : Box Block Global) (x after : Place) (n : ℕ) (h : StepStop) (t : Stop) →
-    step ≡ SuperposedStep superposition names shown written inner → StepStopsAmong x.context (superposing.needs_of_superposition superposition) h → UnlessNoMemory (after.names ≡ x.names) h → StopOf h n after.names t → StepStops before step x n t
+    step ≡ SuperposedStep superposition names shown written inner → StepStopsAmong x.context (superposing.needs_of_superposition superposition) h → UnlessNoMemory (after.names ≡ x.names) h → IsStopOrNoMemory h n after.names t → StopsInStep before step x n t
 superposed_refused before step superposition names shown written inner x after n h t is k m e rest goal r =
     let here = Superposed superposition names shown written (script_of inner.value) rest in
     let same = ap (λ s. step_script s rest) is ∙ step_script-Superposed superposition names shown written inner rest in

@@ -15,7 +15,7 @@ use Rattle.e_licence.specs.Contexts.{State, Basis, state_of}
 use Rattle.e_prove.specs.declared.step_stop.StepStop.{StepStop}
 use Rattle.e_prove.specs.declared.step_stop.StepStop.TheVariants as step_stop
 use Rattle.e_prove.specs.declared.place.Place.{Place}
-use Rattle.e_prove.specs.inner.NextPlaces.{with_held, held_at, IsLeft, IsLeftWith, CanJoinLast, after_block}
+use Rattle.e_prove.specs.inner.NextPlaces.{with_held, entered_at, IsOutsideAgain, IsOutsideWith, CanJoinLast, after_block}
 use Rattle.e_prove.specs.inner.StopsOfSteps.{StepStopsAmong, UnlessNoMemory}
 use Rattle.e_prove.specs.inner.PassedSteps.{IsReadyFor, IsDerivedFrom, StopsWithin, KeepsHeld}
 
@@ -69,40 +69,40 @@ last_of (s ∷ []) h = ([], s, refl)
 last_of (s ∷ t ∷ ss) h = let p = last_of (t ∷ ss) (omega arith) in (s ∷ p.0, p.1, ap (λ xs. s ∷ xs) p.2)
 
 pub left_so : (names : Names) (x : Place) (k : Basis) → ((before : List State) (last : State) → x.context.held ≡ before ++ last ∷ [] → k ≡ record { scope = last.scope; facts = last.facts; held = before }) →
-    IsLeft names x (record { context = k; names = names })
+    IsOutsideAgain names x (record { context = k; names = names })
 left_so names x k h before last e = ap (λ (b : Basis). record { context = b; names = names }) (h before last e)
 
 -- after it literals may join
-pub can_join : (names : Names) (x y : Place) (shown : List Lit) → 0 < length x.context.held → IsLeft names x y → CanJoinLast shown x → are_limited_facts y.context.scope (with_facts y.context.facts shown) ≡ true
+pub can_join : (names : Names) (x y : Place) (shown : List Lit) → 0 < length x.context.held → IsOutsideAgain names x y → CanJoinLast shown x → are_limited_facts y.context.scope (with_facts y.context.facts shown) ≡ true
 can_join names x y shown some left can =
     let p = last_of x.context.held some in
     subst (λ z. are_limited_facts z.context.scope (with_facts z.context.facts shown) ≡ true) (sym (left p.0 p.1 p.2)) (can p.0 p.1 p.2)
 
-pub left_joins : {E : Type 0} (r : Result (Unit {0}) E) (names : Names) (x y : Place) (k : Basis) (shown : List Lit) → IsLeft names x y → OnOk r (k ≡ record y.context { facts = with_facts y.context.facts shown }) →
-    OnOk r (IsLeftWith names shown x (record y { context = k }))
+pub left_joins : {E : Type 0} (r : Result (Unit {0}) E) (names : Names) (x y : Place) (k : Basis) (shown : List Lit) → IsOutsideAgain names x y → OnOk r (k ≡ record y.context { facts = with_facts y.context.facts shown }) →
+    OnOk r (IsOutsideWith names shown x (record y { context = k }))
 left_joins (Err e) names x y k shown left is = tt
 left_joins (Ok u) names x y k shown left is = λ before last e.
     ap (λ (b : Basis). record y { context = b }) is ∙ ap (λ (z : Place). record z { context = record z.context { facts = with_facts z.context.facts shown } }) (left before last e)
 
 -- ---- a block that is left
 
-pub kept_inside : (x y z : Place) → y ≡ held_at x → KeepsHeld y z → KeepsHeld (held_at x) z
+pub kept_inside : (x y z : Place) → y ≡ entered_at x → KeepsHeld y z → KeepsHeld (entered_at x) z
 kept_inside x y z is k = k ∙ ap (λ w. w.context.held) is
 
-pub some_held : (x z : Place) → KeepsHeld (held_at x) z → 0 < length z.context.held
+pub some_held : (x z : Place) → KeepsHeld (entered_at x) z → 0 < length z.context.held
 some_held x z k =
     let many = ap length k in
     let long = length-append x.context.held (state_of x.context ∷ []) in
     omega (arith, many, long)
 
-pub left_is : (names : Names) (x z w : Place) → names ≡ x.names → KeepsHeld (held_at x) z → IsLeft names z w → w ≡ x
+pub left_is : (names : Names) (x z w : Place) → names ≡ x.names → KeepsHeld (entered_at x) z → IsOutsideAgain names z w → w ≡ x
 left_is names x z w same k left = left x.context.held (state_of x.context) k ∙ ap (λ ns. record { context = x.context; names = ns }) same
 
-pub after_is : (names : Names) (x z w : Place) (shown seen : List Lit) → names ≡ x.names → KeepsHeld (held_at x) z → seen ≡ shown → IsLeftWith names seen z w → w ≡ after_block shown x
+pub after_is : (names : Names) (x z w : Place) (shown seen : List Lit) → names ≡ x.names → KeepsHeld (entered_at x) z → seen ≡ shown → IsOutsideWith names seen z w → w ≡ after_block shown x
 after_is names x z w shown seen same k are left =
     left x.context.held (state_of x.context) k ∙ ap (λ ns. record (after_block seen x) { names = ns }) same ∙ ap (λ ls. after_block ls x) are
 
-pub good_after : (x z : Place) (shown seen : List Lit) → KeepsHeld (held_at x) z → seen ≡ shown → are_limited_facts x.context.scope (with_facts x.context.facts shown) ≡ true → CanJoinLast seen z
+pub good_after : (x z : Place) (shown seen : List Lit) → KeepsHeld (entered_at x) z → seen ≡ shown → are_limited_facts x.context.scope (with_facts x.context.facts shown) ≡ true → CanJoinLast seen z
 good_after x z shown seen k are h before last e =
     let same = same_from_push x.context.held before (state_of x.context) last (sym k ∙ e) in
     subst (λ (s : State). are_limited_facts s.scope (with_facts s.facts seen) ≡ true) same.1

@@ -23,9 +23,9 @@ use Rattle.e_deriv.specs.Fitting.{LitsFit, is_small}
 use Rattle.e_prove.specs.declared.step_stop.StepStop.{StepStop}
 use Rattle.e_prove.specs.declared.step_stop.StepStop.TheVariants as step_stop
 use Rattle.e_prove.specs.declared.place.Place.{Place}
-use Rattle.e_prove.specs.inner.StopsOfSteps.{StepStopsAt, UnlessNoMemory, StopOf, IsWithNumber}
+use Rattle.e_prove.specs.inner.StopsOfSteps.{StepStopsAt, UnlessNoMemory, IsStopOrNoMemory, IsStopOfAnswer}
 use Rattle.e_prove.specs.inner.LicensedSteps.{IsLicensedStep, IsStopOfStep, IsLicensedClose, IsStopOfClose, step_from_basis, steps_from_basis, fits_here}
-use Rattle.e_prove.specs.inner.PassedSteps.{IsReadyFor, IsDerivedFrom, KeepsHeld, Arrival, Stands, IsReachedIn, StopIn, ReachesWithin, ReachesStep, StopsWithin, IsPassed, StepStops}
+use Rattle.e_prove.specs.inner.PassedSteps.{IsReadyFor, IsDerivedFrom, KeepsHeld, Arrival, Stands, IsReachedIn, StopIn, ReachesWithin, ReachesStep, StopsWithin, IsPassed, StopsInStep}
 use Rattle.e_prove.proofs.StopsInLists.{reached_first, reached_after, stop_first, stops_by, stop_before, tests_again, fits_here_is_blind, scope_is_blind}
 
 -- ---- nothing licensed yet, and one thing after another
@@ -173,7 +173,7 @@ names_begin before ns (Contradiction against) = (_, refl)
 names_begin before ns (Cases lit first second) = (_, refl)
 
 -- licensing stops at the first step of a script
-pub stops_first : (before : List StatementView) (here : Script) (x : Place) (goal : Goal) (n : ℕ) (h : StepStop) (s : Stop) → StepStopsAt before (step_from_basis here here x.context goal) h → StopOf h n x.names s →
+pub stops_first : (before : List StatementView) (here : Script) (x : Place) (goal : Goal) (n : ℕ) (h : StepStop) (s : Stop) → StepStopsAt before (step_from_basis here here x.context goal) h → IsStopOrNoMemory h n x.names s →
     StopsWithin before here x goal n s
 stops_first before here x goal n h s k e =
     let a = lines_begin before here here x.context.scope x.context.facts goal in
@@ -209,20 +209,20 @@ stops_as_memory before here x goal n (Ok a) e = tt
 stops_as_memory before here x goal n (Err s) e = subst (StopsWithin before here x goal n) (sym e) (stops_for_memory before here x goal n)
 
 -- the same, where the names alone are given as those from before
-pub same_names : (h : StepStop) (n : ℕ) (x after : Place) (s : Stop) → UnlessNoMemory (after.names ≡ x.names) h → StopOf h n after.names s → StopOf h n x.names s
-same_names (step_stop.Lacks w v) n x after s k e = subst (λ ns. StopOf (step_stop.Lacks w v) n ns s) k e
-same_names (step_stop.TooWide w v) n x after s k e = subst (λ ns. StopOf (step_stop.TooWide w v) n ns s) k e
+pub same_names : (h : StepStop) (n : ℕ) (x after : Place) (s : Stop) → UnlessNoMemory (after.names ≡ x.names) h → IsStopOrNoMemory h n after.names s → IsStopOrNoMemory h n x.names s
+same_names (step_stop.Lacks w v) n x after s k e = subst (λ ns. IsStopOrNoMemory (step_stop.Lacks w v) n ns s) k e
+same_names (step_stop.TooWide w v) n x after s k e = subst (λ ns. IsStopOrNoMemory (step_stop.TooWide w v) n ns s) k e
 same_names step_stop.NoMemory n x after s k e = no_names s e
   where
-    no_names : (s : Stop) → StopOf step_stop.NoMemory n after.names s → StopOf step_stop.NoMemory n x.names s
+    no_names : (s : Stop) → IsStopOrNoMemory step_stop.NoMemory n after.names s → IsStopOrNoMemory step_stop.NoMemory n x.names s
     no_names (stop.Unlicensed a b c d) e = e
     no_names (stop.TooWide a b c d) e = e
     no_names stop.NoMemory e = e
 
 -- after a stop that is not out of memory the names are those from before
-pub names_kept : (h : StepStop) (n : ℕ) (x after : Place) (s : Stop) → UnlessNoMemory (after ≡ x) h → StopOf h n after.names s → StopOf h n x.names s
-names_kept (step_stop.Lacks w v) n x after s k e = subst (λ y. StopOf (step_stop.Lacks w v) n y.names s) k e
-names_kept (step_stop.TooWide w v) n x after s k e = subst (λ y. StopOf (step_stop.TooWide w v) n y.names s) k e
+pub names_kept : (h : StepStop) (n : ℕ) (x after : Place) (s : Stop) → UnlessNoMemory (after ≡ x) h → IsStopOrNoMemory h n after.names s → IsStopOrNoMemory h n x.names s
+names_kept (step_stop.Lacks w v) n x after s k e = subst (λ y. IsStopOrNoMemory (step_stop.Lacks w v) n y.names s) k e
+names_kept (step_stop.TooWide w v) n x after s k e = subst (λ y. IsStopOrNoMemory (step_stop.TooWide w v) n y.names s) k e
 names_kept step_stop.NoMemory n x after (stop.Unlicensed a b c d) k e = absurd (not_that a b c d e)
   where
     not_that : (a : _) (b : _) (c : _) (d : _) → stop.Unlicensed a b c d ≡ stop.NoMemory → ⊥
@@ -243,7 +243,7 @@ numbered_passed before step x after n m answered (Ok d) one j e f =
     (passed_of_licensed before step d x after n one (subst (λ q. IfOk q (λ d. IsLicensedStep before step x d after)) e j))
 
 pub numbered_stops : (before : List StatementView) (step : Step) (x after : Place) (n : ℕ) (answered : Result Step StepStop) (r : Result Step Stop) → IfErr answered (IsStopOfStep before step x) →
-    IfErr answered (UnlessNoMemory (after ≡ x)) → IfErr r (IsWithNumber answered n after.names) → IfErr r (StepStops before step x n)
+    IfErr answered (UnlessNoMemory (after ≡ x)) → IfErr r (IsStopOfAnswer answered n after.names) → IfErr r (StopsInStep before step x n)
 numbered_stops before step x after n answered (Ok p) k m e = tt
 numbered_stops before step x after n (Ok d) (Err (stop.Unlicensed a b c f)) k m e = absurd e
 numbered_stops before step x after n (Ok d) (Err (stop.TooWide a b c f)) k m e = absurd e
@@ -255,9 +255,9 @@ numbered_stops before step x after n (Err h) (Err s) k m e =
     )
 
 -- out of memory stops any step
-pub step_stops_as_memory : (before : List StatementView) (step : Step) (x : Place) (n : ℕ) {A : Type 0} (r : Result A Stop) → IfErr r (λ s. s ≡ stop.NoMemory) → IfErr r (StepStops before step x n)
+pub step_stops_as_memory : (before : List StatementView) (step : Step) (x : Place) (n : ℕ) {A : Type 0} (r : Result A Stop) → IfErr r (λ s. s ≡ stop.NoMemory) → IfErr r (StopsInStep before step x n)
 step_stops_as_memory before step x n (Ok a) e = tt
-step_stops_as_memory before step x n (Err s) e = subst (StepStops before step x n) (sym e) (λ rest goal r. (stops_for_memory before (step_script step rest) x goal n, tt))
+step_stops_as_memory before step x n (Err s) e = subst (StopsInStep before step x n) (sym e) (λ rest goal r. (stops_for_memory before (step_script step rest) x goal n, tt))
 
 -- and of a close that has no block inside
 pub numbered_closed : (before : List StatementView) (close : Close) (x : Place) (goal : Goal) (answered : Result Close StepStop) (r : Result Close Stop) → IfOk answered (λ d. IsLicensedClose before close x.context goal d) →
@@ -268,7 +268,7 @@ numbered_closed before close x goal answered (Ok p) j e =
     record { licensed = c.licensed; certified = c.certified; erased = c.erased; written = c.written }
 
 pub numbered_close_stops : (before : List StatementView) (close : Close) (x : Place) (goal : Goal) (n : ℕ) (answered : Result Close StepStop) (r : Result Close Stop) → IfErr answered (IsStopOfClose before close x.context goal) →
-    IfErr r (IsWithNumber answered n x.names) → IfErr r (StopsWithin before (close_script close) x goal n)
+    IfErr r (IsStopOfAnswer answered n x.names) → IfErr r (StopsWithin before (close_script close) x goal n)
 numbered_close_stops before close x goal n answered (Ok p) k e = tt
 numbered_close_stops before close x goal n (Ok d) (Err (stop.Unlicensed a b c f)) k e = absurd e
 numbered_close_stops before close x goal n (Ok d) (Err (stop.TooWide a b c f)) k e = absurd e

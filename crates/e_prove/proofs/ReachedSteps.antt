@@ -22,7 +22,7 @@ use Rattle.e_prove.specs.declared.step_stop.StepStop.{StepStop}
 use Rattle.e_prove.specs.declared.step_stop.StepStop.TheVariants as step_stop
 use Rattle.e_prove.specs.inner.StopsOfSteps.{UnlessNoMemory}
 use Rattle.e_prove.specs.inner.NextPlaces.{after_literal, after_superposed}
-use Rattle.e_prove.specs.inner.PassedSteps.{IsReadyFor, IsReadyStep, Stands, ReachesStep, ReachesInStep, IsFirstPassed, IsPassed, StopsWithin, StepStops}
+use Rattle.e_prove.specs.inner.PassedSteps.{IsReadyFor, IsReadyStep, Stands, ReachesStep, ReachesInStep, IsFirstPassed, IsPassed, StopsWithin, StopsInStep}
 use Rattle.e_prove.proofs.StopsInLists.{before_more}
 use Rattle.e_prove.proofs.PassedSteps.{reaches_first}
 use Rattle.e_prove.proofs.InnerBlocks.{ClaimReady, claim_size, claim_reaches, SuperposedReady, Certifies, superposed_size, superposed_reaches, SplitReady, split_reaches_first, split_reaches_second, split_second}
@@ -107,7 +107,7 @@ pub step_ends : (before : List StatementView) (s d : Step) (y z : Place) (n m li
 step_ends before s d y z n m lines rest many p = let count = p.number rest in omega (arith, count, many)
 
 -- a stop in it is before that one
-pub step_stops_before : (before : List StatementView) (s : Step) (y : Place) (n lines target : ℕ) (t : Stop) (ready : IsReadyStep before s y n) → size (step_script s ready.rest) ≡ lines + size ready.rest → n + lines ≤ target → StepStops before s y n t →
+pub step_stops_before : (before : List StatementView) (s : Step) (y : Place) (n lines target : ℕ) (t : Stop) (ready : IsReadyStep before s y n) → size (step_script s ready.rest) ≡ lines + size ready.rest → n + lines ≤ target → StopsInStep before s y n t →
     IsStopBefore target t
 step_stops_before before s y n lines target t ready many le k =
     before_more (n + size (step_script s ready.rest) - size ready.rest) target t (omega (arith, many, le)) (k ready.rest ready.goal ready.ready).1

@@ -18,9 +18,9 @@ use Rattle.e_deriv.specs.Goal.{goal_of}
 use Rattle.e_deriv.proofs.Scripts.{step_script-Claim, step_script-Superposed}
 use Rattle.e_prove.specs.declared.step_stop.StepStop.{StepStop}
 use Rattle.e_prove.specs.declared.place.Place.{Place}
-use Rattle.e_prove.specs.inner.NextPlaces.{after_block, after_superposed, held_at, IsLeftWith}
-use Rattle.e_prove.specs.inner.StopsOfSteps.{StepStopsAmong, UnlessNoMemory, StopOf}
-use Rattle.e_prove.specs.inner.PassedSteps.{IsReadyFor, AreReadySteps, IsDerivedFrom, KeepsHeld, StopsWithin, IsPassed, StepsStop}
+use Rattle.e_prove.specs.inner.NextPlaces.{after_block, after_superposed, entered_at, IsOutsideWith}
+use Rattle.e_prove.specs.inner.StopsOfSteps.{StepStopsAmong, UnlessNoMemory, IsStopOrNoMemory}
+use Rattle.e_prove.specs.inner.PassedSteps.{IsReadyFor, AreReadySteps, IsDerivedFrom, KeepsHeld, StopsWithin, IsPassed, StopsInSteps}
 use Rattle.e_prove.specs.Stops.{IsStopBefore}
 use Rattle.e_prove.proofs.HeldStates.{after_is}
 use Rattle.e_prove.proofs.PassedSteps.{passed_as, stops_first, same_names}
@@ -46,7 +46,7 @@ pub all_passed_as : (before : List StatementView) (f g : Script → Script) (x y
 all_passed_as before f g x y n m (Ok s) e a = passed_as before f (step_script s) g (step_script s) x y n m (λ d. sym (e d)) (same_script s) a
 all_passed_as before f g x y n m (Err t) e a = tt
 
-pub all_stopped_as : (before : List StatementView) (f g : Script → Script) (x : Place) (n : ℕ) (r : Result Step Stop) → ((d : Script) → g d ≡ f d) → IfErr r (StepsStop before f x n) → IfErr r (StepsStop before g x n)
+pub all_stopped_as : (before : List StatementView) (f g : Script → Script) (x : Place) (n : ℕ) (r : Result Step Stop) → ((d : Script) → g d ≡ f d) → IfErr r (StopsInSteps before f x n) → IfErr r (StopsInSteps before g x n)
 all_stopped_as before f g x n (Ok p) e h = tt
 all_stopped_as before f g x n (Err t) e h = λ rest goal r.
     let k = h rest goal (subst (λ d. IsReadyFor before d x goal) (e rest) r) in
@@ -78,8 +78,8 @@ pub claim_ends : (before : List StatementView) (shown : List Lit) (inner derived
 claim_ends before shown inner derived x n d r = block_facts before r.rest (after_block shown x) r.goal (claim_rest before shown inner derived r.rest x r.goal d r.ready)
 
 pub claim_is_passed : (before : List StatementView) (shown : List Lit) (inner : Script) (x z after : Place) (n m : ℕ) (o : Names) (proved : Block) (r : Result Step Stop) → ClaimReady before shown inner x
-    → IsDerivedFrom before inner x (goal_of shown) (script_of proved) → m ≡ n + 1 + size inner → o ≡ x.names → KeepsHeld (held_at x) z → IfOk r (λ d. (rest : Script) → step_script d rest ≡ Claim shown (script_of proved) rest)
-    → OnOk r (IsLeftWith o shown z after) → IfOk r (λ d. IsPassed before (Claim shown inner) x n (step_script d) after m)
+    → IsDerivedFrom before inner x (goal_of shown) (script_of proved) → m ≡ n + 1 + size inner → o ≡ x.names → KeepsHeld (entered_at x) z → IfOk r (λ d. (rest : Script) → step_script d rest ≡ Claim shown (script_of proved) rest)
+    → OnOk r (IsOutsideWith o shown z after) → IfOk r (λ d. IsPassed before (Claim shown inner) x n (step_script d) after m)
 claim_is_passed before shown inner x z after n m o proved (Err t) ready d count e k a c = tt
 claim_is_passed before shown inner x z after n m o proved (Ok p) ready d count e k a c =
     let D = script_of proved in
@@ -87,7 +87,7 @@ claim_is_passed before shown inner x z after n m o proved (Ok p) ready d count e
     let here = subst (λ w. IsPassed before (Claim shown inner) x n (Claim shown D) w m) (sym (after_is o x z after shown shown e k refl c)) base in
     passed_as before (Claim shown inner) (Claim shown D) (Claim shown inner) (step_script p) x after n m (λ w. refl) (λ w. sym (a w)) here
 
-pub claim_is_stopped : (before : List StatementView) (shown : List Lit) (inner : Script) (x : Place) (n : ℕ) (t : Stop) → ClaimReady before shown inner x → StopsWithin before inner x (goal_of shown) (n + 1) t → StepsStop before (Claim shown inner) x n t
+pub claim_is_stopped : (before : List StatementView) (shown : List Lit) (inner : Script) (x : Place) (n : ℕ) (t : Stop) → ClaimReady before shown inner x → StopsWithin before inner x (goal_of shown) (n + 1) t → StopsInSteps before (Claim shown inner) x n t
 claim_is_stopped before shown inner x n t ready k rest goal r =
     let count = claim_size shown inner rest in (
       claim_stops before shown inner rest x goal n t ready.over k,
@@ -116,8 +116,8 @@ superposed_ends before superposition names shown certs inner derived x n d r =
     block_facts before r.rest (after_block shown x) r.goal (superposed_rest before superposition names shown certs inner derived r.rest x r.goal d r.ready)
 
 pub superposed_is_passed : (before : List StatementView) (superposition : Superpose) (names : List (List ℕ)) (shown : List Lit) (certs : List Cert) (inner : Script) (x z after : Place) (n m : ℕ) (o : Names) (proved : Block) (r : Result Step Stop)
-    → SuperposedReady before superposition names shown inner x → Certifies superposition x certs → IsDerivedFrom before inner (after_superposed superposition names x) (goal_of shown) (script_of proved) → m ≡ n + 1 + size inner → o ≡ x.names → KeepsHeld (held_at x) z
-    → IfOk r (λ d. (rest : Script) → step_script d rest ≡ Superposed superposition names shown certs (script_of proved) rest) → OnOk r (IsLeftWith o shown z after)
+    → SuperposedReady before superposition names shown inner x → Certifies superposition x certs → IsDerivedFrom before inner (after_superposed superposition names x) (goal_of shown) (script_of proved) → m ≡ n + 1 + size inner → o ≡ x.names → KeepsHeld (entered_at x) z
+    → IfOk r (λ d. (rest : Script) → step_script d rest ≡ Superposed superposition names shown certs (script_of proved) rest) → OnOk r (IsOutsideWith o shown z after)
     → IfOk r (λ d. (written : List Cert) → IsPassed before (Superposed superposition names shown written inner) x n (step_script d) after m)
 superposed_is_passed before superposition names shown certs inner x z after n m o proved (Err t) ready cs d count e k a c = tt
 superposed_is_passed before superposition names shown certs inner x z after n m o proved (Ok p) ready cs d count e k a c = λ written.
@@ -127,7 +127,7 @@ superposed_is_passed before superposition names shown certs inner x z after n m 
     passed_as before (Superposed superposition names shown written inner) (Superposed superposition names shown certs D) (Superposed superposition names shown written inner) (step_script p) x after n m (λ w. refl) (λ w. sym (a w)) here
 
 pub superposed_is_stopped : (before : List StatementView) (superposition : Superpose) (names : List (List ℕ)) (shown : List Lit) (certs : List Cert) (inner : Script) (x : Place) (n : ℕ) (t : Stop) → SuperposedReady before superposition names shown inner x → Certifies superposition x certs
-    → StopsWithin before inner (after_superposed superposition names x) (goal_of shown) (n + 1) t → (written : List Cert) → StepsStop before (Superposed superposition names shown written inner) x n t
+    → StopsWithin before inner (after_superposed superposition names x) (goal_of shown) (n + 1) t → (written : List Cert) → StopsInSteps before (Superposed superposition names shown written inner) x n t
 superposed_is_stopped before superposition names shown certs inner x n t ready cs k written rest goal r =
     let count = superposed_size superposition names shown written inner rest in (
       superposed_stops before superposition names shown written certs inner rest x goal n t ready.fits ready.over cs k,
@@ -135,7 +135,7 @@ superposed_is_stopped before superposition names shown certs inner x n t ready c
     )
 
 pub superposed_is_refused : (before : List StatementView) (superposition : Superpose) (names : List (List ℕ)) (shown : List Lit) (inner : Script) (x after : Place) (n : ℕ) (h : StepStop) (t : Stop) → StepStopsAmong x.context (superposing.needs_of_superposition superposition) h
-    → UnlessNoMemory (after.names ≡ x.names) h → StopOf h n after.names t → (written : List Cert) → StepsStop before (Superposed superposition names shown written inner) x n t
+    → UnlessNoMemory (after.names ≡ x.names) h → IsStopOrNoMemory h n after.names t → (written : List Cert) → StopsInSteps before (Superposed superposition names shown written inner) x n t
 superposed_is_refused before superposition names shown inner x after n h t k m e written rest goal r =
     let here = Superposed superposition names shown written inner rest in
     let count = superposed_size superposition names shown written inner rest in (

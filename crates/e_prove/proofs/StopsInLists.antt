@@ -28,7 +28,7 @@ use Rattle.e_deriv.proofs.Stops.{lines_length}
 use Rattle.e_prove.specs.declared.place.Place.{Place}
 use Rattle.e_prove.specs.declared.step_stop.StepStop.{StepStop}
 use Rattle.e_prove.specs.declared.step_stop.StepStop.TheVariants as step_stop
-use Rattle.e_prove.specs.inner.StopsOfSteps.{StepStopsAt, StopOf, stop_of}
+use Rattle.e_prove.specs.inner.StopsOfSteps.{StepStopsAt, IsStopOrNoMemory, stop_of}
 use Rattle.e_prove.specs.inner.LicensedSteps.{fits_here}
 use Rattle.e_prove.specs.Stops.{IsStopBefore}
 use Rattle.e_prove.specs.inner.PassedSteps.{Arrival, Halts, ArrivesAt, IsReachedIn, StopIn, ReachesWithin, StopsWithin}
@@ -103,7 +103,7 @@ stop_at_first before x xs m ns first (step_stop.Lacks wanted values) k = reached
 stop_at_first before x xs m ns first (step_stop.TooWide wanted width) k = reached_first before x xs m ns first (Halts (step_stop.TooWide wanted width)) k
 stop_at_first before x xs m ns first step_stop.NoMemory k = tt
 
-pub stop_first : (before : List StatementView) (x : PlacedStep) (xs : List PlacedStep) (m : Names) (ns : List Names) (first : ℕ) (h : StepStop) (s : Stop) → StepStopsAt before x h → StopOf h first m s → StopIn before (x ∷ xs) (m ∷ ns) first s
+pub stop_first : (before : List StatementView) (x : PlacedStep) (xs : List PlacedStep) (m : Names) (ns : List Names) (first : ℕ) (h : StepStop) (s : Stop) → StepStopsAt before x h → IsStopOrNoMemory h first m s → StopIn before (x ∷ xs) (m ∷ ns) first s
 stop_first before x xs m ns first h (stop.Unlicensed n wanted values names) k e = subst (StopIn before (x ∷ xs) (m ∷ ns) first) (sym e) (stop_at_first before x xs m ns first h k)
 stop_first before x xs m ns first h (stop.TooWide n wanted width names) k e = subst (StopIn before (x ∷ xs) (m ∷ ns) first) (sym e) (stop_at_first before x xs m ns first h k)
 stop_first before x xs m ns first h stop.NoMemory k e = tt
@@ -145,7 +145,7 @@ stop_of_before (step_stop.TooWide wanted width) n m names less = less
 stop_of_before step_stop.NoMemory n m names less = tt
 
 -- a stop at a step is before the next one
-pub stop_before : (h : StepStop) (n m : ℕ) (names : Names) (s : Stop) → n < m → StopOf h n names s → IsStopBefore m s
+pub stop_before : (h : StepStop) (n m : ℕ) (names : Names) (s : Stop) → n < m → IsStopOrNoMemory h n names s → IsStopBefore m s
 stop_before h n m names (stop.Unlicensed a b c d) less e = subst (IsStopBefore m) (sym e) (stop_of_before h n m names less)
 stop_before h n m names (stop.TooWide a b c d) less e = subst (IsStopBefore m) (sym e) (stop_of_before h n m names less)
 stop_before h n m names stop.NoMemory less e = tt

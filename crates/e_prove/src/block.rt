@@ -7,14 +7,14 @@ ghost use Rattle.e_deriv.specs.Script.{step_script, close_script, size};
 ghost use Rattle.e_deriv.specs.Goal.{goal_view};
 ghost use Rattle.e_prove.specs.inner.PassedSteps.{AreReadySteps, IsReadyFor, IsReadyStep};
 ghost use Rattle.e_prove.specs.inner.PassedSteps.{IsDerivedFrom, IsPassed, KeepsHeld};
-ghost use Rattle.e_prove.specs.inner.PassedSteps.{StepsStop, StepStops, StopsWithin};
+ghost use Rattle.e_prove.specs.inner.PassedSteps.{StopsInSteps, StopsInStep, StopsWithin};
 
 use crate::application::{Application, apply};
 use crate::close::{contradiction, qed};
 use crate::inner::{SuperposedParts, end_claim, end_superposition};
 use crate::place::Place;
 use crate::step::{cite, hence, make, superpose};
-use crate::step_stop::{stop_at, with_number};
+use crate::step_stop::{count_or_stop, stop_at};
 use e_deriv::{Block, Close, Goal, Step, Stop, cases};
 use e_literal::Lit;
 use e_theorem::Statement;
@@ -73,16 +73,16 @@ pub fn prove_step(
     requires { IsReadyStep (all_stated before.now) step.now state.old number.old }
     ensures ok { IfOk result (λ d. IsPassed (all_stated before.now) (step_script step.now) state.old
         number.old (step_script d) state.new number.new) }
-    ensures err { IfErr result (StepStops (all_stated before.now) step.now state.old number.old) }
+    ensures err { IfErr result (StopsInStep (all_stated before.now) step.now state.old number.old) }
 {
     match step {
         Step::Cite(by) => {
             let answered = cite(alloc, by, state);
-            with_number(alloc, answered, state, number)
+            count_or_stop(alloc, answered, state, number)
         }
         Step::Hence { lit, .. } => {
             let answered = hence(alloc, lit, state);
-            with_number(alloc, answered, state, number)
+            count_or_stop(alloc, answered, state, number)
         }
         Step::Make {
             construction,
@@ -90,7 +90,7 @@ pub fn prove_step(
             ..
         } => {
             let answered = make(alloc, construction, names.items(), state);
-            with_number(alloc, answered, state, number)
+            count_or_stop(alloc, answered, state, number)
         }
         Step::Apply {
             theorem,
@@ -105,7 +105,7 @@ pub fn prove_step(
                 names: names.items(),
             };
             let answered = apply(alloc, &application, statement, state);
-            with_number(alloc, answered, state, number)
+            count_or_stop(alloc, answered, state, number)
         }
         Step::Claim { shown, inner } => {
             prove_claim(alloc, before, shown.items(), inner, state, number)
@@ -142,10 +142,10 @@ fn prove_claim(
     ensures ok { IfOk result
         (λ d. IsPassed (all_stated before.now) (Claim shown.now (script_of inner.now)) state.old
         number.old (step_script d) state.new number.new) }
-    ensures err { IfErr result (StepsStop (all_stated before.now)
+    ensures err { IfErr result (StopsInSteps (all_stated before.now)
         (Claim shown.now (script_of inner.now)) state.old number.old) }
 {
-    let outer = state.hold(alloc)?;
+    let outer = state.enter_block(alloc)?;
     *number += 1;
     let goal = Goal { made: &[], shown };
     match prove_block(alloc, before, inner, &goal, state, number) {
@@ -174,7 +174,7 @@ fn prove_superposed(
         → IsPassed (all_stated before.now) (Superposed parts.now.superposition.now
         parts.now.names.now parts.now.shown.now certs (script_of inner.now))
         state.old number.old (step_script d) state.new number.new) }
-    ensures err { IfErr result (λ s. (certs : List Certificate) → StepsStop
+    ensures err { IfErr result (λ s. (certs : List Certificate) → StopsInSteps
         (all_stated before.now) (Superposed parts.now.superposition.now parts.now.names.now
         parts.now.shown.now certs (script_of inner.now)) state.old number.old s) }
 {
@@ -183,7 +183,7 @@ fn prove_superposed(
         names,
         shown,
     } = *parts;
-    let outer = state.hold(alloc)?;
+    let outer = state.enter_block(alloc)?;
     let certs = match superpose(alloc, superposition, names, state) {
         Ok(certs) => certs,
         Err(step_stop) => {
@@ -226,14 +226,14 @@ fn prove_close(
     match close {
         Close::Qed { objects, .. } => {
             let answered = qed(alloc, objects.items(), goal, &mut state.context);
-            with_number(alloc, answered, state, number)
+            count_or_stop(alloc, answered, state, number)
         }
         Close::Contradiction { .. } => {
             let answered = contradiction(alloc, &mut state.context);
-            with_number(alloc, answered, state, number)
+            count_or_stop(alloc, answered, state, number)
         }
         Close::Cases { lit, first, second } => {
-            let outer = state.hold(alloc)?;
+            let outer = state.enter_block(alloc)?;
             state.assume(alloc, lit)?;
             *number += 1;
             let one = match prove_block(alloc, before, first, goal, state, number) {
@@ -243,7 +243,7 @@ fn prove_close(
                     return Err(stop);
                 }
             };
-            state.release(outer);
+            state.leave_block(outer);
             match state.assume_not(alloc, lit) {
                 Ok(()) => {}
                 Err(_) => {

@@ -3,7 +3,7 @@ ghost use Rattle.std.specs.Prelude.{◌≡◌, ◌<◌, List, length, IfOk, IfEr
 ghost use Rattle.e_deriv.specs.Script.{Script, Claim, Superposed};
 ghost use Rattle.e_deriv.specs.Script.{script_of, step_script};
 ghost use Rattle.e_deriv.specs.declared.stop.Stop.TheVariants.{NoMemory};
-ghost use Rattle.e_prove.specs.inner.NextPlaces.{CanJoinLast, IsLeftWith};
+ghost use Rattle.e_prove.specs.inner.NextPlaces.{CanJoinLast, IsOutsideWith};
 
 use crate::place::Place;
 use e_clause::Cert;
@@ -35,10 +35,10 @@ pub fn end_claim(
     requires good { CanJoinLast shown.now state.old }
     ensures step { IfOk result
         (λ d. (rest : Script) → step_script d rest ≡ Claim shown.now (script_of proved) rest) }
-    ensures after { OnOk result (IsLeftWith outer shown.now state.old state.new) }
+    ensures after { OnOk result (IsOutsideWith outer shown.now state.old state.new) }
     ensures err { IfErr result (λ s. s ≡ NoMemory) }
 {
-    match state.release_with(alloc, outer, shown) {
+    match state.leave_block_with(alloc, outer, shown) {
         Ok(()) => {
             let step = claim(alloc, shown, proved)?;
             Ok(step)
@@ -65,7 +65,7 @@ pub fn end_superposition(
     ensures step { IfOk result (λ d. (rest : Script) → step_script d rest
         ≡ Superposed parts.now.superposition.now parts.now.names.now parts.now.shown.now certs.items
         (script_of proved) rest) }
-    ensures after { OnOk result (IsLeftWith outer parts.now.shown.now state.old state.new) }
+    ensures after { OnOk result (IsOutsideWith outer parts.now.shown.now state.old state.new) }
     ensures err { IfErr result (λ s. s ≡ NoMemory) }
 {
     let SuperposedParts {
@@ -74,7 +74,7 @@ pub fn end_superposition(
         shown,
     } = *parts;
     let certs = Items::new(certs);
-    match state.release_with(alloc, outer, shown) {
+    match state.leave_block_with(alloc, outer, shown) {
         Ok(()) => {
             let step = superpose(alloc, superposition, names, shown, certs, proved)?;
             Ok(step)

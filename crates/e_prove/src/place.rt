@@ -8,7 +8,7 @@ ghost use Rattle.e_clause.specs.LimitedFacts.{are_limited_facts};
 ghost use Rattle.e_theorem.specs.Statements.{stated};
 ghost use Rattle.e_deriv.specs.Goal.{facts_of_statement};
 ghost use Rattle.e_deriv.specs.Naming.{named};
-ghost use Rattle.e_prove.specs.inner.NextPlaces.{start_with_names, held_at, IsLeft, IsLeftWith};
+ghost use Rattle.e_prove.specs.inner.NextPlaces.{start_with_names, entered_at, IsOutsideAgain, IsOutsideWith};
 ghost use Rattle.e_prove.specs.inner.NextPlaces.{CanJoinLast, HasRoomForMore};
 ghost use Rattle.e_prove.specs.inner.NextPlaces.{after_literal, after_make, after_superposed};
 
@@ -65,11 +65,11 @@ impl Place {
 
     /// A block inside begins: the present state is kept as the innermost one outside of the open
     /// blocks, and the names are handed out, which
-    /// [`Place::release`] takes back. The linear systems of the facts are solved before, since
+    /// [`Place::leave_block`] takes back. The linear systems of the facts are solved before, since
     /// each block inside would have to solve them anew.
-    pub(crate) fn hold(&mut self, alloc: Global) -> Result<Names, AllocError>
+    pub(crate) fn enter_block(&mut self, alloc: Global) -> Result<Names, AllocError>
         ensures names { IfOk result (λ names. names ≡ self.old.names) }
-        ensures held { OnOk result (self.new ≡ held_at self.old) }
+        ensures held { OnOk result (self.new ≡ entered_at self.old) }
     {
         self.context.solve(alloc)?;
         self.context.hold()?;
@@ -78,16 +78,16 @@ impl Place {
     }
 
     /// The block inside ends: its objects, facts and names are gone.
-    pub(crate) fn release(&mut self, names: Names)
+    pub(crate) fn leave_block(&mut self, names: Names)
         requires { 0 < length self.old.context.held }
-        ensures { IsLeft names self.old self.new }
+        ensures { IsOutsideAgain names self.old self.new }
     {
         self.context.release();
         self.names = names;
     }
 
     /// The block inside ends, and what it shows are facts.
-    pub(crate) fn release_with(
+    pub(crate) fn leave_block_with(
         &mut self,
         alloc: Global,
         names: Names,
@@ -95,9 +95,9 @@ impl Place {
     ) -> Result<(), AllocError>
         requires held { 0 < length self.old.context.held }
         requires good { CanJoinLast shown.now self.old }
-        ensures { OnOk result (IsLeftWith names shown.now self.old self.new) }
+        ensures { OnOk result (IsOutsideWith names shown.now self.old self.new) }
     {
-        self.release(names);
+        self.leave_block(names);
         join_copies(alloc, &mut self.context, shown)
     }
 

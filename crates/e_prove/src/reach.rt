@@ -11,7 +11,7 @@ ghost use Rattle.e_deriv.specs.Goal.{goal_view};
 ghost use Rattle.e_prove.specs.inner.NextPlaces.{after_literal};
 ghost use Rattle.e_prove.specs.inner.PassedSteps.{IsReadyFor, IsDerivedFrom, IsReadyStep};
 ghost use Rattle.e_prove.specs.inner.PassedSteps.{KeepsHeld, ReachesStep, ReachesInStep};
-ghost use Rattle.e_prove.specs.inner.PassedSteps.{IsFirstPassed, StopsWithin, StepStops};
+ghost use Rattle.e_prove.specs.inner.PassedSteps.{IsFirstPassed, StopsWithin, StopsInStep};
 
 use crate::block::{prove_block, prove_step};
 use crate::place::Place;
@@ -24,7 +24,7 @@ use std::alloc::Global;
 use std::mem;
 
 /// How many steps it is: itself, and those of the block inside it, closes too.
-fn lines_of(step: &Step) -> u32
+fn step_count(step: &Step) -> u32
     requires { (rest : Script)
         → script_size (step_script step.now rest) < 2 ^ 32 + script_size rest }
     ensures { (rest : Script)
@@ -67,7 +67,7 @@ pub fn reach(
         if number == target {
             return Ok(());
         }
-        let lines = lines_of(step);
+        let lines = step_count(step);
         let next = number + lines;
         if target < next {
             return enter_step(alloc, before, step, state, number, target);
@@ -100,7 +100,7 @@ fn enter_step(
     ensures reached { OnOk result
         (ReachesInStep (all_stated before.now) step.now state.old number target state.new) }
     ensures kept { OnOk result (KeepsHeld state.old state.new) }
-    ensures err { IfErr result (StepStops (all_stated before.now) step.now state.old number) }
+    ensures err { IfErr result (StopsInStep (all_stated before.now) step.now state.old number) }
     ensures earlier { IfErr result (IsStopBefore target) }
 {
     match step {
@@ -167,7 +167,7 @@ fn enter_close(
                 state.assume(alloc, lit)?;
                 return reach(alloc, before, first, goal, state, number + 1, target);
             }
-            match pass_first(alloc, before, lit, first, goal, state, number + 1) {
+            match pass_first_case(alloc, before, lit, first, goal, state, number + 1) {
                 Ok(()) => reach(alloc, before, second, goal, state, middle, target),
                 Err(stop) => Err(stop),
             }
@@ -177,7 +177,7 @@ fn enter_close(
 
 /// Licenses the first block of a split, and begins the second: the negation of the literal is a
 /// fact.
-fn pass_first(
+fn pass_first_case(
     alloc: Global,
     before: &[Statement],
     lit: &Lit,
@@ -198,7 +198,7 @@ fn pass_first(
     ensures err { IfErr result (StopsWithin (all_stated before.now) (script_of block.now)
         (after_literal lit.now state.old) (goal_view goal.now) first) }
 {
-    let outer = state.hold(alloc)?;
+    let outer = state.enter_block(alloc)?;
     match state.assume(alloc, lit) {
         Ok(()) => {}
         Err(_) => {
@@ -214,7 +214,7 @@ fn pass_first(
             return Err(stop);
         }
     }
-    state.release(outer);
+    state.leave_block(outer);
     state.assume_not(alloc, lit)?;
     Ok(())
 }

@@ -1,7 +1,7 @@
 //! Why licensing stops at a step.
 ghost use Rattle.std.specs.Prelude.{◌≡◌, ◌+◌, ◌<◌, ◌^◌, IfOk, IfErr, OnOk, Ok};
 ghost use Rattle.e_prove.specs.declared.step_stop.StepStop.TheVariants.{NoMemory};
-ghost use Rattle.e_prove.specs.inner.StopsOfSteps.{stop_of, StopOf, IsWithNumber};
+ghost use Rattle.e_prove.specs.inner.StopsOfSteps.{stop_of, IsStopOrNoMemory, IsStopOfAnswer};
 
 use crate::place::Place;
 use e_deriv::{Names, Stop, Wanted};
@@ -41,7 +41,7 @@ impl<T: Drop> From<AllocFailed<T>> for StepStop {
 }
 
 /// The stop at the step with this number, where these names are in scope.
-pub fn stop(step: u32, step_stop: StepStop, names: Names) -> Stop
+pub fn stop_with_names(step: u32, step_stop: StepStop, names: Names) -> Stop
     ensures { result ≡ stop_of step_stop step names }
 {
     match step_stop {
@@ -63,10 +63,10 @@ pub fn stop(step: u32, step_stop: StepStop, names: Names) -> Stop
 
 /// The stop at the step with this number, where this is the state before it.
 pub fn stop_at(alloc: Global, step_stop: StepStop, state: &Place, number: u32) -> Stop
-    ensures { StopOf step_stop number state.now.names result }
+    ensures { IsStopOrNoMemory step_stop number state.now.names result }
 {
     match state.names.copy(alloc) {
-        Ok(names) => stop(number, step_stop, names),
+        Ok(names) => stop_with_names(number, step_stop, names),
         Err(_) => {
             mem::drop(step_stop);
             Stop::NoMemory
@@ -76,7 +76,7 @@ pub fn stop_at(alloc: Global, step_stop: StepStop, state: &Place, number: u32) -
 
 /// Where a step or close without a block inside was licensed, counts it and hands it out; else gives
 /// the stop, with the step's number and names.
-pub fn with_number<T>(
+pub fn count_or_stop<T>(
     alloc: Global,
     answered: Result<T, StepStop>,
     state: &Place,
@@ -85,7 +85,7 @@ pub fn with_number<T>(
     requires { number.old + 1 < 2 ^ 32 }
     ensures ok { IfOk result (λ x. answered ≡ Ok x) }
     ensures next { OnOk result (number.new ≡ number.old + 1) }
-    ensures err { IfErr result (IsWithNumber answered number.old state.now.names) }
+    ensures err { IfErr result (IsStopOfAnswer answered number.old state.now.names) }
 {
     match answered {
         Ok(licensed) => {

@@ -35,7 +35,7 @@ use Rattle.e_book.specs.Blocks.{made_in}
 use Rattle.e_names.specs.Superposes.{superpose_in}
 use Rattle.e_names.specs.Applies.{count_blanks, apply_in}
 use Rattle.e_names.specs.Scope.{scope_of_names, fresh, lit_in, lits_in, by_in, let_in, qed_in}
-use Rattle.e_line.specs.LineLimits.{few_monos}
+use Rattle.e_line.specs.LineLimits.{check_literal_limits}
 use Rattle.e_book.specs.LineLimits.{few_objects}
 use Rattle.e_book.specs.Steps.{with_declared, terms_after_raw, terms_after, with_step, with_terms, after_let, with_use, after_apply, inside_if_room, after_claim, after_superpose, after_cases, counted_from, after_inner_block, closed_inside, parser_after_close, after_close_line, after_given, after_show, after_proof, after_by, after_hence, after_qed, after_made, after_declare, after_line, step, begin, with_title, line_may_come, count_names}
 use Rattle.e_book.proofs.parsers.Answered.{passes, untaken}
@@ -63,7 +63,7 @@ by_step d s n = from d (within (d.lines + 1) most_steps limits.Steps) _ (λ few.
 
 by_terms : (d : TheoremParser) (raws : List RawLit) → Same d.names d.made (with_terms d raws)
 unfolding with_terms
-by_terms d raws = from d (few_monos raws) _ (λ few. from d (terms_after_raw d.terms raws) _ (λ n. (refl, refl)))
+by_terms d raws = from d (check_literal_limits raws) _ (λ few. from d (terms_after_raw d.terms raws) _ (λ n. (refl, refl)))
 
 by_block : (d : TheoremParser) (what : BlockKind) (n : ℕ) → Same d.names d.made (inside_if_room d what n)
 unfolding inside_if_room
@@ -107,7 +107,7 @@ by_given d raws =
     from d (with_front d.given (lits_in d.names raws)) _ (λ ls. from d (within (d.facts + length raws) most_facts limits.Facts) _ (λ few. by_terms (record d { given = ls; facts = d.facts + length raws; section = Giving }) raws))
 
 by_shown : (d : TheoremParser) (raws : List RawLit) → Same d.names d.made (after_show d raws)
-by_shown d raws = from d (with_front d.shown (lits_in d.names raws)) _ (λ ls. from d (few_monos raws) _ (λ few. (refl, refl)))
+by_shown d raws = from d (with_front d.shown (lits_in d.names raws)) _ (λ ls. from d (check_literal_limits raws) _ (λ few. (refl, refl)))
 
 by_citation : (d : TheoremParser) (r : List ℕ) (ns : List (List ℕ)) (l : RawLit) → Same d.names d.made (after_by d r ns l)
 by_citation d r ns l = from d (by_in d.in_scope r ns l) _ (λ b. by_step d (Cited b) 1)
@@ -130,7 +130,7 @@ by_qed d ns = from d (qed_in d.in_scope (made_in d.blocks d.made) ns) _ (λ obje
 
 by_claim : (d : TheoremParser) (raws : List RawLit) → Same d.names d.made (after_claim d raws)
 unfolding after_claim
-by_claim d raws = from d (lits_in d.in_scope raws) _ (λ ls. then d (inside_if_room d (kind.Claim ls) 0) _ (by_block d (kind.Claim ls) 0) (λ e. from e (few_monos raws) _ (λ few. (refl, refl))))
+by_claim d raws = from d (lits_in d.in_scope raws) _ (λ ls. then d (inside_if_room d (kind.Claim ls) 0) _ (by_block d (kind.Claim ls) 0) (λ e. from e (check_literal_limits raws) _ (λ few. (refl, refl))))
 
 by_superpose : (d : TheoremParser) (raw : RawSuperpose) → Same d.names d.made (after_superpose d raw)
 unfolding after_superpose
@@ -138,7 +138,7 @@ by_superpose d raw =
     from d (superpose_in d.in_scope raw) _ (λ p. from d (few_objects (named d.in_scope superposing.sorts_copied raw.new)) _
     (λ objects. then d (inside_if_room d (kind.Superpose p.0 raw.new p.1) (length (superposing.gives_of_superposition p.0 (scope_of_names d.in_scope)))) _
     (by_block d (kind.Superpose p.0 raw.new p.1) (length (superposing.gives_of_superposition p.0 (scope_of_names d.in_scope))))
-    (λ e. from e (few_monos raw.shown) _ (λ few. from e (terms_after e.terms (superposing.gives_of_superposition p.0 (scope_of_names d.in_scope))) _ (λ n. (refl, refl))))))
+    (λ e. from e (check_literal_limits raw.shown) _ (λ few. from e (terms_after e.terms (superposing.gives_of_superposition p.0 (scope_of_names d.in_scope))) _ (λ n. (refl, refl))))))
 
 by_split : (d : TheoremParser) (raw : RawLit) → Same d.names d.made (after_cases d raw)
 unfolding after_cases

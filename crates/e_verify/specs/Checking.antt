@@ -85,10 +85,10 @@ pub record AreVerified (before : List StatementView) (whole : Script → Script)
   pub kept : KeepsFirstFacts x after
 
 -- `e` is the verdict on the steps that `whole` puts before a rest, whatever the rest
-abbrev pub StepsReject : List StatementView → (Script → Script) → StepState → ℕ → Reject → Type 0
-StepsReject before whole x first e =
+abbrev pub RejectsInSteps : List StatementView → (Script → Script) → StepState → ℕ → Reject → Type 0
+RejectsInSteps before whole x first e =
     (rest : Script) (goal : Goal) → RejectIs (verdict_at before (whole rest) x goal first) e
 
 -- the same of one step
-abbrev pub StepRejects : List StatementView → Step → StepState → ℕ → Reject → Type 0
-StepRejects before step x first e = StepsReject before (step_script step) x first e
+abbrev pub RejectsInStep : List StatementView → Step → StepState → ℕ → Reject → Type 0
+RejectsInStep before step x first e = RejectsInSteps before (step_script step) x first e

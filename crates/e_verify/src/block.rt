@@ -8,15 +8,15 @@ ghost use Rattle.e_deriv.specs.Fitting.{is_small_statement};
 ghost use Rattle.e_deriv.specs.Script.{Claim, Superposed, script_of, step_script, close_script};
 ghost use Rattle.e_verify.specs.declared.reject.Reject.TheVariants.{Bad as IsBad};
 ghost use Rattle.e_verify.specs.Checking.{AreCheckable, IsCheckable, IsCheckableStep};
-ghost use Rattle.e_verify.specs.Checking.{AreVerified, KeepsFirstFacts, StepsReject};
-ghost use Rattle.e_verify.specs.Checking.{RejectIs, StepRejects, verdict_at};
+ghost use Rattle.e_verify.specs.Checking.{AreVerified, KeepsFirstFacts, RejectsInSteps};
+ghost use Rattle.e_verify.specs.Checking.{RejectIs, RejectsInStep, verdict_at};
 ghost use Rattle.e_deriv.specs.Goal.{goal_view};
 
 use crate::closes::{is_contradiction_certified, is_qed_certified};
 use crate::reject::Reject;
 use crate::scope::are_over;
 use crate::step_state::StepState;
-use crate::steps::{apply, cite, hence, make, superpose};
+use crate::steps::{check_apply, check_cite, check_hence, check_make, check_superpose};
 use e_clause::Cert;
 use e_construct::Superpose;
 use e_deriv::{Block, Close, Goal, Step};
@@ -64,16 +64,19 @@ fn verify_step(
     requires statements { IsTrue (list_all is_small_statement (all_stated before.now)) }
     ensures ok { IfOk result (λ next. AreVerified (all_stated before.now) (step_script step.now)
         state.old number state.new next) }
-    ensures err { IfErr result (StepRejects (all_stated before.now) step.now state.old number) }
+    ensures err { IfErr result (RejectsInStep (all_stated before.now) step.now state.old number) }
 {
     match step {
-        Step::Cite(by) => verdict_of(cite(alloc, by, state)?, number),
-        Step::Hence { lit, cert } => verdict_of(hence(alloc, lit, cert, state)?, number),
+        Step::Cite(by) => verdict_of(check_cite(alloc, by, state)?, number),
+        Step::Hence { lit, cert } => verdict_of(check_hence(alloc, lit, cert, state)?, number),
         Step::Make {
             construction,
             certs,
             ..
-        } => verdict_of(make(alloc, construction, certs.items(), state)?, number),
+        } => verdict_of(
+            check_make(alloc, construction, certs.items(), state)?,
+            number,
+        ),
         Step::Apply {
             theorem,
             args,
@@ -82,7 +85,7 @@ fn verify_step(
         } => {
             let args = args.items();
             verdict_of(
-                apply(alloc, before, *theorem, args, certs.items(), state)?,
+                check_apply(alloc, before, *theorem, args, certs.items(), state)?,
                 number,
             )
         }
@@ -121,7 +124,7 @@ fn verify_claim(
     requires statements { IsTrue (list_all is_small_statement (all_stated before.now)) }
     ensures ok { IfOk result (λ next. AreVerified (all_stated before.now)
         (Claim shown.now (script_of inner.now)) state.old number state.new next) }
-    ensures err { IfErr result (StepsReject (all_stated before.now)
+    ensures err { IfErr result (RejectsInSteps (all_stated before.now)
         (Claim shown.now (script_of inner.now)) state.old number) }
 {
     if !are_over(state.scope, shown) {
@@ -160,7 +163,7 @@ fn verify_superposed(
     ensures ok { IfOk result (λ next. (names : List (List ℕ)) → AreVerified (all_stated before.now)
         (Superposed parts.now.superposition.now names parts.now.shown.now
         parts.now.certs.now (script_of inner.now)) state.old number state.new next) }
-    ensures err { IfErr result (λ e. (names : List (List ℕ)) → StepsReject (all_stated before.now)
+    ensures err { IfErr result (λ e. (names : List (List ℕ)) → RejectsInSteps (all_stated before.now)
         (Superposed parts.now.superposition.now names parts.now.shown.now
         parts.now.certs.now (script_of inner.now)) state.old number e) }
 {
@@ -170,7 +173,7 @@ fn verify_superposed(
         certs,
     } = *parts;
     let outer = state.checkpoint();
-    if !superpose(alloc, superposition, shown, certs, state)? {
+    if !check_superpose(alloc, superposition, shown, certs, state)? {
         return Err(Reject::Bad { step: number });
     }
     let goal = Goal { made: &[], shown };

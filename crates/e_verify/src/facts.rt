@@ -118,11 +118,11 @@ impl Facts {
     pub(crate) fn are_apart(&self, a: u16, b: u16) -> bool
         ensures { result ≡ say_apart self.now a b }
     {
-        self.say_differ(a, b) || self.say_differ(b, a)
+        self.has_differ(a, b) || self.has_differ(b, a)
     }
 
     /// Whether the facts say that two points differ, in this order.
-    fn say_differ(&self, a: u16, b: u16) -> bool
+    fn has_differ(&self, a: u16, b: u16) -> bool
         ensures { result ≡ is_fact self.now (negation (are_equal_points a b)) }
     {
         let lit = differ(a, b);

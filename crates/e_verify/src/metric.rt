@@ -8,11 +8,11 @@ ghost use Rattle.e_literal.specs.WellFormed.{is_well_formed};
 ghost use Rattle.e_clause.specs.Sum.{says_differ};
 ghost use Rattle.e_clause.specs.MetricCertificate;
 ghost use Rattle.e_verify.specs.inner.Small.{is_small_row, is_short};
-ghost use Rattle.e_verify.specs.inner.Views.{row_view, comparison_view};
+ghost use Rattle.e_verify.specs.inner.Views.{row_view, lit_row_view};
 ghost use Rattle.e_clause.specs.Written.{is_writable_name, is_writable_sum, are_writable_sums};
 
 use crate::facts::Facts;
-use crate::rows::{Comparison, Row, RowScope, RowSense, fact_row, goal_row, row_at};
+use crate::rows::{LitRow, Row, RowScope, RowSense, fact_row, goal_row, row_at};
 use crate::sums::refutes;
 use e_clause::{RowName, Sums};
 use e_literal::Lit;
@@ -46,7 +46,7 @@ pub fn sums_refute<'a>(
             differs,
             above,
             below,
-        } => match row_not_zero(facts, wanted, differs) {
+        } => match differing_row(facts, wanted, differs) {
             Some(row) => both_refute(alloc, facts, wanted, row, above.rows(), below.rows()),
             None => Ok(false),
         },
@@ -58,7 +58,7 @@ fn both_refute<'a>(
     alloc: Global,
     facts: &'a Facts,
     wanted: Option<&'a Lit>,
-    row: Comparison<'a>,
+    row: LitRow<'a>,
     above: &'a [(i128, RowName)],
     below: &'a [(i128, RowName)],
 ) -> Result<bool, AllocError>
@@ -68,7 +68,7 @@ fn both_refute<'a>(
     requires above { IsTrue (is_writable_sum above.now) }
     requires below { IsTrue (is_writable_sum below.now) }
     ensures { IfOk result (λ b. b ≡ MetricCertificate.both_refute facts.now
-        (option_copied wanted.entry) (comparison_view row.entry) above.now below.now) }
+        (option_copied wanted.entry) (lit_row_view row.entry) above.now below.now) }
 {
     let row_scope = RowScope {
         facts,
@@ -89,43 +89,43 @@ fn both_refute<'a>(
 }
 
 /// The row that says that its form differs from 0, or none where the name may not be used here.
-fn row_not_zero<'a>(
+fn differing_row<'a>(
     facts: &'a Facts,
     wanted: Option<&'a Lit>,
     name: &'a RowName,
-) -> Option<Comparison<'a>>
+) -> Option<LitRow<'a>>
     requires facts { IsTrue (list_all is_well_formed facts.now) }
     requires wanted { IsTrue (option_map_or is_well_formed (option_copied wanted) true) }
     requires name { IsTrue (is_writable_name name.now) }
-    ensures row { option_map comparison_view result
+    ensures row { option_map lit_row_view result
         ≡ MetricCertificate.differing_row facts.now (option_copied wanted.entry) name.now }
     ensures small { IfSome result (λ c. IsTrue (is_short c)) }
 {
     match name {
-        RowName::Fact(lit) => if_not(fact_row(facts, lit)),
-        RowName::Goal => if_not(goal_row(wanted)),
-        RowName::FactAt(place) => if_not(row_at(facts, *place)),
+        RowName::Fact(lit) => only_differs(fact_row(facts, lit)),
+        RowName::Goal => only_differs(goal_row(wanted)),
+        RowName::FactAt(place) => only_differs(row_at(facts, *place)),
         _ => None,
     }
 }
 
 /// The row, if it says that its form differs from 0.
-fn if_not<'a>(row: Option<Comparison<'a>>) -> Option<Comparison<'a>>
+fn only_differs<'a>(row: Option<LitRow<'a>>) -> Option<LitRow<'a>>
     requires { IfSome row (λ c. IsTrue (is_short c)) }
-    ensures row { option_map comparison_view result ≡ option_and_then
-        (λ r. if says_differ r.sense then Some r else None) (option_map comparison_view row.entry) }
+    ensures row { option_map lit_row_view result ≡ option_and_then
+        (λ r. if says_differ r.sense then Some r else None) (option_map lit_row_view row.entry) }
     ensures small { IfSome result (λ c. IsTrue (is_short c)) }
 {
     match row {
-        Some(row) if row.sense == RowSense::Not => Some(row),
+        Some(row) if row.sense == RowSense::Differs => Some(row),
         _ => None,
     }
 }
 
 /// The row that says that the form is more than 0.
-fn above_row<'a>(row: Comparison<'a>) -> Row<'a>
+fn above_row<'a>(row: LitRow<'a>) -> Row<'a>
     requires { IsTrue (is_short row) }
-    ensures row { row_view result ≡ MetricCertificate.above_row (comparison_view row.entry) }
+    ensures row { row_view result ≡ MetricCertificate.above_row (lit_row_view row.entry) }
     ensures small { IsTrue (is_small_row result) }
 {
     Row::Sums {
@@ -137,9 +137,9 @@ fn above_row<'a>(row: Comparison<'a>) -> Row<'a>
 }
 
 /// The row that says that the form is less than 0.
-fn below_row<'a>(row: Comparison<'a>) -> Row<'a>
+fn below_row<'a>(row: LitRow<'a>) -> Row<'a>
     requires { IsTrue (is_short row) }
-    ensures row { row_view result ≡ MetricCertificate.below_row (comparison_view row.entry) }
+    ensures row { row_view result ≡ MetricCertificate.below_row (lit_row_view row.entry) }
     ensures small { IsTrue (is_small_row result) }
 {
     Row::Sums {

@@ -9,7 +9,7 @@ ghost use Rattle.e_literal.specs.WellFormed.{is_well_formed_atom, is_well_formed
 ghost use Rattle.e_clause.specs.Sum;
 ghost use Rattle.e_clause.specs.declared.cert.RowName.TheVariants.{Least};
 ghost use Rattle.e_verify.specs.inner.Small.{is_small_row, is_short};
-ghost use Rattle.e_verify.specs.inner.Views.{row_view, comparison_view, sense_view, row_scope_view};
+ghost use Rattle.e_verify.specs.inner.Views.{row_view, lit_row_view, sense_view, row_scope_view};
 ghost use Rattle.e_clause.specs.Written.{is_writable_name};
 ghost use Rattle.e_verify.specs.inner.RowScopes.{is_well_formed_row_scope};
 
@@ -23,7 +23,7 @@ pub enum RowSense {
     Zero,
     AtLeast,
     More,
-    Not,
+    Differs,
 }
 
 /// A row of a step.
@@ -48,7 +48,7 @@ pub enum Row<'a> {
 
 /// The row of a literal: what it says of the one sum less the other.
 #[derive(Clone, Copy)]
-pub struct Comparison<'a> {
+pub struct LitRow<'a> {
     pub sense: RowSense,
     pub plus: &'a [Mono],
     pub minus: &'a [Mono],
@@ -86,22 +86,22 @@ pub fn row_named<'a>(row_scope: &RowScope<'a>, name: &'a RowName) -> Option<Row<
     ensures small { IfSome result (λ r. IsTrue (is_small_row r)) }
 {
     match name {
-        RowName::Fact(lit) => unless_not(fact_row(row_scope.facts, lit)),
-        RowName::Goal => unless_not(goal_row(row_scope.wanted)),
+        RowName::Fact(lit) => without_differs(fact_row(row_scope.facts, lit)),
+        RowName::Goal => without_differs(goal_row(row_scope.wanted)),
         RowName::Pos(term) => pos_row(row_scope, *term),
         RowName::Top(term) => top_row(row_scope, *term),
         RowName::Right => Some(Row::Right),
         RowName::Least(term) => least_row(row_scope, *term),
         RowName::Above => row_scope.above,
         RowName::Below => row_scope.below,
-        RowName::FactAt(at) => unless_not(row_at(row_scope.facts, *at)),
+        RowName::FactAt(at) => without_differs(row_at(row_scope.facts, *at)),
     }
 }
 
 /// The row of a fact, whatever it says.
-pub fn fact_row<'a>(facts: &Facts, lit: &'a Lit) -> Option<Comparison<'a>>
+pub fn fact_row<'a>(facts: &Facts, lit: &'a Lit) -> Option<LitRow<'a>>
     requires { IsTrue (is_well_formed lit.now) }
-    ensures row { option_map comparison_view result ≡ Sum.fact_row facts.now lit.now }
+    ensures row { option_map lit_row_view result ≡ Sum.fact_row facts.now lit.now }
     ensures small { IfSome result (λ c. IsTrue (is_short c)) }
 {
     if facts.has(lit) {
@@ -112,9 +112,9 @@ pub fn fact_row<'a>(facts: &Facts, lit: &'a Lit) -> Option<Comparison<'a>>
 }
 
 /// The row of the fact at this place, counted from 0, whatever it says.
-pub fn row_at<'a>(facts: &'a Facts, place: u32) -> Option<Comparison<'a>>
+pub fn row_at<'a>(facts: &'a Facts, place: u32) -> Option<LitRow<'a>>
     requires { IsTrue (list_all is_well_formed facts.now) }
-    ensures row { option_map comparison_view result ≡ Sum.row_at facts.now place }
+    ensures row { option_map lit_row_view result ≡ Sum.row_at facts.now place }
     ensures small { IfSome result (λ c. IsTrue (is_short c)) }
 {
     match facts.get(place) {
@@ -124,9 +124,9 @@ pub fn row_at<'a>(facts: &'a Facts, place: u32) -> Option<Comparison<'a>>
 }
 
 /// The row of the negated wanted literal, whatever it says.
-pub fn goal_row<'a>(wanted: Option<&'a Lit>) -> Option<Comparison<'a>>
+pub fn goal_row<'a>(wanted: Option<&'a Lit>) -> Option<LitRow<'a>>
     requires { IsTrue (option_map_or is_well_formed (option_copied wanted) true) }
-    ensures row { option_map comparison_view result ≡ Sum.goal_row (option_copied wanted.entry) }
+    ensures row { option_map lit_row_view result ≡ Sum.goal_row (option_copied wanted.entry) }
     ensures small { IfSome result (λ c. IsTrue (is_short c)) }
 {
     match wanted {
@@ -137,25 +137,29 @@ pub fn goal_row<'a>(wanted: Option<&'a Lit>) -> Option<Comparison<'a>>
 
 /// The row of an atom or of its negation; none where it does not compare magnitudes.
 #[tactic(auto, using(crate::proofs::arithmetic::SmallSums::good_sums))]
-fn row_of<'a>(atom: &'a Atom, neg: bool) -> Option<Comparison<'a>>
+fn row_of<'a>(atom: &'a Atom, neg: bool) -> Option<LitRow<'a>>
     requires { IsTrue (is_well_formed_atom atom.now) }
-    ensures row { option_map comparison_view result ≡ row_of_atom atom.now neg }
+    ensures row { option_map lit_row_view result ≡ row_of_atom atom.now neg }
     ensures small { IfSome result (λ c. IsTrue (is_short c)) }
 {
     match atom {
-        Atom::MagEq(x, y) => Some(Comparison {
-            sense: if neg { RowSense::Not } else { RowSense::Zero },
+        Atom::MagEq(x, y) => Some(LitRow {
+            sense: if neg {
+                RowSense::Differs
+            } else {
+                RowSense::Zero
+            },
             plus: x.items(),
             minus: y.items(),
         }),
         Atom::MagLt(x, y) => Some(if neg {
-            Comparison {
+            LitRow {
                 sense: RowSense::AtLeast,
                 plus: x.items(),
                 minus: y.items(),
             }
         } else {
-            Comparison {
+            LitRow {
                 sense: RowSense::More,
                 plus: y.items(),
                 minus: x.items(),
@@ -166,15 +170,15 @@ fn row_of<'a>(atom: &'a Atom, neg: bool) -> Option<Comparison<'a>>
 }
 
 /// The row, unless it says that its form differs from 0.
-fn unless_not<'a>(row: Option<Comparison<'a>>) -> Option<Row<'a>>
+fn without_differs<'a>(row: Option<LitRow<'a>>) -> Option<Row<'a>>
     requires { IfSome row (λ c. IsTrue (is_short c)) }
     ensures row { option_map row_view result
-        ≡ Sum.unless_not (option_map comparison_view row.entry) }
+        ≡ Sum.unless_not (option_map lit_row_view row.entry) }
     ensures small { IfSome result (λ r. IsTrue (is_small_row r)) }
 {
     match row {
-        Some(Comparison { sense, plus, minus }) => {
-            if sense == RowSense::Not {
+        Some(LitRow { sense, plus, minus }) => {
+            if sense == RowSense::Differs {
                 return None;
             }
             Some(Row::Sums {

@@ -33,12 +33,12 @@ use std::alloc::{AllocError, Global};
 use std::mem;
 
 /// Checks a citation: where it is certified, its literal becomes a fact, and the answer is true.
-pub fn cite(alloc: Global, by: &By, state: &mut StepState) -> Result<bool, AllocError>
+pub fn check_cite(alloc: Global, by: &By, state: &mut StepState) -> Result<bool, AllocError>
     requires { IsTrue (is_well_formed by.now.lit) }
     ensures { IfOk result (λ b. (before : List StatementView)
         → IsChecked before (Cite by.now) state.old state.new b) }
 {
-    if !is_cited(alloc, state.scope, &state.facts, by)? {
+    if !is_valid_citation(alloc, state.scope, &state.facts, by)? {
         return Ok(false);
     }
     state.assume(alloc, &by.lit)?;
@@ -46,7 +46,12 @@ pub fn cite(alloc: Global, by: &By, state: &mut StepState) -> Result<bool, Alloc
 }
 
 /// Whether the citation is one, over objects in scope, and its instance gives the literal.
-fn is_cited(alloc: Global, scope: Scope, facts: &Facts, by: &By) -> Result<bool, AllocError>
+fn is_valid_citation(
+    alloc: Global,
+    scope: Scope,
+    facts: &Facts,
+    by: &By,
+) -> Result<bool, AllocError>
     ensures { IfOk result (λ b. b ≡ (is_citation scope by.now && Steps.is_cited facts.now by.now)) }
 {
     if by.rule.is_transfer() || !objects_in(scope, by.args.items()) || !in_scope(&by.lit, scope) {
@@ -63,7 +68,7 @@ fn is_cited(alloc: Global, scope: Scope, facts: &Facts, by: &By) -> Result<bool,
 }
 
 /// Checks a hence: where it is certified, its literal becomes a fact, and the answer is true.
-pub fn hence(
+pub fn check_hence(
     alloc: Global,
     lit: &Lit,
     cert: &Option<Cert>,
@@ -90,7 +95,7 @@ pub fn hence(
 
 /// Checks a construction: where it is certified, its objects come into scope, what it gives become
 /// facts, and the answer is true.
-pub fn make(
+pub fn check_make(
     alloc: Global,
     construction: &Construction,
     certs: &[Cert],
@@ -118,7 +123,7 @@ pub fn make(
 
 /// Checks an application: where it is certified, the made objects come into scope, what the theorem
 /// shows become facts, and the answer is true.
-pub fn apply(
+pub fn check_apply(
     alloc: Global,
     before: &[Statement],
     theorem: u32,
@@ -179,7 +184,7 @@ fn take_use(
 
 /// Whether a superposition is certified; then the copied points are in scope, and what it gives are
 /// facts.
-pub fn superpose(
+pub fn check_superpose(
     alloc: Global,
     superposition: &Superpose,
     shown: &[Lit],

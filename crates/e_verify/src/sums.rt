@@ -41,7 +41,7 @@ pub fn refutes(
         strict = strict || is_strict;
         add_row(&mut totals, row, *multiplier)?;
     }
-    let cancel = totals.cancel();
+    let cancel = totals.all_cancel();
     Ok(strict && cancel)
 }
 
@@ -70,7 +70,7 @@ fn allows_sign(sense: RowSense, multiplier: i128) -> bool
     match sense {
         RowSense::Zero => true,
         RowSense::AtLeast | RowSense::More => 0 <= multiplier,
-        RowSense::Not => false,
+        RowSense::Differs => false,
     }
 }
 

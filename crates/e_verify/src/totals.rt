@@ -57,7 +57,7 @@ impl Totals {
     }
 
     /// Whether each term cancels.
-    pub fn cancel(self) -> bool
+    pub fn all_cancel(self) -> bool
         requires { (t : ATerm) → unsigned_abs (total_at self t) < 2 ^ 127 }
         ensures { IsTrue result ↔ ((t : ATerm) → total_at self t ≡ pos 0) }
     {

@@ -16,7 +16,7 @@ use Rattle.e_book.specs.declared.parser.TheoremParser.{TheoremParser}
 use Rattle.e_line.specs.Reading.{◌>>=◌}
 use Rattle.e_line.specs.Limits.{most_of, most_theorems, most_facts, most_terms, monomials, count_monomials}
 use Rattle.e_names.specs.TitledStatements.{TitledStatement, is_known}
-use Rattle.e_line.specs.LineLimits.{count_monos}
+use Rattle.e_line.specs.LineLimits.{count_raw_monomials}
 use Rattle.e_book.specs.Steps.{with_terms, line_may_come, with_declared, after_line, step, begin, with_title, no_names}
 use Rattle.e_book.specs.Book.{is_done}
 use Rattle.e_names.specs.Canonical.{raw_of, given_raw_line, show_raw_line}
@@ -79,7 +79,7 @@ declared_lines known t = record {
 -- ---- given literals
 
 stating_more : (t : List ℕ) (ns : Names) (sorts : List Sort) (given : List Lit) (l : Lit)
-    → stating t ns sorts (given ++ l ∷ []) [] [] (length given + 1) (count_monomials given + count_monos (raw_of ns l ∷ [])) Giving
+    → stating t ns sorts (given ++ l ∷ []) [] [] (length given + 1) (count_monomials given + count_raw_monomials (raw_of ns l ∷ [])) Giving
     ≡ stating t ns sorts (given ++ l ∷ []) [] [] (length (given ++ l ∷ [])) (count_monomials (given ++ l ∷ [])) Giving
 stating_more t ns sorts given l =
     ap₂ (λ (m n : ℕ). stating t ns sorts (given ++ l ∷ []) [] [] m n Giving) (sym (length-append given (l ∷ [])))
@@ -91,7 +91,7 @@ step_given : (known : List TitledStatement) (t : List ℕ) (ns : Names) (sorts :
 unfolding step after_line with_terms
 step_given known t ns sorts given place l o p few short a =
     let room : ltb most_facts (length given + length (raw_of ns l ∷ [])) ≡ false = le-ltb _ _ (omega (arith, few)) in
-    let terms : ltb most_terms (count_monomials given + count_monos (raw_of ns l ∷ [])) ≡ false = le-ltb _ _ (omega (arith, short, count_again ns l)) in
+    let terms : ltb most_terms (count_monomials given + count_raw_monomials (raw_of ns l ∷ [])) ≡ false = le-ltb _ _ (omega (arith, short, count_again ns l)) in
     rw (a, lit_number_again ns l o p.within p.good, room, few_again ns l p.good, terms) (ap (λ (d : TheoremParser). Ok d) (stating_more t ns sorts given l))
 
 abbrev giving : List ℕ → Names → List Sort → List Lit → TheoremParser

@@ -31,7 +31,7 @@ use Rattle.e_book.specs.Blocks.{made_in}
 use Rattle.e_names.specs.TitledStatements.{TitledStatement, theorem_of}
 use Rattle.e_names.specs.Applies.{count_blanks}
 use Rattle.e_names.specs.Scope.{scope_of_names, object_as, objects_of_sorts, qed_in}
-use Rattle.e_line.specs.LineLimits.{count_monos}
+use Rattle.e_line.specs.LineLimits.{count_raw_monomials}
 use Rattle.e_book.specs.LineLimits.{few_objects}
 use Rattle.e_book.specs.Steps.{with_step, with_terms, after_let, with_use, after_apply, inside_if_room, after_claim, after_superpose, after_cases, counted_from, after_inner_block, parser_after_close, after_close_line, after_line, step}
 use Rattle.e_book.specs.ParserViews.{script_of_close}
@@ -117,7 +117,7 @@ unfolding step after_line with_step with_terms
 step_hence known d i l o p few most short =
     let room : ltb most_steps (i.lines + 1) ≡ false = le-ltb _ _ few in
     let place : ltb most_facts (i.facts + 1) ≡ false = le-ltb _ _ most in
-    let more : ltb most_terms (i.terms + count_monos (raw_of i.in_scope l ∷ [])) ≡ false = le-ltb _ _ (omega (arith, short, count_again i.in_scope l)) in
+    let more : ltb most_terms (i.terms + count_raw_monomials (raw_of i.in_scope l ∷ [])) ≡ false = le-ltb _ _ (omega (arith, short, count_again i.in_scope l)) in
     rw (lit_number_again i.in_scope l o p.within p.good, room, place, few_again i.in_scope l p.good, more) (ap (λ (n : ℕ). Ok (proving d (written (after_step i (Inferred l None) 1) n))) (count_again i.in_scope l))
 
 pub step_let : (known : List TitledStatement) (d : TheoremParser) (i : Inside) (construction : Construction) (names : List (List ℕ)) → InOrder i.in_scope → GoodLet i.in_scope construction names → few_objects (named i.in_scope (sorts_made construction) names) ≡ Ok tt
@@ -175,7 +175,7 @@ pub step_cases : (known : List TitledStatement) (d : TheoremParser) (i : Inside)
     → step known (proving d i) (cases_raw_line i.in_scope l) ≡ Ok (proving d (written (deep i (kind.First l) 1) (monomials l.atom)))
 unfolding step after_line after_cases with_terms
 step_cases known d i l o p few shallow most short =
-    let more : ltb most_terms (i.terms + count_monos (raw_of i.in_scope l ∷ [])) ≡ false = le-ltb _ _ (omega (arith, short, count_again i.in_scope l)) in
+    let more : ltb most_terms (i.terms + count_raw_monomials (raw_of i.in_scope l ∷ [])) ≡ false = le-ltb _ _ (omega (arith, short, count_again i.in_scope l)) in
     rw (lit_number_again i.in_scope l o p.within p.good, deeper_again d i (kind.First l) 1 few shallow most, few_again i.in_scope l p.good, more)
     (ap (λ (n : ℕ). Ok (proving d (written (deep i (kind.First l) 1) n))) (count_again i.in_scope l))
 

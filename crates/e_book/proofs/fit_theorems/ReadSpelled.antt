@@ -45,7 +45,7 @@ use Rattle.e_names.specs.TitledStatements.{TitledStatement, is_known, theorem_of
 use Rattle.e_names.specs.Scope.{scope_of_names, fresh, lit_in, lits_in, by_in, let_in, qed_in}
 use Rattle.e_names.specs.Applies.{count_blanks, apply_in}
 use Rattle.e_line.specs.RawLines.{raw_line_of}
-use Rattle.e_line.specs.LineLimits.{count_monos, few_monos}
+use Rattle.e_line.specs.LineLimits.{count_raw_monomials, check_literal_limits}
 use Rattle.e_book.specs.LineLimits.{few_objects}
 use Rattle.e_book.specs.Steps.{terms_after, with_terms, line_may_come, with_declared, with_step, after_let, with_use, after_apply, inside_block, inside_if_room, after_claim, after_superpose, after_cases, counted_from, after_inner_block, closed_inside, parser_after_close, after_close_line, after_line, step, begin, with_title}
 use Rattle.e_book.specs.ParserViews.{script_of_close, statement_of_parser, entry_of_parser}
@@ -212,7 +212,7 @@ counted : (known : List TitledStatement) (d : TheoremParser) (n : ℕ) → Spell
 counted known d n g = record { few = g.few; title = g.title; naming = g.naming; some = g.some; blocks = g.blocks }
 
 spelled_terms : (known : List TitledStatement) (d e : TheoremParser) (raws : List RawLit) → Spelled known d → with_terms d raws ≡ Ok e → Spelled known e
-spelled_terms known d e raws g h = let t = terms_added d e raws h in subst (λ (y : TheoremParser). Spelled known y) t.is (counted known d (d.terms + count_monos raws) g)
+spelled_terms known d e raws g h = let t = terms_added d e raws h in subst (λ (y : TheoremParser). Spelled known y) t.is (counted known d (d.terms + count_raw_monomials raws) g)
 
 spelled_given : (known : List TitledStatement) (d e : TheoremParser) (raws : List RawLit) → Spelled known d → after_line known d (rawlines.Given raws) ≡ Ok e → Spelled known e
 unfolding after_line
@@ -235,9 +235,9 @@ spelled_shown : (known : List TitledStatement) (d e : TheoremParser) (raws : Lis
 unfolding after_line
 spelled_shown known d e raws g said h =
     let then : List Lit → TheoremParser = λ ls. record d { shown = ls; section = Showing } in
-    let all = bind_ok (with_front d.shown (lits_in d.names raws)) (λ ls. few_monos raws >>= λ few. read_ok (then ls)) e h in
+    let all = bind_ok (with_front d.shown (lits_in d.names raws)) (λ ls. check_literal_limits raws >>= λ few. read_ok (then ls)) e h in
     let ls = bind_ok (lits_in d.names raws) (λ xs. read_ok (d.shown ++ xs)) all.0 all.1 in
-    let f = bind_ok (few_monos raws) (λ few. read_ok (then all.0)) e all.2 in
+    let f = bind_ok (check_literal_limits raws) (λ few. read_ok (then all.0)) e all.2 in
     let n = each_length (lit_in d.names) raws ls.0 ls.1 in
     let x-is : then (d.shown ++ ls.0) ≡ e = ap then (ok_is (d.shown ++ ls.0) all.0 ls.2) ∙ ok_is (then all.0) e f.2 in
     subst (λ (y : TheoremParser). Spelled known y) x-is (record { few = g.few; title = g.title; naming = g.naming; some = omega (arith, n, said, length-append d.shown ls.0); blocks = g.blocks })
@@ -363,9 +363,9 @@ spelled_deeper known d e o n g p h =
 spelled_claim : (known : List TitledStatement) (d e : TheoremParser) (raws : List RawLit) → Spelled known d → 0 < length raws → after_line known d (rawlines.Claim raws) ≡ Ok e → Spelled known e
 unfolding after_line after_claim
 spelled_claim known d e raws g said h =
-    let ls = bind_ok (lits_in d.in_scope raws) (λ ls. inside_if_room d (kind.Claim ls) 0 >>= λ x. few_monos raws >>= λ few. read_ok x) e h in
-    let x = bind_ok (inside_if_room d (kind.Claim ls.0) 0) (λ x. few_monos raws >>= λ few. read_ok x) e ls.2 in
-    let f = bind_ok (few_monos raws) (λ few. read_ok x.0) e x.2 in
+    let ls = bind_ok (lits_in d.in_scope raws) (λ ls. inside_if_room d (kind.Claim ls) 0 >>= λ x. check_literal_limits raws >>= λ few. read_ok x) e h in
+    let x = bind_ok (inside_if_room d (kind.Claim ls.0) 0) (λ x. check_literal_limits raws >>= λ few. read_ok x) e ls.2 in
+    let f = bind_ok (check_literal_limits raws) (λ few. read_ok x.0) e x.2 in
     let n = each_length (lit_in d.in_scope) raws ls.0 ls.1 in
     let some : ltb 0 (length ls.0) ≡ true = lt-ltb _ _ (omega (arith, n, said)) in
     subst (λ (y : TheoremParser). Spelled known y) (ok_is x.0 e f.2) (spelled_deeper known d x.0 (kind.Claim ls.0) 0 g some x.1)
@@ -388,12 +388,12 @@ spelled_superpose known d e raw g names said h =
     let after = named d.in_scope superposing.sorts_copied raw.new in
     let gives : Superpose × List Lit → List Lit = λ p. superposing.gives_of_superposition p.0 (scope_of_names d.in_scope) in
     let then : TheoremParser → ℕ → TheoremParser = λ x n. record x { in_scope = after; terms = n } in
-    let p = bind_ok (superpose_in d.in_scope raw) (λ p. few_objects after >>= λ objects. inside_if_room d (kind.Superpose p.0 raw.new p.1) (length (gives p)) >>= λ x. few_monos raw.shown >>= λ few. terms_after x.terms (gives p) >>= λ n. read_ok (then x n)) e h in
+    let p = bind_ok (superpose_in d.in_scope raw) (λ p. few_objects after >>= λ objects. inside_if_room d (kind.Superpose p.0 raw.new p.1) (length (gives p)) >>= λ x. check_literal_limits raw.shown >>= λ few. terms_after x.terms (gives p) >>= λ n. read_ok (then x n)) e h in
     let given = gives p.0 in
     let o = kind.Superpose p.0.0 raw.new p.0.1 in
-    let w = bind_ok (few_objects after) (λ objects. inside_if_room d o (length given) >>= λ x. few_monos raw.shown >>= λ few. terms_after x.terms given >>= λ n. read_ok (then x n)) e p.2 in
-    let x = bind_ok (inside_if_room d o (length given)) (λ x. few_monos raw.shown >>= λ few. terms_after x.terms given >>= λ n. read_ok (then x n)) e w.2 in
-    let f = bind_ok (few_monos raw.shown) (λ few. terms_after x.0.terms given >>= λ n. read_ok (then x.0 n)) e x.2 in
+    let w = bind_ok (few_objects after) (λ objects. inside_if_room d o (length given) >>= λ x. check_literal_limits raw.shown >>= λ few. terms_after x.terms given >>= λ n. read_ok (then x n)) e p.2 in
+    let x = bind_ok (inside_if_room d o (length given)) (λ x. check_literal_limits raw.shown >>= λ few. terms_after x.terms given >>= λ n. read_ok (then x n)) e w.2 in
+    let f = bind_ok (check_literal_limits raw.shown) (λ few. terms_after x.0.terms given >>= λ n. read_ok (then x.0 n)) e x.2 in
     let n = bind_ok (terms_after x.0.terms given) (λ n. read_ok (then x.0 n)) e f.2 in
     let some : ltb 0 (length p.0.1) ≡ true = lt-ltb _ _ (omega (arith, shown_length d.in_scope raw p.0 p.1, said)) in
     let deep = spelled_deeper known d x.0 o (length given) g (rw (names_listed raw.new names, some) refl) x.1 in

@@ -6,7 +6,7 @@ use Rattle.e_line.specs.declared.fault.FaultKind.{FaultKind}
 use Rattle.e_line.specs.declared.fault.What.TheVariants as limits
 use Rattle.e_line.specs.declared.literal.RawLit.{RawLit}
 use Rattle.e_line.specs.Limits.{most_steps, most_depth, most_facts, most_terms, monomials, count_monomials, within}
-use Rattle.e_line.specs.LineLimits.{count_monos, few_monos}
+use Rattle.e_line.specs.LineLimits.{count_raw_monomials, check_literal_limits}
 use Rattle.e_line.specs.Reading.{◌>>=◌}
 use Rattle.e_names.specs.Scope.{lit_in}
 use Rattle.e_book.specs.declared.blocks.BlockKind.{BlockKind}
@@ -29,12 +29,12 @@ pub begun_with_copies : (d : TheoremParser) (what : BlockKind) (after : Names) (
     → after_copies d what after given raws ≡ (terms_inside d given raws >>= λ n. read_ok (record (inside_block d what (length given)) { in_scope = after; terms = n }))
 unfolding after_copies inside_if_room room_inside terms_inside
 begun_with_copies d what after given raws =
-    begun_as (within (d.lines + 1) most_steps limits.Steps) (within (length d.blocks + 2) most_depth limits.Depth) (within (d.facts + length given) most_facts limits.Facts) (few_monos raws)
+    begun_as (within (d.lines + 1) most_steps limits.Steps) (within (length d.blocks + 2) most_depth limits.Depth) (within (d.facts + length given) most_facts limits.Facts) (check_literal_limits raws)
     (inside_block d what (length given)) (λ e. terms_after e.terms given) (λ e n. record e { in_scope = after; terms = n })
 
 -- ---- a split
 
-one_count : (ns : Names) (r : RawLit) (l : Lit) → lit_in ns r ≡ Ok l → count_monos (r ∷ []) ≡ count_monomials (l ∷ [])
+one_count : (ns : Names) (r : RawLit) (l : Lit) → lit_in ns r ≡ Ok l → count_raw_monomials (r ∷ []) ≡ count_monomials (l ∷ [])
 one_count ns r l e = omega (arith, lit_count ns r l e)
 
 terms_alike : (n m k : ℕ) → m ≡ k → (within (n + m) most_terms limits.Terms >>= λ few. read_ok (n + m)) ≡ (within (n + k) most_terms limits.Terms >>= λ few. read_ok (n + k))
@@ -46,9 +46,9 @@ unfolding inside_if_room with_terms room_inside terms_inside
 with_lit d r (Ok l) e =
     let x : TheoremParser = inside_block d (kind.First l) 1 in
     let room = within (d.lines + 1) most_steps limits.Steps >>= λ u. within (length d.blocks + 2) most_depth limits.Depth >>= λ v. within (d.facts + 1) most_facts limits.Facts in
-    begun_as (within (d.lines + 1) most_steps limits.Steps) (within (length d.blocks + 2) most_depth limits.Depth) (within (d.facts + 1) most_facts limits.Facts) (few_monos (r ∷ []))
+    begun_as (within (d.lines + 1) most_steps limits.Steps) (within (length d.blocks + 2) most_depth limits.Depth) (within (d.facts + 1) most_facts limits.Facts) (check_literal_limits (r ∷ []))
     x (λ y. terms_after_raw y.terms (r ∷ [])) (λ y n. record y { terms = n })
-    ∙ ap (λ (t : Result ℕ FaultKind). (room >>= λ u. few_monos (r ∷ []) >>= λ s. t) >>= λ n. read_ok (record x { terms = n })) (terms_alike d.terms (count_monos (r ∷ [])) (count_monomials (l ∷ [])) (one_count d.in_scope r l e))
+    ∙ ap (λ (t : Result ℕ FaultKind). (room >>= λ u. check_literal_limits (r ∷ []) >>= λ s. t) >>= λ n. read_ok (record x { terms = n })) (terms_alike d.terms (count_raw_monomials (r ∷ [])) (count_monomials (l ∷ [])) (one_count d.in_scope r l e))
 with_lit d r (Err f) e = refl
 
 pub begun_with_lit : (d : TheoremParser) (r : RawLit) → after_cases d r ≡ (lit_in d.in_scope r >>= λ l. terms_inside d (l ∷ []) (r ∷ []) >>= λ n. read_ok (record (inside_block d (kind.First l) 1) { terms = n }))
@@ -61,8 +61,8 @@ sum_inside : (d : TheoremParser) (given : List Lit) (raws : List RawLit) (n : �
 unfolding terms_inside
 sum_inside d given raws n e =
     let total = d.terms + count_monomials given in
-    let room = bind_ok (room_inside d (length given)) (λ u. few_monos raws >>= λ s. terms_after d.terms given) n e in
-    let few = bind_ok (few_monos raws) (λ s. terms_after d.terms given) n room.2 in
+    let room = bind_ok (room_inside d (length given)) (λ u. check_literal_limits raws >>= λ s. terms_after d.terms given) n e in
+    let few = bind_ok (check_literal_limits raws) (λ s. terms_after d.terms given) n room.2 in
     let sum = bind_ok (within total most_terms limits.Terms) (λ few. read_ok total) n few.2 in
     let is : n ≡ total = sym (ok_is total n sum.2) in
     (is, omega (arith, is, within_ok total most_terms limits.Terms sum.0 sum.1))

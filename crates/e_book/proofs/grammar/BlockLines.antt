@@ -34,7 +34,7 @@ use Rattle.e_line.specs.Literals.{is_diagram_raw}
 use Rattle.e_names.specs.Scope.{scope_of_names, right_count, object_as, fresh, lit_in, lits_in, by_in, let_in}
 use Rattle.e_names.specs.Superposes.{superpose_in}
 use Rattle.e_names.specs.Applies.{count_blanks, known_place, entry_in, entries_in, apply_in}
-use Rattle.e_line.specs.LineLimits.{are_short, are_small, count_monos, few_monos}
+use Rattle.e_line.specs.LineLimits.{have_few_monomials, have_low_coefficients, count_raw_monomials, check_literal_limits}
 use Rattle.e_book.specs.LineLimits.{FewNamed, few_objects}
 use Rattle.e_book.specs.Steps.{begun_with, begun_terms, terms_after_raw, terms_after, with_terms, with_step, after_let, with_use, after_apply, outer_of, inside_block, inside_if_room, after_claim, after_superpose, after_cases, after_by, after_hence}
 use Rattle.e_book.specs.Open.{Open, Proving, ByClaim, BySuperposition, ByCase}
@@ -80,11 +80,11 @@ step_then known x s g r n raws depth m b deep h =
     (test_in known y r n (x.facts + g) most_facts limits.Facts (literal_tests raws m b) (λ c. h a c)))
 
 -- the limits of literals that become facts
-pub terms_alike : (known : List TitledStatement) (y : TheoremParser) (raws : List RawLit) (n : Open) → (y.terms + count_monos raws ≤ most_terms → Alike known (read_ok (record y { terms = y.terms + count_monos raws })) (read_ok n))
-    → Alike known (with_terms y raws) (kept (literal_tests raws (y.terms + count_monos raws) 0) n)
+pub terms_alike : (known : List TitledStatement) (y : TheoremParser) (raws : List RawLit) (n : Open) → (y.terms + count_raw_monomials raws ≤ most_terms → Alike known (read_ok (record y { terms = y.terms + count_raw_monomials raws })) (read_ok n))
+    → Alike known (with_terms y raws) (kept (literal_tests raws (y.terms + count_raw_monomials raws) 0) n)
 unfolding with_terms
 terms_alike known y raws n h =
-    let sum = y.terms + count_monos raws in
+    let sum = y.terms + count_raw_monomials raws in
     let then : ℕ → Result TheoremParser FaultKind = λ k. read_ok (record y { terms = k }) in
     test_monos known (terms_after_raw y.terms raws >>= then) n raws sum 0
     (test_in known (read_ok sum) then n sum most_terms limits.Terms (blank_tests 0)
@@ -108,7 +108,7 @@ step_limits known d r s f ns facts terms t one c a =
 
 -- ---- citations
 
-short_diagram : (neg : Bool) (a : RawAtom) → is_diagram_raw a ≡ true → (are_short (record { neg = neg; atom = a } ∷ []) ≡ true) × (are_small (record { neg = neg; atom = a } ∷ []) ≡ true)
+short_diagram : (neg : Bool) (a : RawAtom) → is_diagram_raw a ≡ true → (have_few_monomials (record { neg = neg; atom = a } ∷ []) ≡ true) × (have_low_coefficients (record { neg = neg; atom = a } ∷ []) ≡ true)
 short_diagram neg (rawatoms.SumsEqual x y) h = absurd cc
 short_diagram neg (rawatoms.SumsLess x y) h = absurd cc
 short_diagram neg (rawatoms.SumsAtMost x y) h = absurd cc
@@ -142,7 +142,7 @@ hence_alike known d r t at few =
     (λ l e.
     let s = Inferred l None in
     let n = Proving (head_of d) (around_of d.blocks) (d.steps ++ s ∷ []) in
-    let m = d.terms + count_monos (r ∷ []) in
+    let m = d.terms + count_raw_monomials (r ∷ []) in
     let sum : d.terms + count_monomials (l ∷ []) ≡ m = omega (arith, one_count d.in_scope r l e, count_first l []) in
     let c = counted_more known (head_of d) d.blocks d.steps s d.in_scope d.in_scope d.facts (d.facts + 1) d.terms m t.counted refl refl sum in
     let then : TheoremParser → Result TheoremParser FaultKind = λ x. with_terms x (r ∷ []) in
@@ -309,11 +309,11 @@ pub claim_alike : (known : List TitledStatement) (d : TheoremParser) (raws : Lis
 unfolding after_claim
 claim_alike known d raws t at few =
     let f = rawlines.Claim raws in
-    both known (lits_in d.in_scope raws) (λ ls. inside_if_room d (kind.Claim ls) 0 >>= λ e. few_monos raws >>= λ few. read_ok e) (λ ls. inner_block (head_of d) (around_of d.blocks) d.steps (ByClaim ls)) (then_limits known f)
+    both known (lits_in d.in_scope raws) (λ ls. inside_if_room d (kind.Claim ls) 0 >>= λ e. check_literal_limits raws >>= λ few. read_ok e) (λ ls. inner_block (head_of d) (around_of d.blocks) d.steps (ByClaim ls)) (then_limits known f)
     (λ ls e.
     let op = kind.Claim ls in
     let n = Proving (head_of d) (around_of (outer_of d op ∷ d.blocks)) [] in
-    let then : TheoremParser → Result TheoremParser FaultKind = λ x. few_monos raws >>= λ few. read_ok x in
+    let then : TheoremParser → Result TheoremParser FaultKind = λ x. check_literal_limits raws >>= λ few. read_ok x in
     let next : Result TheoremParser FaultKind = inside_if_room d op 0 >>= then in
     let c : Counted d.in_scope (d.facts + 0) d.terms (context_in known (head_of d) (outer_of d op ∷ d.blocks) []) = record { names = t.counted.names; facts = omega (arith, t.counted.facts); terms = t.counted.terms } in
     inner_limits known d next op f d.in_scope (d.facts + 0) d.terms t refl c
@@ -325,7 +325,7 @@ claim_alike known d raws t at few =
 
 copies_alike : (known : List TitledStatement) (d : TheoremParser) (raw : RawSuperpose) (superposition : Superpose) (shown : List Lit) → BlockOf known d → d.section ≡ places.Proving → FewNamed d.names
     → Alike known
-    (few_objects (named d.in_scope superposing.sorts_copied raw.new) >>= λ objects. inside_if_room d (kind.Superpose superposition raw.new shown) (length (superposing.gives_of_superposition superposition (scope_of_names d.in_scope))) >>= λ e. few_monos raw.shown >>= λ few.
+    (few_objects (named d.in_scope superposing.sorts_copied raw.new) >>= λ objects. inside_if_room d (kind.Superpose superposition raw.new shown) (length (superposing.gives_of_superposition superposition (scope_of_names d.in_scope))) >>= λ e. check_literal_limits raw.shown >>= λ few.
     terms_after e.terms (superposing.gives_of_superposition superposition (scope_of_names d.in_scope)) >>= λ n. read_ok (record e { in_scope = named d.in_scope superposing.sorts_copied raw.new; terms = n }))
     (then_limits known (rawlines.Superpose raw) (Proving (head_of d) (around_of (outer_of d (kind.Superpose superposition raw.new shown) ∷ d.blocks)) []))
 copies_alike known d raw superposition shown t at few =
@@ -338,7 +338,7 @@ copies_alike known d raw superposition shown t at few =
     let m = d.terms + count_monomials given in
     let y : TheoremParser = inside_block d op (length given) in
     let last : TheoremParser → ℕ → Result TheoremParser FaultKind = λ x n. read_ok (record x { in_scope = after; terms = n }) in
-    let then : TheoremParser → Result TheoremParser FaultKind = λ x. few_monos raw.shown >>= λ few. terms_after x.terms given >>= λ n. last x n in
+    let then : TheoremParser → Result TheoremParser FaultKind = λ x. check_literal_limits raw.shown >>= λ few. terms_after x.terms given >>= λ n. last x n in
     let next : Result TheoremParser FaultKind = inside_if_room d op (length given) >>= then in
     let renamed : Counted after k m (record { names = named d.in_scope superposing.sorts_copied raw.new; facts = at_block.facts ++ given }) =
     counted_with at_block d.in_scope after after given d.facts k d.terms m t.counted refl refl refl in
@@ -357,7 +357,7 @@ pub superpose_alike : (known : List TitledStatement) (d : TheoremParser) (raw : 
 unfolding after_superpose
 superpose_alike known d raw t at few =
     both known (superpose_in d.in_scope raw)
-    (λ p. few_objects (named d.in_scope superposing.sorts_copied raw.new) >>= λ objects. inside_if_room d (kind.Superpose p.0 raw.new p.1) (length (superposing.gives_of_superposition p.0 (scope_of_names d.in_scope))) >>= λ e. few_monos raw.shown >>= λ few.
+    (λ p. few_objects (named d.in_scope superposing.sorts_copied raw.new) >>= λ objects. inside_if_room d (kind.Superpose p.0 raw.new p.1) (length (superposing.gives_of_superposition p.0 (scope_of_names d.in_scope))) >>= λ e. check_literal_limits raw.shown >>= λ few.
     terms_after e.terms (superposing.gives_of_superposition p.0 (scope_of_names d.in_scope)) >>= λ n. read_ok (record e { in_scope = named d.in_scope superposing.sorts_copied raw.new; terms = n }))
     (λ p. inner_block (head_of d) (around_of d.blocks) d.steps (BySuperposition p.0 raw.new p.1)) (then_limits known (rawlines.Superpose raw))
     (λ p e. copies_alike known d raw p.0 p.1 t at few)
@@ -372,8 +372,8 @@ cases_alike known d r t at few =
     let op = kind.First l in
     let n = Proving (head_of d) (around_of (outer_of d op ∷ d.blocks)) [] in
     let at_block = context_in known (head_of d) d.blocks d.steps in
-    let m = d.terms + count_monos (r ∷ []) in
-    let count : count_monos (r ∷ []) ≡ monomials l.atom = one_count d.in_scope r l e in
+    let m = d.terms + count_raw_monomials (r ∷ []) in
+    let count : count_raw_monomials (r ∷ []) ≡ monomials l.atom = one_count d.in_scope r l e in
     let sum : d.terms + count_monomials (l ∷ []) ≡ m = omega (arith, count, count_first l []) in
     let c : Counted d.in_scope (d.facts + 1) m (context_in known (head_of d) (outer_of d op ∷ d.blocks) []) =
     counted_with at_block d.in_scope d.in_scope at_block.names (l ∷ []) d.facts (d.facts + 1) d.terms m t.counted t.counted.names refl sum in

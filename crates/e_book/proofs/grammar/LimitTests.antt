@@ -13,7 +13,7 @@ use Rattle.e_book.specs.declared.parser.TheoremParser.{TheoremParser}
 use Rattle.e_line.specs.Reading.{◌>>=◌}
 use Rattle.e_names.specs.TitledStatements.{TitledStatement}
 use Rattle.e_line.specs.Limits.{most_of, most_steps, most_depth, most_facts, most_terms, most_blanks, within}
-use Rattle.e_line.specs.LineLimits.{are_short, are_small, or_limit, few_monos}
+use Rattle.e_line.specs.LineLimits.{have_few_monomials, have_low_coefficients, or_limit, check_literal_limits}
 use Rattle.e_book.specs.LineLimits.{few_objects, FewNamed}
 use Rattle.e_book.specs.Open.{Open}
 use Rattle.e_book.specs.Counts.{LineContext, literals_on, blanks_on, limits_at, limits_kept, all_kept}
@@ -33,7 +33,7 @@ abbrev pub term_tests : (m b : ℕ) → Tests
 term_tests m b = (leb m most_terms, limits.Terms) ∷ blank_tests b
 
 abbrev pub literal_tests : List RawLit → (m b : ℕ) → Tests
-literal_tests raws m b = (are_short raws, limits.Monomials) ∷ (are_small raws, limits.Coefficient) ∷ term_tests m b
+literal_tests raws m b = (have_few_monomials raws, limits.Monomials) ∷ (have_low_coefficients raws, limits.Coefficient) ∷ term_tests m b
 
 abbrev pub fact_tests : List RawLit → (k m b : ℕ) → Tests
 fact_tests raws k m b = (leb k most_facts, limits.Facts) ∷ literal_tests raws m b
@@ -133,16 +133,16 @@ monos_by known r n false small ps h = refl
 
 -- the limits of literals that are written
 pub test_monos : (known : List TitledStatement) (r : Result TheoremParser FaultKind) (n : Open) (raws : List RawLit) (m b : ℕ) → Alike known r (kept (term_tests m b) n)
-    → Alike known (few_monos raws >>= λ few. r) (kept (literal_tests raws m b) n)
-unfolding few_monos
-test_monos known r n raws m b h = monos_by known r n (are_short raws) (are_small raws) (term_tests m b) h
+    → Alike known (check_literal_limits raws >>= λ few. r) (kept (literal_tests raws m b) n)
+unfolding check_literal_limits
+test_monos known r n raws m b h = monos_by known r n (have_few_monomials raws) (have_low_coefficients raws) (term_tests m b) h
 
 -- a line without literals of magnitudes
-pub pass_literals : (known : List TitledStatement) (r : Result TheoremParser FaultKind) (n : Open) (raws : List RawLit) (m b : ℕ) → are_short raws ≡ true → are_small raws ≡ true → Alike known r (kept (term_tests m b) n)
+pub pass_literals : (known : List TitledStatement) (r : Result TheoremParser FaultKind) (n : Open) (raws : List RawLit) (m b : ℕ) → have_few_monomials raws ≡ true → have_low_coefficients raws ≡ true → Alike known r (kept (term_tests m b) n)
     → Alike known r (kept (literal_tests raws m b) n)
 pass_literals known r n raws m b short small h =
-    pass known r n (are_short raws) limits.Monomials ((are_small raws, limits.Coefficient) ∷ term_tests m b) short
-    (pass known r n (are_small raws) limits.Coefficient (term_tests m b) small h)
+    pass known r n (have_few_monomials raws) limits.Monomials ((have_low_coefficients raws, limits.Coefficient) ∷ term_tests m b) short
+    (pass known r n (have_low_coefficients raws) limits.Coefficient (term_tests m b) small h)
 
 -- the last two
 pub pass_terms : (known : List TitledStatement) (r : Result TheoremParser FaultKind) (n : Open) (m b : ℕ) → m ≤ most_terms → b ≤ most_blanks → Alike known r (read_ok n) → Alike known r (kept (term_tests m b) n)
@@ -150,7 +150,7 @@ pass_terms known r n m b few blanks h =
     pass_le known r n m most_terms limits.Terms (blank_tests b) few (pass_le known r n b most_blanks limits.Blanks [] blanks h)
 
 -- those after the limit of facts, on a line without literals of magnitudes
-pub pass_rest : (known : List TitledStatement) (r : Result TheoremParser FaultKind) (n : Open) (raws : List RawLit) (m b : ℕ) → are_short raws ≡ true → are_small raws ≡ true → m ≤ most_terms → b ≤ most_blanks → Alike known r (read_ok n)
+pub pass_rest : (known : List TitledStatement) (r : Result TheoremParser FaultKind) (n : Open) (raws : List RawLit) (m b : ℕ) → have_few_monomials raws ≡ true → have_low_coefficients raws ≡ true → m ≤ most_terms → b ≤ most_blanks → Alike known r (read_ok n)
     → Alike known r (kept (literal_tests raws m b) n)
 pass_rest known r n raws m b short small few blanks h = pass_literals known r n raws m b short small (pass_terms known r n m b few blanks h)
 

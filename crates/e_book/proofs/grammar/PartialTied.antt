@@ -26,7 +26,7 @@ use Rattle.e_names.specs.TitledStatements.{TitledStatement}
 use Rattle.e_names.specs.Taken.{is_taken}
 use Rattle.e_names.specs.Titled.{are_notions}
 use Rattle.e_line.specs.Limits.{most_notions, most_expanded, within}
-use Rattle.e_line.specs.LineLimits.{few_monos}
+use Rattle.e_line.specs.LineLimits.{check_literal_limits}
 use Rattle.e_book.specs.LineLimits.{FewNamed}
 use Rattle.e_names.specs.Scope.{right_count, fresh, lits_in}
 use Rattle.e_names.specs.Superposes.{placed_in, superpose_in}
@@ -471,8 +471,8 @@ unfolding defines_on
 shown_there d e raws h =
     let then : List Lit → TheoremParser = λ ls. record d { shown = ls; section = places.Showing } in
     let r = bind_ok (right_count (line_may_come d.section (rawlines.Show raws))) (λ right. after_show d raws) e h in
-    let ls = bind_ok (with_front d.shown (lits_in d.names raws)) (λ ls. few_monos raws >>= λ few. read_ok (then ls)) e r.2 in
-    let f = bind_ok (few_monos raws) (λ few. read_ok (then ls.0)) e ls.2 in
+    let ls = bind_ok (with_front d.shown (lits_in d.names raws)) (λ ls. check_literal_limits raws >>= λ few. read_ok (then ls)) e r.2 in
+    let f = bind_ok (check_literal_limits raws) (λ few. read_ok (then ls.0)) e ls.2 in
     ap (λ (x : TheoremParser). x.section) (sym (ok_is (then ls.0) e f.2))
 
 stays : (known : Known) (c e : Held) (b : Bool) (f : RawLine) → c.defines ≡ b → (b ≡ true → (raws : List RawLit) × (f ≡ rawlines.Show raws))

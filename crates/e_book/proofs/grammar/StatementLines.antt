@@ -22,7 +22,7 @@ use Rattle.e_line.specs.Reading.{◌>>=◌}
 use Rattle.e_names.specs.TitledStatements.{TitledStatement}
 use Rattle.e_line.specs.Limits.{most_of, most_steps, most_depth, most_facts, most_terms, what_of, within, count_monomials}
 use Rattle.e_names.specs.Scope.{fresh, lit_in, lits_in}
-use Rattle.e_line.specs.LineLimits.{count_monos, few_monos}
+use Rattle.e_line.specs.LineLimits.{count_raw_monomials, check_literal_limits}
 use Rattle.e_book.specs.LineLimits.{FewNamed}
 use Rattle.e_book.specs.Steps.{line_may_come, with_declared, with_terms, after_declare, after_given, after_made, after_show, after_proof}
 use Rattle.e_book.specs.ParserViews.{statement_of_parser}
@@ -198,13 +198,13 @@ given_alike : (known : List TitledStatement) (d : TheoremParser) (raws : List Ra
 given_alike known d raws ls u few some none e =
     let f = rawlines.Given raws in
     let facts = d.facts + length raws in
-    let terms = d.terms + count_monos raws in
+    let terms = d.terms + count_raw_monomials raws in
     let y : TheoremParser = record d { given = d.given ++ ls; facts = facts; section = places.Giving } in
     let n = Stating (head_of y) in
     let x : TheoremParser = record y { terms = terms } in
     let next : Result TheoremParser FaultKind = with_terms y raws in
     let count : length ls ≡ length raws = each_length (lit_in d.names) raws ls e in
-    let sum : count_monomials ls ≡ count_monos raws = lits_count d.names raws ls e in
+    let sum : count_monomials ls ≡ count_raw_monomials raws = lits_count d.names raws ls e in
     let k : facts ≡ length (d.given ++ ls) = omega (arith, u.facts, count, length-append d.given ls) in
     let m : terms ≡ count_monomials (d.given ++ ls) = omega (arith, u.terms, sum, monomials-append d.given ls) in
     let at : LineContext = record { names = d.names; facts = d.given ++ ls } in
@@ -239,7 +239,7 @@ pub show_alike : (known : List TitledStatement) (p : Section) (d : TheoremParser
 show_alike known p d raws st u few some =
     let f = rawlines.Show raws in
     let said : List Lit → Result Open FaultKind = λ ls. read_open (Stating (head_of (record d { shown = d.shown ++ ls }))) in
-    let next : List Lit → Result TheoremParser FaultKind = λ ls. few_monos raws >>= λ few. read_ok (record d { shown = ls; section = places.Showing }) in
+    let next : List Lit → Result TheoremParser FaultKind = λ ls. check_literal_limits raws >>= λ few. read_ok (record d { shown = ls; section = places.Showing }) in
     let g = few_given d u in
     let k = length d.given in
     let m = count_monomials d.given in
@@ -248,7 +248,7 @@ show_alike known p d raws st u few some =
     (λ ls e.
     let x : TheoremParser = record d { shown = d.shown ++ ls; section = places.Showing } in
     let n = Stating (head_of x) in
-    let r : Result TheoremParser FaultKind = few_monos raws >>= λ few. read_ok x in
+    let r : Result TheoremParser FaultKind = check_literal_limits raws >>= λ few. read_ok x in
     let count : length ls ≡ length raws = each_length (lit_in d.names) raws ls e in
     let stands : Stands places.Showing x = some_after d.shown ls (omega (arith, some, count)) in
     pass_objects known r n raws d.names 0 0 k m 0 few

@@ -37,7 +37,7 @@ use Rattle.e_book.specs.Blocks.{is_claim, has_claim, made_in}
 use Rattle.e_names.specs.Scope.{scope_of_names, lit_in, lits_in, by_in, let_in, qed_in}
 use Rattle.e_names.specs.Superposes.{superpose_in}
 use Rattle.e_names.specs.Applies.{count_blanks, apply_in}
-use Rattle.e_line.specs.LineLimits.{count_monos, few_monos}
+use Rattle.e_line.specs.LineLimits.{count_raw_monomials, check_literal_limits}
 use Rattle.e_book.specs.LineLimits.{few_objects}
 use Rattle.e_book.specs.Steps.{terms_after, with_terms, with_step, after_let, with_use, after_apply, outer_of, inside_if_room, after_claim, after_superpose, after_cases, counted_from, after_inner_block, closed_inside, parser_after_close, after_close_line, after_line}
 use Rattle.e_book.specs.ParserViews.{script_of_close}
@@ -112,7 +112,7 @@ keeps_hence known d e r g at said h =
     let s = step_taken d x.0 (Inferred l.0 None) 1 x.1 in
     let y : TheoremParser = record d { lines = d.lines + 1; steps = d.steps ++ Inferred l.0 None ∷ []; facts = d.facts + 1 } in
     let t = terms_added y e (r ∷ []) (ap (λ (z : TheoremParser). with_terms z (r ∷ [])) s.is ∙ x.2) in
-    let z : TheoremParser = record y { terms = d.terms + count_monos (r ∷ []) } in
+    let z : TheoremParser = record y { terms = d.terms + count_raw_monomials (r ∷ []) } in
     let n = one_count d.in_scope r l.0 l.1 in
     let same : here known z ≡ with_lit (here known d) l.0 = ap (λ (k : ℕ). spot (stated_by known) d.in_scope (d.facts + 1) (d.terms + k)) n in
     let o = open_more (start known d) d.made d.blocks d.steps (here known d) (here known z) d.lines (Inferred l.0 None) (open_at known d at g.body) refl
@@ -208,10 +208,10 @@ opens known d op to o fit none deep is =
 keeps_claimed : (known : List TitledStatement) (d e : TheoremParser) (raws : List RawLit) → Good known d → d.section ≡ Proving → LitsSaid raws → after_claim d raws ≡ Ok e → Good known e
 unfolding after_claim
 keeps_claimed known d e raws g at said h =
-    let ls = bind_ok (lits_in d.in_scope raws) (λ ls. inside_if_room d (kind.Claim ls) 0 >>= λ x. few_monos raws >>= λ few. read_ok x) e h in
+    let ls = bind_ok (lits_in d.in_scope raws) (λ ls. inside_if_room d (kind.Claim ls) 0 >>= λ x. check_literal_limits raws >>= λ few. read_ok x) e h in
     let op = kind.Claim ls.0 in
-    let x = bind_ok (inside_if_room d op 0) (λ x. few_monos raws >>= λ few. read_ok x) e ls.2 in
-    let f = bind_ok (few_monos raws) (λ few. read_ok x.0) e x.2 in
+    let x = bind_ok (inside_if_room d op 0) (λ x. check_literal_limits raws >>= λ few. read_ok x) e ls.2 in
+    let f = bind_ok (check_literal_limits raws) (λ few. read_ok x.0) e x.2 in
     let w = goes_deeper d x.0 op 0 x.1 in
     let y : TheoremParser = record d { lines = d.lines + 1; blocks = outer_of d op ∷ d.blocks; steps = []; facts = d.facts + 0 } in
     let same : here known d ≡ here known y = ap (λ (n : ℕ). spot (stated_by known) d.in_scope n d.terms) (omega arith) in
@@ -228,12 +228,12 @@ keeps_superposed known d e raw g at said h =
     let given : Superpose → List Lit = λ form. superposing.gives_of_superposition form (scope_of_names d.in_scope) in
     let after = named d.in_scope superposing.sorts_copied raw.new in
     let then : TheoremParser → ℕ → Result TheoremParser FaultKind = λ x n. read_ok (record x { in_scope = after; terms = n }) in
-    let p = bind_ok (superpose_in d.in_scope raw) (λ p. few_objects after >>= λ objects. inside_if_room d (kind.Superpose p.0 raw.new p.1) (length (given p.0)) >>= λ x. few_monos raw.shown >>= λ few. terms_after x.terms (given p.0) >>= λ n. then x n) e h in
+    let p = bind_ok (superpose_in d.in_scope raw) (λ p. few_objects after >>= λ objects. inside_if_room d (kind.Superpose p.0 raw.new p.1) (length (given p.0)) >>= λ x. check_literal_limits raw.shown >>= λ few. terms_after x.terms (given p.0) >>= λ n. then x n) e h in
     let form = p.0.0 in
     let op = kind.Superpose form raw.new p.0.1 in
-    let b = bind_ok (few_objects after) (λ objects. inside_if_room d op (length (given form)) >>= λ x. few_monos raw.shown >>= λ few. terms_after x.terms (given form) >>= λ n. then x n) e p.2 in
-    let x = bind_ok (inside_if_room d op (length (given form))) (λ x. few_monos raw.shown >>= λ few. terms_after x.terms (given form) >>= λ n. then x n) e b.2 in
-    let f = bind_ok (few_monos raw.shown) (λ few. terms_after x.0.terms (given form) >>= λ n. then x.0 n) e x.2 in
+    let b = bind_ok (few_objects after) (λ objects. inside_if_room d op (length (given form)) >>= λ x. check_literal_limits raw.shown >>= λ few. terms_after x.terms (given form) >>= λ n. then x n) e p.2 in
+    let x = bind_ok (inside_if_room d op (length (given form))) (λ x. check_literal_limits raw.shown >>= λ few. terms_after x.terms (given form) >>= λ n. then x n) e b.2 in
+    let f = bind_ok (check_literal_limits raw.shown) (λ few. terms_after x.0.terms (given form) >>= λ n. then x.0 n) e x.2 in
     let n = bind_ok (terms_after x.0.terms (given form)) (λ n. then x.0 n) e f.2 in
     let w = goes_deeper d x.0 op (length (given form)) x.1 in
     let y : TheoremParser = record d { lines = d.lines + 1; blocks = outer_of d op ∷ d.blocks; steps = []; facts = d.facts + length (given form) } in
@@ -258,7 +258,7 @@ keeps_split known d e r g at said h =
     let w = goes_deeper d x.0 op 1 x.1 in
     let y : TheoremParser = record d { lines = d.lines + 1; blocks = outer_of d op ∷ d.blocks; steps = []; facts = d.facts + 1 } in
     let t = terms_added y e (r ∷ []) (ap (λ (z : TheoremParser). with_terms z (r ∷ [])) w.is ∙ x.2) in
-    let z : TheoremParser = record y { terms = d.terms + count_monos (r ∷ []) } in
+    let z : TheoremParser = record y { terms = d.terms + count_raw_monomials (r ∷ []) } in
     let n = one_count d.in_scope r l.0 l.1 in
     let same : with_lit (here known d) l.0 ≡ here known z = ap (λ (k : ℕ). spot (stated_by known) d.in_scope (d.facts + 1) (d.terms + k)) (sym n) in
     let fit : SplitFits (here known d) l.0 = record { over = lit_in_scope d.in_scope r l.0 l.1; good = good_one d.in_scope r l.0 l.1 said t.few; facts = w.facts; terms = omega (arith, t.within, n) } in

@@ -37,7 +37,7 @@ use Rattle.e_line.specs.Limits.{most_theorems, most_of, most_facts, what_of, wit
 use Rattle.e_names.specs.TitledStatements.{TitledStatement, is_known, stated_by}
 use Rattle.e_names.specs.Scope.{scope_of_names, fresh, lit_in, lits_in}
 use Rattle.e_line.specs.RawLines.{raw_line_of}
-use Rattle.e_line.specs.LineLimits.{count_monos, few_monos}
+use Rattle.e_line.specs.LineLimits.{count_raw_monomials, check_literal_limits}
 use Rattle.e_book.specs.LineLimits.{FewNamed}
 use Rattle.e_book.specs.Steps.{with_terms, line_may_come, with_declared, after_line, step, begin, with_title}
 use Rattle.e_book.specs.ParserViews.{script_of_close, entry_of_parser, statement_of_parser}
@@ -175,10 +175,10 @@ keeps_given known d e raws good a said h =
     let was : scope_of_names d.names ≡ with_sorts nothing d.declared = sym g.scope ∙ ap (with_sorts (with_sorts nothing d.declared)) at.0 in
     let gs = d.given ++ ls.0 in
     let t = terms_added (then gs) e raws (ap (λ (l : List Lit). with_terms (then l) raws) (ok_is gs all.0 ls.2) ∙ w.2) in
-    let x : TheoremParser = record (then gs) { terms = d.terms + count_monos raws } in
+    let x : TheoremParser = record (then gs) { terms = d.terms + count_raw_monomials raws } in
     let none : NoProofOf d = at.2 in
     let facts : count ≡ length gs = omega (arith, none.facts, n, length-append d.given ls.0) in
-    let terms : d.terms + count_monos raws ≡ count_monomials gs = omega (arith, none.terms, m, monomials-append d.given ls.0) in
+    let terms : d.terms + count_raw_monomials raws ≡ count_monomials gs = omega (arith, none.terms, m, monomials-append d.given ls.0) in
     let head : HeadOf known x = record {
       new = g.new;
       scope = g.scope;
@@ -224,9 +224,9 @@ unfolding after_line
 keeps_shown known d e raws good a said h =
     let g = good.head in
     let then : List Lit → TheoremParser = λ ls. record d { shown = ls; section = Showing } in
-    let all = bind_ok (with_front d.shown (lits_in d.names raws)) (λ ls. few_monos raws >>= λ few. read_ok (then ls)) e h in
+    let all = bind_ok (with_front d.shown (lits_in d.names raws)) (λ ls. check_literal_limits raws >>= λ few. read_ok (then ls)) e h in
     let ls = bind_ok (lits_in d.names raws) (λ xs. read_ok (d.shown ++ xs)) all.0 all.1 in
-    let f = bind_ok (few_monos raws) (λ few. read_ok (then all.0)) e all.2 in
+    let f = bind_ok (check_literal_limits raws) (λ few. read_ok (then all.0)) e all.2 in
     let few = few_ok raws f.0 f.1 in
     let x : TheoremParser = then (d.shown ++ ls.0) in
     let x-is : x ≡ e = ap then (ok_is (d.shown ++ ls.0) all.0 ls.2) ∙ ok_is (then all.0) e f.2 in

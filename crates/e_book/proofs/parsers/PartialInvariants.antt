@@ -36,7 +36,7 @@ use Rattle.e_names.specs.Taken.{is_taken}
 use Rattle.e_names.specs.Titled.{defines, are_notions}
 use Rattle.e_line.specs.Limits.{most_notions, most_expanded, within}
 use Rattle.e_names.specs.Scope.{scope_of_names, right_count, lit_in, lits_in}
-use Rattle.e_line.specs.LineLimits.{few_monos}
+use Rattle.e_line.specs.LineLimits.{check_literal_limits}
 use Rattle.e_names.specs.Canonical.{raw_of}
 use Rattle.e_book.specs.ParserViews.{entry_of_parser}
 use Rattle.e_book.specs.Steps.{line_may_come, with_declared, after_declare, after_show, with_title, begin, step}
@@ -158,9 +158,9 @@ unfolding defines_on
 definition_shows known d e raws g s h =
     let then : List Lit → TheoremParser = λ ls. record d { shown = ls; section = places.Showing } in
     let r = bind_ok (right_count (line_may_come d.section (rawlines.Show raws))) (λ right. after_show d raws) e h in
-    let all = bind_ok (with_front d.shown (lits_in d.names raws)) (λ ls. few_monos raws >>= λ few. read_ok (then ls)) e r.2 in
+    let all = bind_ok (with_front d.shown (lits_in d.names raws)) (λ ls. check_literal_limits raws >>= λ few. read_ok (then ls)) e r.2 in
     let ls = bind_ok (lits_in d.names raws) (λ xs. read_ok (d.shown ++ xs)) all.0 all.1 in
-    let f = bind_ok (few_monos raws) (λ few. read_ok (then all.0)) e all.2 in
+    let f = bind_ok (check_literal_limits raws) (λ few. read_ok (then all.0)) e all.2 in
     let is : then all.0 ≡ e = ok_is (then all.0) e f.2 in
     let to : e.section ≡ places.Showing = ap (λ (x : TheoremParser). x.section) (sym is) in
     let count : 0 < length all.0 = omega (arith, s.0, each_length (lit_in d.names) raws ls.0 ls.1, length-append d.shown ls.0, ap (λ (x : List Lit). length x) (ok_is (d.shown ++ ls.0) all.0 ls.2)) in

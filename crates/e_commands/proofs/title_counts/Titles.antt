@@ -20,7 +20,7 @@ use Rattle.e_line.specs.declared.items.Listing.TheVariants as listings
 use Rattle.e_line.specs.declared.items.BookLine.{BookLine}
 use Rattle.e_line.specs.declared.items.BookLine.TheVariants.{Plain, Define, Listed}
 use Rattle.e_names.specs.declared.known.Known.{Known}
-use Rattle.e_line.specs.Reading.{◌>>=◌, word_at, first_title, end_at, cut_at, names_of, some_names}
+use Rattle.e_line.specs.Reading.{◌>>=◌, first_word, first_title, no_word_left, cut_at, names_of, some_names}
 use Rattle.e_line.specs.Literals.{lit_of, diagram_lit_of, lits_of}
 use Rattle.e_line.specs.Superposes.{superpose_of}
 use Rattle.e_line.specs.Lets.{let_of}
@@ -97,7 +97,7 @@ declared sort ws = read_on (some_names ws) (λ ns. read_ok (rawlines.Declare sor
 made : (ws : List (List ℕ)) → IsNoTitle (made_of ws)
 unfolding made_of
 made ws =
-    read_on (word_at ws) (λ w. sort_of w.0 >>= λ sort. some_names w.1 >>= λ ns. read_ok (rawlines.Made sort ns))
+    read_on (first_word ws) (λ w. sort_of w.0 >>= λ sort. some_names w.1 >>= λ ns. read_ok (rawlines.Made sort ns))
     (λ w. read_on (sort_of w.0) (λ sort. some_names w.1 >>= λ ns. read_ok (rawlines.Made sort ns))
     (λ sort. read_on (some_names w.1) (λ ns. read_ok (rawlines.Made sort ns)) (λ ns. tt)))
 
@@ -114,7 +114,7 @@ cited ws =
 
 alone : (ws : List (List ℕ)) (raw_line : RawLine) → IsNoTitle (Ok raw_line) → IsNoTitle (bare_line ws raw_line)
 unfolding bare_line
-alone ws raw_line h = read_on (end_at ws) (λ none. read_ok raw_line) (λ none. h)
+alone ws raw_line h = read_on (no_word_left ws) (λ none. read_ok raw_line) (λ none. h)
 
 no_title : (w : List ℕ) (ws : List (List ℕ)) → bytes_eq w (codes "theorem") ≡ false → IsNoTitle (raw_line_named w ws)
 unfolding raw_line_named
@@ -171,8 +171,8 @@ listed_none line ws l e = of_reading (λ m. is_title_line m ≡ false) (items_of
 define_none : (ws : List (List ℕ)) (l : BookLine) → define_of ws ≡ Ok l → is_title_line l ≡ false
 unfolding define_of
 define_none ws l e =
-    let t = bind_ok (first_title ws) (λ t. end_at t.1 >>= λ none. read_ok (Define t.0)) l e in
-    of_reading (λ m. is_title_line m ≡ false) (end_at t.0.1) (λ none. Define t.0.0) l (λ none k. refl) t.2
+    let t = bind_ok (first_title ws) (λ t. no_word_left t.1 >>= λ none. read_ok (Define t.0)) l e in
+    of_reading (λ m. is_title_line m ≡ false) (no_word_left t.0.1) (λ none. Define t.0.0) l (λ none k. refl) t.2
 
 plain_none : (w : List ℕ) (ws : List (List ℕ)) (l : BookLine) → bytes_eq w (codes "theorem") ≡ false → (raw_line_named w ws >>= λ f. read_ok (Plain f)) ≡ Ok l → is_title_line l ≡ false
 plain_none w ws l is e =
@@ -203,8 +203,8 @@ line_none w ws l is e =
 theorem_read : (ws : List (List ℕ)) (f : RawLine) → theorem_line_of ws ≡ Ok f → is_title_line (Plain f) ≡ true
 unfolding theorem_line_of
 theorem_read ws f e =
-    let t = bind_ok (first_title ws) (λ t. end_at t.1 >>= λ none. read_ok (rawlines.Theorem t.0)) f e in
-    of_reading (λ g. is_title_line (Plain g) ≡ true) (end_at t.0.1) (λ none. rawlines.Theorem t.0.0) f (λ none k. refl) t.2
+    let t = bind_ok (first_title ws) (λ t. no_word_left t.1 >>= λ none. read_ok (rawlines.Theorem t.0)) f e in
+    of_reading (λ g. is_title_line (Plain g) ≡ true) (no_word_left t.0.1) (λ none. rawlines.Theorem t.0.0) f (λ none k. refl) t.2
 
 theorem_line : (w : List ℕ) (ws : List (List ℕ)) → bytes_eq w (codes "theorem") ≡ true → line_named w ws ≡ (theorem_line_of ws >>= λ f. read_ok (Plain f))
 unfolding line_named raw_line_named

@@ -12,7 +12,7 @@ use Rattle.e_figure.specs.declared.figure.Round.{Round}
 use Rattle.e_figure.specs.Figure.{has_direction, has_inside, is_small_number, is_small_point, is_small_line, is_small_circle}
 use Rattle.e_line.specs.declared.literal.RawLit.{RawLit}
 use Rattle.e_line.specs.Canonical.{lits_words}
-use Rattle.e_line.specs.Reading.{word_at, first_name, end_at}
+use Rattle.e_line.specs.Reading.{first_word, first_name, no_word_left}
 use Rattle.e_line.specs.Literals.{is_diagram_raw, diagram_lits_of}
 use Rattle.e_line.proofs.read_again.NamesAgain.{named}
 use Rattle.e_line.proofs.read_again.LitsAgain.{LitNamed, lits_again, lits_tokens}
@@ -59,14 +59,14 @@ circle_parts c h =
 -- ---- lines are read again
 
 point_again : (name : List ℕ) (a : Point) → is_name name ≡ true → is_small_point a ≡ true → plan_point_of (name ∷ signed_decimal a.x ∷ signed_decimal a.y ∷ []) ≡ Ok (raw.Point name a)
-unfolding plan_point_of first_name word_at end_at
+unfolding plan_point_of first_name first_word no_word_left
 point_again name a n h =
     let p = point_parts a h in
     rw (named name n, next_coordinate a.x (signed_decimal a.y ∷ []) p.0, next_coordinate a.y [] p.1) refl
 
 straight_again : (name : List ℕ) (l : Straight) → is_name name ≡ true → is_small_line l ≡ true → has_direction l ≡ true
     → straight_of (name ∷ signed_decimal l.x ∷ signed_decimal l.y ∷ signed_decimal l.dx ∷ signed_decimal l.dy ∷ []) ≡ Ok (raw.Line name l)
-unfolding straight_of first_name word_at end_at
+unfolding straight_of first_name first_word no_word_left
 straight_again name l n h d =
     let p = line_parts l h in
     rw (
@@ -79,7 +79,7 @@ straight_again name l n h d =
     ) refl
 
 round_again : (name : List ℕ) (c : Round) → is_name name ≡ true → is_small_circle c ≡ true → has_inside c ≡ true → round_of (name ∷ signed_decimal c.x ∷ signed_decimal c.y ∷ decimal c.square ∷ []) ≡ Ok (raw.Circle name c)
-unfolding round_of first_name word_at end_at
+unfolding round_of first_name first_word no_word_left
 round_again name c n h i =
     let p = circle_parts c h in
     rw (named name n, next_coordinate c.x (signed_decimal c.y ∷ decimal c.square ∷ []) p.0, next_coordinate c.y (decimal c.square ∷ []) p.1, next_square c.square [] p.2, i) refl
@@ -89,7 +89,7 @@ unfolding diagram_lits_of
 diagram_again l h d = rw (lits_again (l ∷ []) (h, tt), d) refl
 
 pub line_again : (f : RawLine) → LineDrawn f → plan_line_of (plan_line_words f) ≡ Ok f
-unfolding plan_line_of plan_line_named end_at
+unfolding plan_line_of plan_line_named no_word_left
 line_again raw.Figure h = refl
 line_again (raw.Point name a) h = point_again name a h.0 h.1
 line_again (raw.Line name l) h = straight_again name l h.0 h.1 h.2

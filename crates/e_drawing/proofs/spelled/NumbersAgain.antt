@@ -10,7 +10,7 @@ use Rattle.e_text.specs.Tokens.{has_bytes, is_blank, is_token}
 use Rattle.e_text.proofs.NumeralWords.{is_numeral-decimal, number_of-decimal, is_token-numeral}
 use Rattle.e_text.proofs.TokenWords.{some_bytes}
 use Rattle.e_figure.specs.Figure.{is_small_number}
-use Rattle.e_line.specs.Reading.{word_at}
+use Rattle.e_line.specs.Reading.{first_word}
 use Rattle.e_drawing.specs.Numbers.{most_size, most_square, value_to, unsigned_of, negative_of, coordinate_of, square_of, coordinate_at, square_at}
 
 abbrev some : ℕ → Option ℕ
@@ -62,11 +62,11 @@ square_again n h = rw (numeral n (omega (arith, h)), value_again most_square n h
 -- ---- as the next word
 
 pub next_coordinate : (z : ℤ) (ws : List (List ℕ)) → is_small_number z ≡ true → coordinate_at (signed_decimal z ∷ ws) ≡ Ok (z, ws)
-unfolding coordinate_at word_at
+unfolding coordinate_at first_word
 next_coordinate z ws h = rw (coordinate_again z h) refl
 
 pub next_square : (n : ℕ) (ws : List (List ℕ)) → n ≤ most_square → square_at (decimal n ∷ ws) ≡ Ok (n, ws)
-unfolding square_at word_at
+unfolding square_at first_word
 next_square n ws h = rw (square_again n h) refl
 
 -- ---- tokens

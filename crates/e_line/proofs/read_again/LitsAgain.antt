@@ -10,13 +10,13 @@ use Rattle.e_text.specs.Names.{is_name, reserved_words}
 use Rattle.e_text.specs.Tokens.{AreTokens}
 use Rattle.e_text.proofs.TokenWords.{is_token-name}
 use Rattle.e_line.specs.declared.sum.RawMono.{RawMono}
-use Rattle.e_line.specs.declared.literal.Sign.{Sign}
-use Rattle.e_line.specs.declared.literal.Sign.TheVariants as signs
+use Rattle.e_line.specs.declared.literal.Relation.{Relation}
+use Rattle.e_line.specs.declared.literal.Relation.TheVariants as signs
 use Rattle.e_line.specs.declared.literal.RawLit.{RawLit}
 use Rattle.e_line.specs.declared.literal.RawAtom.{RawAtom}
 use Rattle.e_line.specs.declared.literal.RawAtom.TheVariants as raw
 use Rattle.e_line.specs.Reading.{each}
-use Rattle.e_line.specs.Literals.{sign_of, is_sign, single_name, sums_of, equal_sides, sides_of, negation_of, lit_of_sides, signed_lit, lit_by_first_word, signed_of, lit_of, is_diagram_raw, diagram_lit_of, is_semicolon, lits_of}
+use Rattle.e_line.specs.Literals.{relation_of, is_relation, single_name, sums_of, equal_sides, sides_of, negation_of, lit_of_sides, signed_lit, lit_by_first_word, signed_of, lit_of, is_diagram_raw, diagram_lit_of, is_semicolon, lits_of}
 use Rattle.e_line.specs.Canonical.{sum_words, sums_words, atom_words, signed_words, lit_words, more_words, lits_words}
 use Rattle.e_line.proofs.read_again.NamesAgain.{Without, named, first_place}
 use Rattle.e_line.proofs.read_again.LetsAgain.{append_tokens}
@@ -102,7 +102,7 @@ no_semicolon : is_mono_word (codes ";") ≡ false
 unfolding reserved_words
 no_semicolon = refl
 
-no_sign : (w : List ℕ) → is_mono_word w ≡ true → is_sign w ≡ false
+no_sign : (w : List ℕ) → is_mono_word w ≡ true → is_relation w ≡ false
 no_sign w h =
     let a = mono_word_differs w (codes "=") h no_equal in
     let b = mono_word_differs w (codes "!=") h no_differ in
@@ -110,18 +110,18 @@ no_sign w h =
     let d = mono_word_differs w (codes "<=") h no_at_most in
     rw (a, b, c, d) refl
 
-no_signs : (ms : List RawMono) → SumNamed ms → AllByRecursion (λ w. is_sign w ≡ false) (sum_words ms)
-no_signs ms h = sum_all (λ w. is_sign w ≡ false) no_sign refl ms h
+no_signs : (ms : List RawMono) → SumNamed ms → AllByRecursion (λ w. is_relation w ≡ false) (sum_words ms)
+no_signs ms h = sum_all (λ w. is_relation w ≡ false) no_sign refl ms h
 
 -- ---- comparisons are read again
 
-comparison : (negated neg : Bool) (w : List ℕ) (s : Sign) (left right : List (List ℕ)) (a : RawAtom) → AllByRecursion (λ v. is_sign v ≡ false) left → sign_of w ≡ Some s
+comparison : (negated neg : Bool) (w : List ℕ) (s : Relation) (left right : List (List ℕ)) (a : RawAtom) → AllByRecursion (λ v. is_relation v ≡ false) left → relation_of w ≡ Some s
     → negation_of negated s ≡ Ok neg → sides_of s left right ≡ Ok a → lit_of_sides negated (left ++ w ∷ right) ≡ Ok (signed_lit neg a)
 unfolding lit_of_sides
 comparison negated neg w s left right a none is n sides =
     let all = left ++ w ∷ right in
-    let sign : is_sign w ≡ true = ap is_some is in
-    let at : position_or_len is_sign all ≡ length left = first_place is_sign left w right none sign in
+    let sign : is_relation w ≡ true = ap is_some is in
+    let at : position_or_len is_relation all ≡ length left = first_place is_relation left w right none sign in
     let front = take_at left (w ∷ right) (length left) refl in
     let back = drop_at left (w ∷ right) (length left) refl in
     rw (at, front, back, is, n, sides) refl
@@ -149,7 +149,7 @@ sums_at_most : (x y : List RawMono) → SidesNamed x y → lit_of_sides false (s
 unfolding sides_of
 sums_at_most x y h = comparison false false (codes "<=") signs.AtMost (sum_words x) (sum_words y) (raw.SumsAtMost x y) (no_signs x h.left) refl refl (rw (sides_again x y h) refl)
 
-objects_again : (neg : Bool) (w : List ℕ) (s : Sign) (x y : List ℕ) → is_name x ≡ true → is_name y ≡ true → sign_of w ≡ Some s → negation_of false s ≡ Ok neg
+objects_again : (neg : Bool) (w : List ℕ) (s : Relation) (x y : List ℕ) → is_name x ≡ true → is_name y ≡ true → relation_of w ≡ Some s → negation_of false s ≡ Ok neg
     → sides_of s (x ∷ []) (y ∷ []) ≡ Ok (raw.Equal x y) → lit_of_sides false (x ∷ w ∷ y ∷ []) ≡ Ok (signed_lit neg (raw.Equal x y))
 objects_again neg w s x y hx hy is n sides = comparison false neg w s (x ∷ []) (y ∷ []) (raw.Equal x y) (no_sign x (name_word x hx), tt) is n sides
 

@@ -9,7 +9,7 @@ use Rattle.e_line.specs.declared.fault.FaultKind.TheVariants.{Malformed}
 use Rattle.e_line.specs.declared.literal.RawLit.{RawLit}
 use Rattle.e_line.specs.declared.raw_line.RawLine.{RawLine}
 use Rattle.e_line.specs.declared.raw_line.RawLine.TheVariants as rawlines
-use Rattle.e_line.specs.Reading.{◌>>=◌, word_at, first_title, end_at, cut_at, names_of}
+use Rattle.e_line.specs.Reading.{◌>>=◌, first_word, first_title, no_word_left, cut_at, names_of}
 use Rattle.e_line.specs.Literals.{is_diagram_raw, diagram_lit_of}
 use Rattle.e_line.specs.RawLines.{declare_of, sort_of, made_of, by_of, theorem_line_of, bare_line, raw_line_named, raw_line_of}
 use Rattle.e_line.specs.Canonical.{lit_words, sort_word, raw_line_words}
@@ -61,7 +61,7 @@ no_colon [] h = tt
 no_colon (n ∷ ns) h = (name_differs n (codes ":") h.0 refl, no_colon ns h.1)
 
 made_again : (sort : Sort) (n : List ℕ) (ns : List (List ℕ)) → AreNames (n ∷ ns) → made_of (sort_word sort ∷ n ∷ ns) ≡ Ok (rawlines.Made sort (n ∷ ns))
-unfolding made_of sort_of word_at
+unfolding made_of sort_of first_word
 made_again sorts.Point n ns h = rw (some_names_again n ns h) refl
 made_again sorts.Line n ns h = rw (some_names_again n ns h) refl
 made_again sorts.Circle n ns h = rw (some_names_again n ns h) refl
@@ -70,14 +70,14 @@ abbrev by_rest : List ℕ → List (List ℕ) × List (List ℕ) × Bool → Res
 by_rest r parts = cond parts.2 (names_of parts.0 >>= λ ns. diagram_lit_of parts.1 >>= λ l. Ok (rawlines.By r ns l)) (Err Malformed)
 
 by_again : (r : List ℕ) (ns : List (List ℕ)) (l : RawLit) → is_title r ≡ true → AreNames ns → LitNamed l → is_diagram_raw l.atom ≡ true → by_of (r ∷ (ns ++ codes ":" ∷ lit_words l)) ≡ Ok (rawlines.By r ns l)
-unfolding by_of first_title word_at
+unfolding by_of first_title first_word
 by_again r ns l hr hns hl hd =
     let all = ns ++ codes ":" ∷ lit_words l in
     let one : by_of (r ∷ all) ≡ by_rest r (cut_at (codes ":") all) = rw (titled r hr) refl in
     one ∙ ap (by_rest r) (cut_again (codes ":") ns (lit_words l) (no_colon ns hns)) ∙ rw (names_again ns hns, diagram_again l hl hd) refl
 
 pub form_again : (f : RawLine) → GoodForm f → raw_line_of (raw_line_words f) ≡ Ok (as_read f)
-unfolding raw_line_of raw_line_named theorem_line_of bare_line first_title word_at end_at
+unfolding raw_line_of raw_line_named theorem_line_of bare_line first_title first_word no_word_left
 form_again (rawlines.Theorem t) h = rw (titled t h) refl
 form_again (rawlines.Declare sort []) h = absurd h
 form_again (rawlines.Declare sorts.Point (n ∷ ns)) h = declare_again sorts.Point n ns h

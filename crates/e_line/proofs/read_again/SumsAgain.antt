@@ -17,7 +17,7 @@ use Rattle.e_line.specs.declared.sum.RawTerm.{RawTerm}
 use Rattle.e_line.specs.declared.sum.RawTerm.TheVariants.{Seg, Ang, Area, Right}
 use Rattle.e_line.specs.declared.sum.RawMono.{RawMono}
 use Rattle.e_line.specs.Limits.{most_coefficient}
-use Rattle.e_line.specs.Reading.{each, two_names, three_names, word_at, first_name, end_at}
+use Rattle.e_line.specs.Reading.{each, two_names, three_names, first_word, first_name, no_word_left}
 use Rattle.e_line.specs.Sums.{term_named, term_of, coefficient_of, counted_term, mono_of, is_plus, is_zero, sum_of}
 use Rattle.e_line.specs.Literals.{single_name}
 use Rattle.e_line.specs.Canonical.{term_words, coefficient_words, mono_words, more_monos, sum_words}
@@ -142,15 +142,15 @@ sum_tokens (m ∷ ms) h = append_tokens (mono_words m) (more_monos ms) (mono_tok
 -- ---- terms and monomials are read again
 
 pub two_again : (x y : List ℕ) → is_name x ≡ true → is_name y ≡ true → two_names (x ∷ y ∷ []) ≡ Ok (x, y)
-unfolding two_names word_at first_name end_at
+unfolding two_names first_word first_name no_word_left
 two_again x y hx hy = rw (named x hx, named y hy) refl
 
 pub three_again : (x y z : List ℕ) → is_name x ≡ true → is_name y ≡ true → is_name z ≡ true → three_names (x ∷ y ∷ z ∷ []) ≡ Ok (x, y, z)
-unfolding three_names word_at first_name end_at
+unfolding three_names first_word first_name no_word_left
 three_again x y z hx hy hz = rw (named x hx, named y hy, named z hz) refl
 
 pub term_again : (t : RawTerm) → TermNamed t → term_of (term_words t) ≡ Ok t
-unfolding term_of term_named end_at
+unfolding term_of term_named no_word_left
 term_again (Seg x y) h = rw (two_again x y h.0 h.1) refl
 term_again (Ang x y z) h = rw (three_again x y z h.0 h.1 h.2) refl
 term_again (Area x y z) h = rw (three_again x y z h.0 h.1 h.2) refl
@@ -161,7 +161,7 @@ mono n t = record { coeff = n; term = t }
 
 -- without a numeral before it
 bare_again : (t : RawTerm) → TermNamed t → mono_of (term_words t) ≡ Ok (mono 1 t)
-unfolding mono_of term_named end_at
+unfolding mono_of term_named no_word_left
 bare_again (Seg x y) h = rw (two_again x y h.0 h.1) refl
 bare_again (Ang x y z) h = rw (three_again x y z h.0 h.1 h.2) refl
 bare_again (Area x y z) h = rw (three_again x y z h.0 h.1 h.2) refl

@@ -12,7 +12,7 @@ use Rattle.e_line.specs.declared.items.Listing.{Listing}
 use Rattle.e_line.specs.declared.items.Listing.TheVariants as listings
 use Rattle.e_line.specs.declared.items.BookLine.{BookLine}
 use Rattle.e_line.specs.declared.items.BookLine.TheVariants.{Plain, Define, Listed}
-use Rattle.e_line.specs.Reading.{◌>>=◌, or_malformed, each, first_title, end_at, names_of}
+use Rattle.e_line.specs.Reading.{◌>>=◌, or_malformed, each, first_title, no_word_left, names_of}
 use Rattle.e_line.specs.Literals.{is_semicolon, lit_of}
 use Rattle.e_line.specs.Lets.{are_words_of, new_words, argument_words}
 use Rattle.e_line.specs.Superposes.{superpose_pieces}
@@ -69,8 +69,8 @@ listed_said words line ws l h e = of_reading (LineSaid words) (items_of ws) (λ 
 define_said : (words ws : List (List ℕ)) (l : BookLine) → define_of ws ≡ Ok l → LineSaid words l
 unfolding define_of
 define_said words ws l e =
-    let t = bind_ok (first_title ws) (λ t. end_at t.1 >>= λ none. read_ok (Define t.0)) l e in
-    of_reading (LineSaid words) (end_at t.0.1) (λ none. Define t.0.0) l (λ none k. title_said ws t.0 t.1) t.2
+    let t = bind_ok (first_title ws) (λ t. no_word_left t.1 >>= λ none. read_ok (Define t.0)) l e in
+    of_reading (LineSaid words) (no_word_left t.0.1) (λ none. Define t.0.0) l (λ none k. title_said ws t.0 t.1) t.2
 
 placing_said : (head : List (List ℕ)) (line : Listing) → placing_of head ≡ Ok line → ListingSaid line
 unfolding placing_of

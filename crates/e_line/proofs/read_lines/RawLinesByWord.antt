@@ -12,7 +12,7 @@ use Rattle.e_line.specs.declared.superposes.RawSuperpose.{RawSuperpose}
 use Rattle.e_line.specs.declared.applies.RawApply.{RawApply}
 use Rattle.e_line.specs.declared.raw_line.RawLine.{RawLine}
 use Rattle.e_line.specs.declared.raw_line.RawLine.TheVariants as rawlines
-use Rattle.e_line.specs.Reading.{◌>>=◌, word_at, first_title, end_at, cut_at, names_of, some_names}
+use Rattle.e_line.specs.Reading.{◌>>=◌, first_word, first_title, no_word_left, cut_at, names_of, some_names}
 use Rattle.e_line.specs.Literals.{lit_of, diagram_lit_of, lits_of}
 use Rattle.e_line.specs.Superposes.{superpose_of}
 use Rattle.e_line.specs.Lets.{let_of}
@@ -44,8 +44,8 @@ pub record OfEachForm (P : RawLine → Type 0) : Type 0 where
 theorem_by_word : (P : RawLine → Type 0) → OfEachForm P → (ws : List (List ℕ)) (f : RawLine) → theorem_line_of ws ≡ Ok f → P f
 unfolding theorem_line_of
 theorem_by_word P h ws f e =
-    let a = bind_ok (first_title ws) (λ t. end_at t.1 >>= λ none. read_ok (rawlines.Theorem t.0)) f e in
-    of_reading P (end_at a.0.1) (λ none. rawlines.Theorem a.0.0) f (λ none k. h.of_theorem ws a.0 a.1) a.2
+    let a = bind_ok (first_title ws) (λ t. no_word_left t.1 >>= λ none. read_ok (rawlines.Theorem t.0)) f e in
+    of_reading P (no_word_left a.0.1) (λ none. rawlines.Theorem a.0.0) f (λ none k. h.of_theorem ws a.0 a.1) a.2
 
 declare_by_word : (P : RawLine → Type 0) → OfEachForm P → (sort : Sort) (ws : List (List ℕ)) (f : RawLine) → declare_of sort ws ≡ Ok f → P f
 unfolding declare_of
@@ -54,7 +54,7 @@ declare_by_word P h sort ws f e = of_reading P (some_names ws) (λ ns. rawlines.
 made_by_word : (P : RawLine → Type 0) → OfEachForm P → (ws : List (List ℕ)) (f : RawLine) → made_of ws ≡ Ok f → P f
 unfolding made_of
 made_by_word P h ws f e =
-    let w = bind_ok (word_at ws) (λ w. sort_of w.0 >>= λ sort. some_names w.1 >>= λ ns. read_ok (rawlines.Made sort ns)) f e in
+    let w = bind_ok (first_word ws) (λ w. sort_of w.0 >>= λ sort. some_names w.1 >>= λ ns. read_ok (rawlines.Made sort ns)) f e in
     let s = bind_ok (sort_of w.0.0) (λ sort. some_names w.0.1 >>= λ ns. read_ok (rawlines.Made sort ns)) f w.2 in
     of_reading P (some_names w.0.1) (λ ns. rawlines.Made s.0 ns) f (h.of_made s.0 w.0.1) s.2
 
@@ -70,7 +70,7 @@ by_by_word P h ws f e =
 
 bare_by_word : (P : RawLine → Type 0) (ws : List (List ℕ)) (g f : RawLine) → P g → bare_line ws g ≡ Ok f → P f
 unfolding bare_line
-bare_by_word P ws g f h e = of_reading P (end_at ws) (λ none. g) f (λ none k. h) e
+bare_by_word P ws g f h e = of_reading P (no_word_left ws) (λ none. g) f (λ none k. h) e
 
 no_form : (P : RawLine → Type 0) (f : RawLine) → Err Malformed ≡ read_ok f → P f
 no_form P f e = absurd cc

@@ -12,14 +12,14 @@ use Rattle.e_line.specs.declared.fault.FaultKind.{FaultKind}
 use Rattle.e_line.specs.declared.fault.FaultKind.TheVariants.{Malformed}
 use Rattle.e_line.specs.declared.sum.RawTerm.{RawTerm}
 use Rattle.e_line.specs.declared.sum.RawMono.{RawMono}
-use Rattle.e_line.specs.declared.literal.Sign.{Sign}
-use Rattle.e_line.specs.declared.literal.Sign.TheVariants as signs
+use Rattle.e_line.specs.declared.literal.Relation.{Relation}
+use Rattle.e_line.specs.declared.literal.Relation.TheVariants as signs
 use Rattle.e_line.specs.declared.literal.RawLit.{RawLit}
 use Rattle.e_line.specs.declared.literal.RawAtom.{RawAtom}
 use Rattle.e_line.specs.declared.literal.RawAtom.TheVariants as raw
 use Rattle.e_line.specs.Reading.{◌>>=◌, each}
 use Rattle.e_line.specs.Sums.{term_named, term_of, coefficient_of, counted_term, mono_of, is_plus, is_zero, sum_of}
-use Rattle.e_line.specs.Literals.{is_sign, single_name, sums_of, equal_sides, sides_of, negation_of, sign_first, lit_of_sides, signed_lit, lit_of, is_diagram_raw, diagram_lit_of, is_semicolon, lits_of}
+use Rattle.e_line.specs.Literals.{is_relation, single_name, sums_of, equal_sides, sides_of, negation_of, sign_first, lit_of_sides, signed_lit, lit_of, is_diagram_raw, diagram_lit_of, is_semicolon, lits_of}
 use Rattle.e_line.proofs.base.Bound.{bind_ok, ok_is, read_ok}
 use Rattle.e_line.proofs.base.Choices.{passed}
 use Rattle.e_line.proofs.read_lines.LitsByWord.{OfEachRelation, lit_by_word}
@@ -145,7 +145,7 @@ equal_said (Some x) (Some y) left right a e = to (raw.Equal x y) a tt e
 equal_said (Some x) None left right a e = from_sums raw.SumsEqual (λ x y h. h) left right a e
 equal_said None y left right a e = from_sums raw.SumsEqual (λ x y h. h) left right a e
 
-sides_said : (s : Sign) (left right : List (List ℕ)) (a : RawAtom) → sides_of s left right ≡ Ok a → AtomSaid a
+sides_said : (s : Relation) (left right : List (List ℕ)) (a : RawAtom) → sides_of s left right ≡ Ok a → AtomSaid a
 unfolding sides_of
 sides_said signs.Equal left right a e = equal_said (single_name left) (single_name right) left right a e
 sides_said signs.Differ left right a e = equal_said (single_name left) (single_name right) left right a e
@@ -158,7 +158,7 @@ LitSaid l = AtomSaid l.atom
 compared_said : (negated : Bool) (ws : List (List ℕ)) (l : RawLit) → lit_of_sides negated ws ≡ Ok l → LitSaid l
 unfolding lit_of_sides
 compared_said negated ws l e =
-    let n = position_or_len is_sign ws in
+    let n = position_or_len is_relation ws in
     let s = bind_ok (sign_first (drop n ws)) (λ s. negation_of negated s.0 >>= λ neg. sides_of s.0 (take n ws) s.1 >>= λ a. read_ok (signed_lit neg a)) l e in
     let neg = bind_ok (negation_of negated s.0.0) (λ neg. sides_of s.0.0 (take n ws) s.0.1 >>= λ a. read_ok (signed_lit neg a)) l s.2 in
     let a = bind_ok (sides_of s.0.0 (take n ws) s.0.1) (λ a. read_ok (signed_lit neg.0 a)) l neg.2 in

@@ -3,7 +3,7 @@ use Rattle.std.proofs.Common.{◌≡◌, ℕ, ◌+◌, Bool, true, false, cond, 
 use Rattle.std.proofs.lemmas.Bool.{and_parts}
 use Rattle.e_text.specs.Names.{is_name, is_title, name_of, title_of}
 use Rattle.e_construct.specs.Lines.{Piece}
-use Rattle.e_line.specs.Reading.{◌>>=◌, or_malformed, word_at, first_title, names_of}
+use Rattle.e_line.specs.Reading.{◌>>=◌, or_malformed, first_word, first_title, names_of}
 use Rattle.e_line.specs.Lets.{is_word_of, are_words_of, is_place, words_at}
 use Rattle.e_line.specs.HasSpelling.{AreNames}
 use Rattle.e_line.proofs.base.Bound.{bind_ok, ok_is, read_ok}
@@ -18,7 +18,7 @@ abbrev pair : List ℕ → List (List ℕ) → List ℕ × List (List ℕ)
 pair w ws = (w, ws)
 
 pub title_said : (ws : List (List ℕ)) (p : List ℕ × List (List ℕ)) → first_title ws ≡ Ok p → is_title p.0 ≡ true
-unfolding first_title word_at
+unfolding first_title first_word
 title_said [] p e = absurd cc
 title_said (w ∷ ws) p e =
     let a = bind_ok (or_malformed (title_of w)) (λ n. read_ok (pair n ws)) p e in

@@ -16,7 +16,7 @@ use Rattle.e_deriv.specs.declared.names.Names.{Names}
 use Rattle.e_line.specs.declared.sum.RawMono.{RawMono}
 use Rattle.e_line.specs.Limits.{most_monomials, most_coefficient, monomials, count_monomials}
 use Rattle.e_line.specs.Literals.{monos_of}
-use Rattle.e_line.specs.LineLimits.{are_short, are_small, count_monos, few_monos}
+use Rattle.e_line.specs.LineLimits.{have_few_monomials, have_low_coefficients, count_raw_monomials, check_literal_limits}
 use Rattle.e_names.specs.Canonical.{raw_mono, raw_sum, raw_signed, raw_of}
 use Rattle.e_names.proofs.literals.ComparedSums.{is_bounded_mono, AreBounded, GoodSums, good_sums, turned}
 
@@ -53,26 +53,26 @@ short_lit ns false (atoms.MagLt x y) h = short_sums ns (kind_of_sums x y) x y (g
 short_lit ns true a h = short_none
 short_lit ns false a h = short_none
 
-pub few_again : (ns : Names) (l : Lit) → is_well_formed l ≡ true → few_monos (raw_of ns l ∷ []) ≡ Ok tt
-unfolding few_monos
+pub few_again : (ns : Names) (l : Lit) → is_well_formed l ≡ true → check_literal_limits (raw_of ns l ∷ []) ≡ Ok tt
+unfolding check_literal_limits
 few_again ns l h = let s = short_lit ns l.neg l.atom h in rw (s.short, s.small) refl
 
-short_lits : (ns : Names) (ls : List Lit) → list_all is_well_formed ls ≡ true → are_short (map (raw_of ns) ls) ≡ true
+short_lits : (ns : Names) (ls : List Lit) → list_all is_well_formed ls ≡ true → have_few_monomials (map (raw_of ns) ls) ≡ true
 short_lits ns [] h = refl
 short_lits ns (l ∷ ls) h =
     let p = and_parts (is_well_formed l) (list_all is_well_formed ls) h in
     let s = short_lit ns l.neg l.atom p.0 in
     rw (s.short, short_lits ns ls p.1) refl
 
-small_lits : (ns : Names) (ls : List Lit) → list_all is_well_formed ls ≡ true → are_small (map (raw_of ns) ls) ≡ true
+small_lits : (ns : Names) (ls : List Lit) → list_all is_well_formed ls ≡ true → have_low_coefficients (map (raw_of ns) ls) ≡ true
 small_lits ns [] h = refl
 small_lits ns (l ∷ ls) h =
     let p = and_parts (is_well_formed l) (list_all is_well_formed ls) h in
     let s = short_lit ns l.neg l.atom p.0 in
     rw (s.small, small_lits ns ls p.1) refl
 
-pub all_few_again : (ns : Names) (ls : List Lit) → list_all is_well_formed ls ≡ true → few_monos (map (raw_of ns) ls) ≡ Ok tt
-unfolding few_monos
+pub all_few_again : (ns : Names) (ls : List Lit) → list_all is_well_formed ls ≡ true → check_literal_limits (map (raw_of ns) ls) ≡ Ok tt
+unfolding check_literal_limits
 all_few_again ns ls h = rw (short_lits ns ls h, small_lits ns ls h) refl
 
 same_count : (ns : Names) (x y : List Mono) → length (raw_sum ns x ++ raw_sum ns y) ≡ length (x ++ y)
@@ -90,7 +90,7 @@ signed_count ns true a = refl
 signed_count ns false a = refl
 
 -- one literal has as many monomials as its spelling
-pub count_again : (ns : Names) (l : Lit) → count_monos (raw_of ns l ∷ []) ≡ monomials l.atom
+pub count_again : (ns : Names) (l : Lit) → count_raw_monomials (raw_of ns l ∷ []) ≡ monomials l.atom
 count_again ns l = let n = signed_count ns l.neg l.atom in omega (arith, n)
 
 pub count_more : (ls : List Lit) (l : Lit) → count_monomials (ls ++ l ∷ []) ≡ count_monomials ls + monomials l.atom

@@ -27,7 +27,7 @@ use Rattle.e_line.specs.Limits.{most_monomials, most_coefficient, monomials, cou
 use Rattle.e_line.specs.Reading.{◌>>=◌, each}
 use Rattle.e_line.specs.Literals.{monos_of}
 use Rattle.e_names.specs.Scope.{number_of_name, term_in, kind_of_raw, first_kind, mono_in, sums_in, atom_in, negated_in, lit_in, lits_in}
-use Rattle.e_line.specs.LineLimits.{are_short, are_small, count_monos}
+use Rattle.e_line.specs.LineLimits.{have_few_monomials, have_low_coefficients, count_raw_monomials}
 use Rattle.e_names.specs.Fits.{is_diagram_atom}
 use Rattle.e_line.proofs.base.Bound.{bind_ok, ok_is, read_ok, each_length}
 use Rattle.e_names.proofs.read_lines.InScope.{mono_read, sums_read}
@@ -123,13 +123,13 @@ good_lit ns r l e said short small =
     let a = bind_ok (atom_in ns r.atom) (λ a. read_ok (lit (negated_in r.atom r.neg) a)) l e in
     subst (λ (x : Lit). is_well_formed x ≡ true) (ok_is (lit (negated_in r.atom r.neg) a.0) l a.2) (good_atom ns r.atom a.0 a.1 said short small)
 
-pub good_lits : (ns : Names) (raws : List RawLit) (ls : List Lit) → lits_in ns raws ≡ Ok ls → LitsSaid raws → are_short raws ≡ true → are_small raws ≡ true → list_all is_well_formed ls ≡ true
+pub good_lits : (ns : Names) (raws : List RawLit) (ls : List Lit) → lits_in ns raws ≡ Ok ls → LitsSaid raws → have_few_monomials raws ≡ true → have_low_coefficients raws ≡ true → list_all is_well_formed ls ≡ true
 good_lits ns [] ls e said short small = subst (λ (x : List Lit). list_all is_well_formed x ≡ true) (ok_is [] ls e) refl
 good_lits ns (r ∷ raws) ls e said short small =
     let a = bind_ok (lit_in ns r) (λ l. lits_in ns raws >>= λ zs. read_ok (l ∷ zs)) ls e in
     let b = bind_ok (lits_in ns raws) (λ zs. read_ok (a.0 ∷ zs)) ls a.2 in
-    let s = and_parts (leb (length (monos_of r.atom)) most_monomials) (are_short raws) short in
-    let t = and_parts (is_small (monos_of r.atom)) (are_small raws) small in
+    let s = and_parts (leb (length (monos_of r.atom)) most_monomials) (have_few_monomials raws) short in
+    let t = and_parts (is_small (monos_of r.atom)) (have_low_coefficients raws) small in
     subst (λ (x : List Lit). list_all is_well_formed x ≡ true) (ok_is (a.0 ∷ b.0) ls b.2)
     (rw (good_lit ns r a.0 a.1 said.0 s.0 t.0, good_lits ns raws b.0 b.1 said.1 s.1 t.1) refl)
 
@@ -170,14 +170,14 @@ lit_count ns r l e =
     let a = bind_ok (atom_in ns r.atom) (λ a. read_ok (lit (negated_in r.atom r.neg) a)) l e in
     subst (λ (x : Lit). monomials x.atom ≡ length (monos_of r.atom)) (ok_is (lit (negated_in r.atom r.neg) a.0) l a.2) (atom_count ns r.atom a.0 a.1)
 
-raws_first : (r : RawLit) (raws : List RawLit) → count_monos (r ∷ raws) ≡ length (monos_of r.atom) + count_monos raws
+raws_first : (r : RawLit) (raws : List RawLit) → count_raw_monomials (r ∷ raws) ≡ length (monos_of r.atom) + count_raw_monomials raws
 raws_first r raws = sum_by-append (λ (m : RawLit). length (monos_of m.atom)) (r ∷ []) raws ∙ omega arith
 
-pub lits_count : (ns : Names) (raws : List RawLit) (ls : List Lit) → lits_in ns raws ≡ Ok ls → count_monomials ls ≡ count_monos raws
+pub lits_count : (ns : Names) (raws : List RawLit) (ls : List Lit) → lits_in ns raws ≡ Ok ls → count_monomials ls ≡ count_raw_monomials raws
 lits_count ns [] ls e = subst (λ (x : List Lit). count_monomials x ≡ 0) (ok_is [] ls e) refl
 lits_count ns (r ∷ raws) ls e =
     let a = bind_ok (lit_in ns r) (λ l. lits_in ns raws >>= λ zs. read_ok (l ∷ zs)) ls e in
     let b = bind_ok (lits_in ns raws) (λ zs. read_ok (a.0 ∷ zs)) ls a.2 in
     let n = lit_count ns r a.0 a.1 in
     let m = lits_count ns raws b.0 b.1 in
-    subst (λ (x : List Lit). count_monomials x ≡ count_monos (r ∷ raws)) (ok_is (a.0 ∷ b.0) ls b.2) (omega (arith, count_first a.0 b.0, raws_first r raws, n, m))
+    subst (λ (x : List Lit). count_monomials x ≡ count_raw_monomials (r ∷ raws)) (ok_is (a.0 ∷ b.0) ls b.2) (omega (arith, count_first a.0 b.0, raws_first r raws, n, m))

@@ -74,12 +74,12 @@ abbrev pub with_held : List State → Place → Place
 with_held held x = record x { context = record x.context { held = held } }
 
 -- where a block inside begins: the present state is held
-abbrev pub held_at : Place → Place
-held_at x = with_held (x.context.held ++ state_of x.context ∷ []) x
+abbrev pub entered_at : Place → Place
+entered_at x = with_held (x.context.held ++ state_of x.context ∷ []) x
 
 -- the last held state is there again, with these names
-abbrev pub IsLeft : Names → Place → Place → Type 0
-IsLeft names x after =
+abbrev pub IsOutsideAgain : Names → Place → Place → Type 0
+IsOutsideAgain names x after =
     (before : List State) (last : State) → x.context.held ≡ before ++ last ∷ [] →
     after ≡ record {
       context = record { scope = last.scope; facts = last.facts; held = before };
@@ -87,8 +87,8 @@ IsLeft names x after =
     }
 
 -- and these literals are facts there
-abbrev pub IsLeftWith : Names → List Lit → Place → Place → Type 0
-IsLeftWith names shown x after =
+abbrev pub IsOutsideWith : Names → List Lit → Place → Place → Type 0
+IsOutsideWith names shown x after =
     (before : List State) (last : State) → x.context.held ≡ before ++ last ∷ [] →
     after ≡ record {
       context = record { scope = last.scope; facts = with_facts last.facts shown; held = before };

@@ -142,15 +142,15 @@ pub record IsPassed (before : List StatementView) (whole : Script → Script) (x
   pub kept : KeepsHeld x after
 
 -- licensing the steps that `whole` puts before a rest stops by `s` at one of them, whatever the rest
-abbrev pub StepsStop : List StatementView → (Script → Script) → Place → ℕ → Stop → Type 0
-StepsStop before whole x first s =
+abbrev pub StopsInSteps : List StatementView → (Script → Script) → Place → ℕ → Stop → Type 0
+StopsInSteps before whole x first s =
     (rest : Script) (goal : Goal) → IsReadyFor before (whole rest) x goal
     → StopsWithin before (whole rest) x goal first s
     × IsStopBefore (first + size (whole rest) - size rest) s
 
 -- the same of one step
-abbrev pub StepStops : List StatementView → Step → Place → ℕ → Stop → Type 0
-StepStops before step x first s = StepsStop before (step_script step) x first s
+abbrev pub StopsInStep : List StatementView → Step → Place → ℕ → Stop → Type 0
+StopsInStep before step x first s = StopsInSteps before (step_script step) x first s
 
 -- before step `n`, in the step's own block, the state is `y`, whatever comes after the step
 abbrev pub ReachesInStep : List StatementView → Step → Place → ℕ → ℕ → Place → Type 0

@@ -87,12 +87,12 @@ stop_of (TooWide wanted width) n names = stop.TooWide n wanted width names
 stop_of NoMemory n names = stop.NoMemory
 
 -- the stop is that one, or there was no memory for a copy of the names
-abbrev pub StopOf : StepStop → ℕ → Names → Stop → Type 0
-StopOf h n names stop.NoMemory = Unit {0}
-StopOf h n names s = s ≡ stop_of h n names
+abbrev pub IsStopOrNoMemory : StepStop → ℕ → Names → Stop → Type 0
+IsStopOrNoMemory h n names stop.NoMemory = Unit {0}
+IsStopOrNoMemory h n names s = s ≡ stop_of h n names
 
 -- the stop of an answer `Err` at step `n`; an answer `Ok` has none but for want of memory
-abbrev pub IsWithNumber : {A : Type 0} → Result A StepStop → ℕ → Names → Stop → Type 0
-IsWithNumber (Ok a) n names stop.NoMemory = Unit {0}
-IsWithNumber (Ok a) n names s = ⊥
-IsWithNumber (Err h) n names s = StopOf h n names s
+abbrev pub IsStopOfAnswer : {A : Type 0} → Result A StepStop → ℕ → Names → Stop → Type 0
+IsStopOfAnswer (Ok a) n names stop.NoMemory = Unit {0}
+IsStopOfAnswer (Ok a) n names s = ⊥
+IsStopOfAnswer (Err h) n names s = IsStopOrNoMemory h n names s

@@ -46,7 +46,7 @@ use Rattle.e_names.specs.Scope.{scope_of_names, lit_in, lits_in, by_in, let_in, 
 use Rattle.e_names.specs.Superposes.{superpose_in}
 use Rattle.e_names.specs.Applies.{count_blanks, apply_in}
 use Rattle.e_book.specs.Book.{is_last}
-use Rattle.e_line.specs.LineLimits.{few_monos}
+use Rattle.e_line.specs.LineLimits.{check_literal_limits}
 use Rattle.e_book.specs.LineLimits.{few_objects}
 use Rattle.e_book.specs.Steps.{with_step, terms_after_raw, terms_after, with_terms, after_let, with_use, after_apply, outer_of, inside_block, inside_if_room, after_claim, after_superpose, after_cases, after_close_line, after_line}
 use Rattle.e_line.specs.Canonical.{line_of}
@@ -133,7 +133,7 @@ counts_go known d x e n ks ls g is = subst (λ (y : TheoremParser). Goes known d
 terms_go : (known : List TitledStatement) (d x e : TheoremParser) (raws : List RawLit) (ks : List StepCerts) (ls : List (List ℕ)) → Goes known d x ks ls → with_terms x raws ≡ Ok e → Goes known d e ks ls
 unfolding with_terms
 terms_go known d x e raws ks ls g w =
-    let few = bind_ok (few_monos raws) (λ few. terms_after_raw x.terms raws >>= λ n. read_ok (with_count x n)) e w in
+    let few = bind_ok (check_literal_limits raws) (λ few. terms_after_raw x.terms raws >>= λ n. read_ok (with_count x n)) e w in
     let n = bind_ok (terms_after_raw x.terms raws) (λ n. read_ok (with_count x n)) e few.2 in
     counts_go known d x e n.0 ks ls g (ok_is (with_count x n.0) e n.2)
 
@@ -268,9 +268,9 @@ claimed_goes : (known : List TitledStatement) (d e : TheoremParser) (raws : List
     → Goes known d e ks (ls ++ line_of (rawlines.Claim raws) ∷ [])
 unfolding after_claim
 claimed_goes known d e raws ks ls p b dir s h =
-    let shown = bind_ok (lits_in d.in_scope raws) (λ shown. inside_if_room d (kind.Claim shown) 0 >>= λ x. few_monos raws >>= λ few. read_ok x) e h in
-    let x = bind_ok (inside_if_room d (kind.Claim shown.0) 0) (λ x. few_monos raws >>= λ few. read_ok x) e shown.2 in
-    let few = bind_ok (few_monos raws) (λ few. read_ok x.0) e x.2 in
+    let shown = bind_ok (lits_in d.in_scope raws) (λ shown. inside_if_room d (kind.Claim shown) 0 >>= λ x. check_literal_limits raws >>= λ few. read_ok x) e h in
+    let x = bind_ok (inside_if_room d (kind.Claim shown.0) 0) (λ x. check_literal_limits raws >>= λ few. read_ok x) e shown.2 in
+    let few = bind_ok (check_literal_limits raws) (λ few. read_ok x.0) e x.2 in
     let line = ap (λ (f : RawLine). line_of f ∷ []) (claim_spelled d.in_scope raws shown.0 dir s shown.1) in
     let goes = inner_goes known d (kind.Claim shown.0) 0 d.in_scope d.terms ks [] ls (line_of (claim_raw_line d.in_scope shown.0) ∷ []) p b (refl, refl, refl, lits_within d.in_scope raws shown.0 shown.1) in
     subst (λ (y : TheoremParser). Goes known d y ks (ls ++ line_of (rawlines.Claim raws) ∷ [])) (deeper_is d x.0 (kind.Claim shown.0) 0 x.1 ∙ ok_is x.0 e few.2)
@@ -291,7 +291,7 @@ superposed_goes known d e raw read cs ks ls r c two p b dir s h =
     let after = named ns superposing.sorts_copied raw.new in
     let given : Superpose → List Lit = λ superposition. superposing.gives_of_superposition superposition (scope_of_names ns) in
     let at_end : TheoremParser → ℕ → TheoremParser = λ x n. record x { in_scope = after; terms = n } in
-    let rest : Superpose × List Lit → Result TheoremParser FaultKind = λ q. few_objects after >>= λ objects. inside_if_room d (kind.Superpose q.0 raw.new q.1) (length (given q.0)) >>= λ x. few_monos raw.shown >>= λ few. terms_after x.terms (given q.0) >>= λ n. read_ok (at_end x n) in
+    let rest : Superpose × List Lit → Result TheoremParser FaultKind = λ q. few_objects after >>= λ objects. inside_if_room d (kind.Superpose q.0 raw.new q.1) (length (given q.0)) >>= λ x. check_literal_limits raw.shown >>= λ few. terms_after x.terms (given q.0) >>= λ n. read_ok (at_end x n) in
     let q = bind_ok (superpose_in ns raw) rest e h in
     let good = superpose_fits ns raw q.0 q.1 in
     let formed : CopyFormed ns q.0.0 raw.new q.0.1 cs = record {
@@ -301,9 +301,9 @@ superposed_goes known d e raw read cs ks ls r c two p b dir s h =
       certs = subst (λ (x : Superpose × List Lit). certs_formed (scope_of_names ns) (superposing.needs_of_superposition x.0) cs ≡ true) (ok_is read q.0 (sym r ∙ q.1)) c;
     } in
     let op = kind.Superpose q.0.0 raw.new q.0.1 in
-    let o = bind_ok (few_objects after) (λ objects. inside_if_room d op (length (given q.0.0)) >>= λ x. few_monos raw.shown >>= λ few. terms_after x.terms (given q.0.0) >>= λ n. read_ok (at_end x n)) e q.2 in
-    let x = bind_ok (inside_if_room d op (length (given q.0.0))) (λ x. few_monos raw.shown >>= λ few. terms_after x.terms (given q.0.0) >>= λ n. read_ok (at_end x n)) e o.2 in
-    let few = bind_ok (few_monos raw.shown) (λ few. terms_after x.0.terms (given q.0.0) >>= λ n. read_ok (at_end x.0 n)) e x.2 in
+    let o = bind_ok (few_objects after) (λ objects. inside_if_room d op (length (given q.0.0)) >>= λ x. check_literal_limits raw.shown >>= λ few. terms_after x.terms (given q.0.0) >>= λ n. read_ok (at_end x n)) e q.2 in
+    let x = bind_ok (inside_if_room d op (length (given q.0.0))) (λ x. check_literal_limits raw.shown >>= λ few. terms_after x.terms (given q.0.0) >>= λ n. read_ok (at_end x n)) e o.2 in
+    let few = bind_ok (check_literal_limits raw.shown) (λ few. terms_after x.0.terms (given q.0.0) >>= λ n. read_ok (at_end x.0 n)) e x.2 in
     let n = bind_ok (terms_after x.0.terms (given q.0.0)) (λ n. read_ok (at_end x.0 n)) e few.2 in
     let line = ap (λ (f : RawLine). line_of f ∷ certs_lines ns cs) (superpose_spelled ns raw q.0 dir s q.1) in
     let lines = line_of (superpose_raw_line ns q.0.0 raw.new q.0.1) ∷ certs_lines ns cs in

@@ -19,7 +19,7 @@ use Rattle.e_line.specs.declared.literal.RawAtom.{RawAtom}
 use Rattle.e_line.specs.declared.literal.RawAtom.TheVariants as raw
 use Rattle.e_line.specs.declared.literal.RawLit.{RawLit}
 use Rattle.e_line.specs.Canonical.{term_words, coefficient_words, mono_words, more_monos, sum_words, sums_words, signed_words, lit_words}
-use Rattle.e_line.specs.Reading.{◌>>=◌, first_title, word_at, end_at}
+use Rattle.e_line.specs.Reading.{◌>>=◌, first_title, first_word, no_word_left}
 use Rattle.e_line.specs.Literals.{lit_of, is_diagram_raw}
 use Rattle.e_line.specs.HasSpelling.{AreNames}
 use Rattle.e_line.proofs.base.Bound.{same_bytes}
@@ -201,7 +201,7 @@ unfolding fact_row_of
 place_row_again k h = rw (place_again k h) refl
 
 row_again : (r : RawRow) → RowNamed r → raw_row_of (raw_row_words r) ≡ Ok r
-unfolding raw_row_of raw_row_named end_at
+unfolding raw_row_of raw_row_named no_word_left
 row_again (rows.Fact l) h = fact_again l h.0
 row_again (rows.FactAt k) h = place_row_again k h
 row_again rows.Goal h = refl
@@ -213,7 +213,7 @@ row_again rows.Above h = refl
 row_again rows.Below h = refl
 
 pub cert_line_again : (m : CertLine) → CertLineNamed m → cert_line_of (cert_line_words m) ≡ Ok m
-unfolding cert_line_of cert_line_named fact_cert_line_of transfer_of differs_of row_cert_line_of first_title word_at end_at
+unfolding cert_line_of cert_line_named fact_cert_line_of transfer_of differs_of row_cert_line_of first_title first_word no_word_left
 cert_line_again certlines.Fact h = refl
 cert_line_again (certlines.FactAt k) h = rw (place_again k h) refl
 cert_line_again certlines.Metric h = refl

@@ -27,7 +27,7 @@ use Rattle.e_clause.specs.Sum.{is_nonzero_bounded}
 use Rattle.e_deriv.specs.declared.names.Names.{Names}
 use Rattle.e_line.specs.declared.fault.FaultKind.{FaultKind}
 use Rattle.e_line.specs.declared.fault.FaultKind.TheVariants.{Malformed}
-use Rattle.e_line.specs.Reading.{◌>>=◌, or_malformed, first_title, names_of, end_at}
+use Rattle.e_line.specs.Reading.{◌>>=◌, or_malformed, first_title, names_of, no_word_left}
 use Rattle.e_line.specs.Literals.{diagram_lit_of}
 use Rattle.e_names.specs.Scope.{scope_of_names, lit_in, args_in, variables_of, right_count}
 use Rattle.e_names.specs.Fits.{is_diagram_atom}
@@ -107,7 +107,7 @@ Numbers (certlines.Row m r) = is_nonzero_bounded m ≡ true
 Numbers cert_line = Unit {0}
 
 bare_numbers : (ws : List (List ℕ)) (cert_line m : CertLine) → Numbers cert_line → bare_cert_line ws cert_line ≡ Ok m → Numbers m
-bare_numbers ws cert_line m h e = let n = bind_ok (end_at ws) (λ none. read_ok cert_line) m e in subst Numbers (ok_is cert_line m n.2) h
+bare_numbers ws cert_line m h e = let n = bind_ok (no_word_left ws) (λ none. read_ok cert_line) m e in subst Numbers (ok_is cert_line m n.2) h
 
 differs_numbers : (ws : List (List ℕ)) (m : CertLine) → differs_of ws ≡ Ok m → Numbers m
 unfolding differs_of
@@ -127,7 +127,7 @@ fact_numbers : (ws : List (List ℕ)) (m : CertLine) → fact_cert_line_of ws �
 unfolding fact_cert_line_of
 fact_numbers [] m e = subst Numbers (ok_is certlines.Fact m e) tt
 fact_numbers (w ∷ ws) m e =
-    let n = bind_ok (end_at ws) (λ none. place_in w >>= λ k. read_ok (certlines.FactAt k)) m e in
+    let n = bind_ok (no_word_left ws) (λ none. place_in w >>= λ k. read_ok (certlines.FactAt k)) m e in
     let k = bind_ok (place_in w) (λ k. read_ok (certlines.FactAt k)) m n.2 in
     subst Numbers (ok_is (certlines.FactAt k.0) m k.2) tt
 

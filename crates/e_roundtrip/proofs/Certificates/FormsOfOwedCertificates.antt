@@ -27,7 +27,7 @@ use Rattle.e_clause.specs.Written.{is_writable_name, is_writable_sum}
 use Rattle.e_deriv.specs.declared.names.Names.{Names}
 use Rattle.e_line.specs.declared.fault.FaultKind.TheVariants.{Malformed}
 use Rattle.e_line.specs.Reading.{◌>>=◌}
-use Rattle.e_line.specs.LineLimits.{few_monos}
+use Rattle.e_line.specs.LineLimits.{check_literal_limits}
 use Rattle.e_names.specs.Scope.{scope_of_names, lit_in, term_in}
 use Rattle.e_line.proofs.base.Bound.{bind_ok, ok_is, read_ok}
 use Rattle.e_names.proofs.read_lines.InScope.{term_in_scope, lit_in_scope}
@@ -57,8 +57,8 @@ row_in_scope : (ns : Names) (raw : RawRow) (r : RowName) → row_in ns raw ≡ O
 unfolding row_in
 row_in_scope ns (rows.Fact raw) r e =
     let l = bind_ok (fact_in ns raw) (λ l. read_ok (names.Fact l)) r e in
-    let x = bind_ok (lit_in ns raw) (λ x. few_monos (raw ∷ []) >>= λ few. read_ok x) l.0 l.1 in
-    let f = bind_ok (few_monos (raw ∷ [])) (λ few. read_ok x.0) l.0 x.2 in
+    let x = bind_ok (lit_in ns raw) (λ x. check_literal_limits (raw ∷ []) >>= λ few. read_ok x) l.0 l.1 in
+    let f = bind_ok (check_literal_limits (raw ∷ [])) (λ few. read_ok x.0) l.0 x.2 in
     let is : names.Fact x.0 ≡ r = ap (λ (y : Lit). names.Fact y) (ok_is x.0 l.0 f.2) ∙ ok_is (names.Fact l.0) r l.2 in
     subst (InScope (scope_of_names ns)) is (lit_in_scope ns raw x.0 x.1)
 row_in_scope ns rows.Goal r e = subst (InScope (scope_of_names ns)) (ok_is names.Goal r e) refl

@@ -29,7 +29,7 @@ use Rattle.e_line.specs.declared.sum.RawTerm.{RawTerm}
 use Rattle.e_line.specs.declared.literal.RawLit.{RawLit}
 use Rattle.e_line.specs.Reading.{◌>>=◌, or_malformed}
 use Rattle.e_names.specs.Scope.{lit_in, term_in, args_in, variables_of, right_count}
-use Rattle.e_line.specs.LineLimits.{few_monos}
+use Rattle.e_line.specs.LineLimits.{check_literal_limits}
 use Rattle.e_line.specs.Canonical.{lit_words, term_words}
 use Rattle.e_names.specs.Canonical.{raw_of, rule_name, name_of_object}
 use Rattle.e_line.proofs.base.Bound.{bind_ok, ok_is, read_ok}
@@ -122,8 +122,8 @@ unfolding row_in
 row_spelled ns (rows.Fact l) r c e =
     let fact : Lit → Result RowName FaultKind = λ x. read_ok (names.Fact x) in
     let a = bind_ok (fact_in ns l) fact r e in
-    let b = bind_ok (lit_in ns l) (λ x. few_monos (l ∷ []) >>= λ few. read_ok x) a.0 a.1 in
-    let f = bind_ok (few_monos (l ∷ [])) (λ few. read_ok b.0) a.0 b.2 in
+    let b = bind_ok (lit_in ns l) (λ x. check_literal_limits (l ∷ []) >>= λ few. read_ok x) a.0 a.1 in
+    let f = bind_ok (check_literal_limits (l ∷ [])) (λ few. read_ok b.0) a.0 b.2 in
     ap (row_words ns) (sym (ok_is (names.Fact a.0) r a.2)) ∙ ap (λ (x : Lit). codes "fact" ∷ lit_words (raw_of ns x)) (sym (ok_is b.0 a.0 f.2))
     ∙ ap (λ (x : RawLit). codes "fact" ∷ lit_words x) (lit_named ns ns l b.0 (keeps_all ns) c b.1)
 row_spelled ns rows.Goal r c e = ap (row_words ns) (sym (ok_is names.Goal r e))

@@ -18,7 +18,7 @@ use Rattle.e_line.specs.Reading.{◌>>=◌, with_front}
 use Rattle.e_line.specs.Limits.{within, most_facts}
 use Rattle.e_names.specs.TitledStatements.{TitledStatement}
 use Rattle.e_names.specs.Scope.{lits_in}
-use Rattle.e_line.specs.LineLimits.{few_monos}
+use Rattle.e_line.specs.LineLimits.{check_literal_limits}
 use Rattle.e_book.specs.Steps.{terms_after_raw, with_terms, line_may_come, with_declared, after_declare, after_given, after_made, after_show, after_proof, after_line, step}
 use Rattle.e_book.specs.Book.{is_done}
 use Rattle.e_line.specs.Canonical.{line_of}
@@ -83,7 +83,7 @@ terms_sorts : (d e : TheoremParser) (raws : List RawLit) → with_terms d raws �
 unfolding with_terms
 terms_sorts d e raws h =
     let with_count : ℕ → TheoremParser = λ n. record d { terms = n } in
-    let a = bind_ok (few_monos raws) (λ few. terms_after_raw d.terms raws >>= λ n. Ok (with_count n)) e h in
+    let a = bind_ok (check_literal_limits raws) (λ few. terms_after_raw d.terms raws >>= λ n. Ok (with_count n)) e h in
     let b = bind_ok (terms_after_raw d.terms raws) (λ n. Ok (with_count n)) e a.2 in
     same_sorts (with_count b.0) e d.declared d.made b.2 refl refl
 
@@ -101,8 +101,8 @@ unfolding step after_line
 show_sorts known d e raws h =
     let p = passed (line_may_come d.section (rawlines.Show raws)) (after_show d raws) e h in
     let with_shown : List Lit → TheoremParser = λ ls. record d { shown = ls; section = Showing } in
-    let a = bind_ok (with_front d.shown (lits_in d.names raws)) (λ ls. few_monos raws >>= λ few. Ok (with_shown ls)) e p.1 in
-    let b = bind_ok (few_monos raws) (λ few. Ok (with_shown a.0)) e a.2 in
+    let a = bind_ok (with_front d.shown (lits_in d.names raws)) (λ ls. check_literal_limits raws >>= λ few. Ok (with_shown ls)) e p.1 in
+    let b = bind_ok (check_literal_limits raws) (λ few. Ok (with_shown a.0)) e a.2 in
     same_sorts (with_shown a.0) e d.declared d.made b.2 refl refl
 
 proof_sorts : (known : List TitledStatement) (d e : TheoremParser) → step known d rawlines.Proof ≡ Ok e → Sorts e d.declared d.made

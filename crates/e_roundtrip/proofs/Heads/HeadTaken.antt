@@ -20,7 +20,7 @@ use Rattle.e_line.specs.Reading.{◌>>=◌, with_front}
 use Rattle.e_line.specs.Limits.{most_of, what_of, within, most_facts, most_theorems}
 use Rattle.e_names.specs.TitledStatements.{TitledStatement, is_known}
 use Rattle.e_names.specs.Scope.{fresh, lit_in, lits_in}
-use Rattle.e_line.specs.LineLimits.{few_monos}
+use Rattle.e_line.specs.LineLimits.{check_literal_limits}
 use Rattle.e_book.specs.Steps.{line_may_come, with_declared, terms_after_raw, with_terms, after_line, with_title, begin}
 use Rattle.e_line.specs.Canonical.{line_of}
 use Rattle.e_names.specs.Canonical.{given_raw_line, show_raw_line}
@@ -200,7 +200,7 @@ with_count x n = record x { terms = n }
 terms_are : (x e : TheoremParser) (raws : List RawLit) → with_terms x raws ≡ Ok e → (n : ℕ) × (with_count x n ≡ e)
 unfolding with_terms
 terms_are x e raws w =
-    let few = bind_ok (few_monos raws) (λ few. terms_after_raw x.terms raws >>= λ n. read_ok (with_count x n)) e w in
+    let few = bind_ok (check_literal_limits raws) (λ few. terms_after_raw x.terms raws >>= λ n. read_ok (with_count x n)) e w in
     let n = bind_ok (terms_after_raw x.terms raws) (λ n. read_ok (with_count x n)) e few.2 in
     (n.0, ok_is (with_count x n.0) e n.2)
 
@@ -234,8 +234,8 @@ pub puts_shown : (known : List TitledStatement) (d e : TheoremParser) (raws : Li
 unfolding after_line
 puts_shown known d e raws ks ls a g one dir s h =
     let i = at_shown known d.section d ks ls raws a g in
-    let all = bind_ok (with_front d.shown (lits_in d.names raws)) (λ ls. few_monos raws >>= λ few. read_ok (showing d ls)) e h in
-    let few = bind_ok (few_monos raws) (λ few. read_ok (showing d all.0)) e all.2 in
+    let all = bind_ok (with_front d.shown (lits_in d.names raws)) (λ ls. check_literal_limits raws >>= λ few. read_ok (showing d ls)) e h in
+    let few = bind_ok (check_literal_limits raws) (λ few. read_ok (showing d all.0)) e all.2 in
     let o = one_lit d.names d.shown raws all.0 one dir s all.1 in
     let x : TheoremParser = showing d (d.shown ++ o.lit ∷ []) in
     let is : x ≡ e = ap (λ (l : List Lit). showing d l) (sym o.all_are) ∙ ok_is (showing d all.0) e few.2 in

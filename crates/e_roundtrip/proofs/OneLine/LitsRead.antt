@@ -11,7 +11,7 @@ use Rattle.e_line.specs.declared.literal.RawLit.{RawLit}
 use Rattle.e_line.specs.declared.literal.RawAtom.{RawAtom}
 use Rattle.e_line.specs.declared.literal.RawAtom.TheVariants as raw
 use Rattle.e_line.specs.Reading.{◌>>=◌, or_malformed}
-use Rattle.e_line.specs.Literals.{sign_of, is_sign, single_name, sums_of, equal_sides, sides_of, negation_of, sign_first, lit_of_sides, signed_lit, lit_of, is_semicolon, lits_of}
+use Rattle.e_line.specs.Literals.{relation_of, is_relation, single_name, sums_of, equal_sides, sides_of, negation_of, sign_first, lit_of_sides, signed_lit, lit_of, is_semicolon, lits_of}
 use Rattle.e_line.proofs.base.Bound.{bind_ok, ok_is, read_ok}
 use Rattle.e_line.proofs.read_lines.LitsByWord.{OfEachRelation, lit_by_word}
 use Rattle.e_line.proofs.read_lines.SumsOfLiterals.{each_said}
@@ -79,7 +79,7 @@ unfolding sides_of
 sides_signed negated left [] l e = absurd cc
 sides_signed negated left (w ∷ ws) l e =
     let s = bind_ok (sign_first (w ∷ ws)) (λ s. negation_of negated s.0 >>= λ neg. sides_of s.0 left s.1 >>= λ a. read_ok (signed_lit neg a)) l e in
-    let t = bind_ok (or_malformed (sign_of w)) (λ s. read_ok (pair s ws)) s.0 s.1 in
+    let t = bind_ok (or_malformed (relation_of w)) (λ s. read_ok (pair s ws)) s.0 s.1 in
     let neg = bind_ok (negation_of negated s.0.0) (λ neg. sides_of s.0.0 left s.0.1 >>= λ a. read_ok (signed_lit neg a)) l s.2 in
     let a = bind_ok (sides_of s.0.0 left s.0.1) (λ a. read_ok (signed_lit neg.0 a)) l neg.2 in
     let is = ok_is (pair t.0 ws) s.0 t.2 in
@@ -89,13 +89,13 @@ sides_signed negated left (w ∷ ws) l e =
     (λ neg a n k. unsigned a neg (equal_other (single_name left) (single_name ws) left ws a k))
     (λ neg a n k. unsigned a neg (from_sums raw.SumsLess (λ x y. refl) left ws a k))
     (λ neg a n k. at_most_signed negated neg a n)
-    (sign_found (sign_of w) t.0 t.1) in
+    (sign_found (relation_of w) t.0 t.1) in
     subst Signed (ok_is (signed_lit neg.0 a.0) l a.2)
     (holds neg.0 a.0 (ap (λ q. negation_of negated q.0) is ∙ neg.1) (ap (λ q. sides_of q.0 left q.1) is ∙ a.1))
 
 compared_signed : (negated : Bool) (ws : List (List ℕ)) (l : RawLit) → lit_of_sides negated ws ≡ Ok l → Signed l
 unfolding lit_of_sides
-compared_signed negated ws l e = let n = position_or_len is_sign ws in sides_signed negated (take n ws) (drop n ws) l e
+compared_signed negated ws l e = let n = position_or_len is_relation ws in sides_signed negated (take n ws) (drop n ws) l e
 
 -- ---- literals
 

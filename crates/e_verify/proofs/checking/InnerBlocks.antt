@@ -33,7 +33,7 @@ use Rattle.e_verify.specs.declared.step_state.StepState.{StepState}
 use Rattle.e_verify.specs.declared.step_state.Checkpoint.{Checkpoint}
 use Rattle.e_verify.specs.StepStates.{state_with_facts, state_after_superposed, checkpoint_of_state, state_restored}
 use Rattle.e_clause.specs.Written.{is_writable_cert, is_writable_against}
-use Rattle.e_verify.specs.Checking.{step_in_state, verdict_at, RejectIs, IsCheckable, IsCheckableStep, AreCheckable, KeepsFirstFacts, AreVerified, StepsReject, StepRejects}
+use Rattle.e_verify.specs.Checking.{step_in_state, verdict_at, RejectIs, IsCheckable, IsCheckableStep, AreCheckable, KeepsFirstFacts, AreVerified, RejectsInSteps, RejectsInStep}
 use Rattle.e_verify.proofs.checking.FirstLines.{some_lines, qed_lines, contradiction_lines}
 use Rattle.e_deriv.proofs.Keeping.{stay_on, stay_joined, stay_all}
 use Rattle.e_verify.proofs.checking.CertifiedLines.{superposed_fits}
@@ -47,7 +47,7 @@ step_ready before items seen close i s y goal n same lt is r =
     record { rest = steps_script (drop (i + 1) items) close; goal = goal; ready = subst (λ d. IsCheckable before d y goal n) (steps_at items seen close i s same lt is) r }
 
 pub step_rejects : (before : List StatementView) (items seen : List Step) (close : Script) (i : ℕ) (s : Step) (y : StepState) (goal : Goal) (n : ℕ) (v : Result ℕ ℕ) (e : Reject) → seen ≡ items → i < length seen → s ≡ get_or seen i s
-    → verdict_at before (steps_script (drop i items) close) y goal n ≡ v → StepRejects before s y n e → RejectIs v e
+    → verdict_at before (steps_script (drop i items) close) y goal n ≡ v → RejectsInStep before s y n e → RejectIs v e
 step_rejects before items seen close i s y goal n v e same lt is h k =
     let rest = steps_script (drop (i + 1) items) close in
     reject_as v (verdict_at before (step_script s rest) y goal n) e (sym h ∙ ap (λ d. verdict_at before d y goal n) (steps_at items seen close i s same lt is)) (k rest goal)
@@ -149,7 +149,7 @@ pub all_passed_as : (before : List StatementView) (f g : Script → Script) (x y
 all_passed_as before f g x y n (Ok m) e p = passed_as before f g x y n m e p
 all_passed_as before f g x y n (Err k) e p = tt
 
-pub all_rejected_as : (before : List StatementView) (f g : Script → Script) (x : StepState) (n : ℕ) (r : Result ℕ Reject) → ((d : Script) → g d ≡ f d) → IfErr r (StepsReject before f x n) → IfErr r (StepsReject before g x n)
+pub all_rejected_as : (before : List StatementView) (f g : Script → Script) (x : StepState) (n : ℕ) (r : Result ℕ Reject) → ((d : Script) → g d ≡ f d) → IfErr r (RejectsInSteps before f x n) → IfErr r (RejectsInSteps before g x n)
 all_rejected_as before f g x n (Ok m) e h = tt
 all_rejected_as before f g x n (Err k) e h = λ rest goal. reject_as (verdict_at before (g rest) x goal n) (verdict_at before (f rest) x goal n) k (ap (λ d. verdict_at before d x goal n) (e rest)) (h rest goal)
 
@@ -180,11 +180,11 @@ claim_is s shown seen inner block is same at rest =
 pub claim_ready : (before : List StatementView) (shown : List Lit) (inner : Script) (x : StepState) (n : ℕ) → AreCheckable before (Claim shown inner) x n → IsCheckable before inner x (goal_of shown) (n + 1)
 claim_ready before shown inner x n r = claim_inner before shown inner r.rest x r.goal n r.ready
 
-pub claim_fails : (before : List StatementView) (shown : List Lit) (inner : Script) (x : StepState) (n : ℕ) → are_over x.scope shown ≡ false → StepsReject before (Claim shown inner) x n (Bad n)
+pub claim_fails : (before : List StatementView) (shown : List Lit) (inner : Script) (x : StepState) (n : ℕ) → are_over x.scope shown ≡ false → RejectsInSteps before (Claim shown inner) x n (Bad n)
 claim_fails before shown inner x n h rest goal = claim_bad before shown inner rest x goal n h
 
 pub claim_stops : (before : List StatementView) (shown : List Lit) (inner : Script) (x : StepState) (n : ℕ) (e : Reject) → are_over x.scope shown ≡ true → RejectIs (verdict_at before inner x (goal_of shown) (n + 1)) e
-    → StepsReject before (Claim shown inner) x n e
+    → RejectsInSteps before (Claim shown inner) x n e
 claim_stops before shown inner x n e h k rest goal = claim_rejected before shown inner rest x goal n e h k
 
 pub claim_done : (before : List StatementView) (shown : List Lit) (inner : Script) (x z y after : StepState) (o : Checkpoint) (n m : ℕ) → are_over x.scope shown ≡ true → verdict_at before inner x (goal_of shown) (n + 1) ≡ Ok m
@@ -224,12 +224,12 @@ tested_fits before superposition shown certs x b is h =
     superposed_fits before superposition [] shown certs (Qed [] []) (Qed [] []) x (goal_of []) (sym is ∙ h [] (Qed [] []) (Qed [] []) (goal_of []))
 
 pub superposed_fails : (before : List StatementView) (superposition : Superpose) (shown : List Lit) (certs : List Cert) (inner : Script) (x : StepState) (n : ℕ) (b : Bool) → b ≡ false → IsTested before superposition shown certs x b
-    → (names : List (List ℕ)) → StepsReject before (Superposed superposition names shown certs inner) x n (Bad n)
+    → (names : List (List ℕ)) → RejectsInSteps before (Superposed superposition names shown certs inner) x n (Bad n)
 superposed_fails before superposition shown certs inner x n b f h names rest goal =
     bad_line before (Superposed superposition names shown certs inner rest) x goal n (sym (head_as before superposition names shown certs x b false f h inner rest goal))
 
 pub superposed_stops : (before : List StatementView) (superposition : Superpose) (shown : List Lit) (certs : List Cert) (inner : Script) (x z : StepState) (n : ℕ) (b : Bool) (e : Reject) → z ≡ state_after_superposed superposition x → b ≡ true → IsTested before superposition shown certs x b
-    → RejectIs (verdict_at before inner z (goal_of shown) (n + 1)) e → (names : List (List ℕ)) → StepsReject before (Superposed superposition names shown certs inner) x n e
+    → RejectIs (verdict_at before inner z (goal_of shown) (n + 1)) e → (names : List (List ℕ)) → RejectsInSteps before (Superposed superposition names shown certs inner) x n e
 superposed_stops before superposition shown certs inner x z n b e begun t h k names rest goal =
     superposed_rejected before superposition names shown certs inner rest x goal n e (head_as before superposition names shown certs x b true t h)
     (subst (λ w. RejectIs (verdict_at before inner w (goal_of shown) (n + 1)) e) begun k)

@@ -31,7 +31,7 @@ use Rattle.e_verify.specs.declared.step_state.StepState.{StepState}
 use Rattle.e_verify.specs.StepStates.{state_with_facts, state_after_superposed}
 use Rattle.e_clause.specs.Written.{is_writable_cert, is_writable_against}
 use Rattle.e_deriv.specs.Written.{is_written_well}
-use Rattle.e_verify.specs.Checking.{step_in_state, steps_in_state, verdict_at, RejectIs, IsCheckable, IsChecked, AreVerified, StepRejects}
+use Rattle.e_verify.specs.Checking.{step_in_state, steps_in_state, verdict_at, RejectIs, IsCheckable, IsChecked, AreVerified, RejectsInStep}
 use Rattle.e_verify.proofs.checking.FirstLines.{some_lines, claim_lines, superposed_lines, cases_lines}
 use Rattle.e_deriv.proofs.Keeping.{stay_all}
 use Rattle.e_construct.specs.Superposing as superposing
@@ -226,7 +226,7 @@ line_passed before step whole x after n b (Ok next) is line c h =
     }
 
 pub line_rejected : (before : List StatementView) (step : Step) (whole : Script → Script) (x after : StepState) (n : ℕ) (b : Bool) (r : Result ℕ Reject) → ((rest : Script) → step_script step rest ≡ whole rest)
-    → IsChecked before whole x after b → IfErr r (λ e. IsFalse b × (e ≡ Bad n)) → IfErr r (StepRejects before step x n)
+    → IsChecked before whole x after b → IfErr r (λ e. IsFalse b × (e ≡ Bad n)) → IfErr r (RejectsInStep before step x n)
 line_rejected before step whole x after n b (Ok next) is c h = tt
 line_rejected before step whole x after n b (Err e) is c h =
     λ rest goal.

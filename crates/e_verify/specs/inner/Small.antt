@@ -2,7 +2,7 @@
 use Rattle.std.specs.Prelude.{List, length, Bool, true, ◌&&◌, nat_le}
 use Rattle.std.specs.List.{list_all}
 use Rattle.e_literal.specs.declared.object.Mono.{Mono}
-use Rattle.e_verify.specs.declared.rows.Comparison.{Comparison}
+use Rattle.e_verify.specs.declared.rows.LitRow.{LitRow}
 use Rattle.e_verify.specs.declared.rows.Row.{Row}
 use Rattle.e_verify.specs.declared.rows.Row.TheVariants.{Sums}
 
@@ -11,7 +11,7 @@ abbrev pub are_small_monomials : List Mono → Bool
 are_small_monomials ms = nat_le (length ms) 32 && list_all (λ m. nat_le m.coeff 1000000) ms
 
 -- the sums that are compared are small
-abbrev pub is_short : Comparison → Bool
+abbrev pub is_short : LitRow → Bool
 is_short c = are_small_monomials c.plus.now && are_small_monomials c.minus.now
 
 -- the sums of the row are small

@@ -6,8 +6,8 @@ use Rattle.e_literal.specs.Rows as senses
 use Rattle.e_clause.specs.Sum.{Place}
 use Rattle.e_clause.specs.System.{pos_row, top_row, right_row, least_row}
 use Rattle.e_verify.specs.declared.rows.RowSense.{RowSense}
-use Rattle.e_verify.specs.declared.rows.RowSense.TheVariants.{Zero, AtLeast, More, Not}
-use Rattle.e_verify.specs.declared.rows.Comparison.{Comparison}
+use Rattle.e_verify.specs.declared.rows.RowSense.TheVariants.{Zero, AtLeast, More, Differs}
+use Rattle.e_verify.specs.declared.rows.LitRow.{LitRow}
 use Rattle.e_verify.specs.declared.rows.Row.{Row as CodeRow}
 use Rattle.e_verify.specs.declared.rows.Row.TheVariants.{Sums, Pos, Top, Right, Least}
 use Rattle.e_verify.specs.declared.rows.RowScope.{RowScope}
@@ -16,7 +16,7 @@ abbrev pub sense_view : RowSense → Sense
 sense_view Zero = senses.Zero
 sense_view AtLeast = senses.AtLeast
 sense_view More = senses.More
-sense_view Not = senses.Not
+sense_view Differs = senses.Not
 
 -- the form, or minus the form
 abbrev pub form_turned : Bool → Summands → Summands
@@ -34,8 +34,8 @@ row_view (Top t) = top_row t
 row_view Right = right_row
 row_view (Least t) = least_row t
 
-abbrev pub comparison_view : Comparison → Row
-comparison_view c =
+abbrev pub lit_row_view : LitRow → Row
+lit_row_view c =
     record {
       sense = sense_view c.sense;
       form = normal_summands (plus c.plus.now ++ minus c.minus.now);

@@ -11,19 +11,19 @@ pub returns-then-begins_item : goal.returns-then-begins_item
 returns-then-begins_item c =
     let words = c.args.words.now in
     let at = c.loop-at.at in
-    let n = c.place_of.result in
+    let n = c.first_index_of.result in
     found_here (texts (take (at + n - at) (drop at words))) (parts_from is_semicolon (at + n + 1) (texts words)) (parts_from is_semicolon at (texts words)) (has_item (texts words))
-    (part_of words at n c.loop-at-test.true c.place_of.ensures.place) (sym c.begins_item.ensures ∙ c.if-begins_item.true) c.loop-at.invariant.none
+    (part_of words at n c.loop-at-test.true c.first_index_of.ensures.place) (sym c.begins_item.ensures ∙ c.if-begins_item.true) c.loop-at.invariant.none
 
 pub loop-at-preserved : goal.loop-at-preserved
 loop-at-preserved c =
     let words = c.args.words.now in
     let at = c.loop-at.at in
-    let n = c.place_of.result in
+    let n = c.first_index_of.result in
     record {
       none = none_here (texts (take (at + n - at) (drop at words))) (parts_from is_semicolon (at + n + 1) (texts words)) (parts_from is_semicolon at (texts words)) (has_item (texts words))
-          (part_of words at n c.loop-at-test.true c.place_of.ensures.place) (sym c.begins_item.ensures ∙ c.if-begins_item.false) c.loop-at.invariant.none;
-      within = omega (arith, c.place_of.ensures.within);
+          (part_of words at n c.loop-at-test.true c.first_index_of.ensures.place) (sym c.begins_item.ensures ∙ c.if-begins_item.false) c.loop-at.invariant.none;
+      within = omega (arith, c.first_index_of.ensures.within);
     }
 
 pub returns : goal.returns

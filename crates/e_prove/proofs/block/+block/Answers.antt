@@ -14,7 +14,7 @@ use Rattle.e_construct.specs.Superposing as superposing
 use Rattle.e_prove.specs.inner.NextPlaces.{HasRoomForMore, after_literal, after_superposed}
 use Rattle.e_prove.specs.inner.Applications.{CanApply}
 use Rattle.e_prove.specs.inner.LicensedSteps.{IsLicensedStep, IsStopOfClose, IsStopOfStep}
-use Rattle.e_prove.specs.inner.PassedSteps.{IsReadyFor, IsReadyStep, IsDerivedFrom, IsPassed, StepsStop, StopsWithin}
+use Rattle.e_prove.specs.inner.PassedSteps.{IsReadyFor, IsReadyStep, IsDerivedFrom, IsPassed, StopsInSteps, StopsWithin}
 use Rattle.e_prove.proofs.LicensedLiterals.{ok_map, err_map}
 use Rattle.e_prove.proofs.Closes.{qed_fits}
 use Rattle.e_prove.proofs.PassedSteps.{numbered_passed, numbered_stops, numbered_close_stops, stops_for_memory, stops_as_memory}
@@ -118,11 +118,11 @@ prove_close-qed-answered-requires-clause-lits t c =
     let fit = qed_fits (all_stated c.args.before.now) c.in-Qed.objects c.in-Qed.certs x goal (subst (λ close. IsReadyFor (all_stated c.args.before.now) (close_script close) x goal) c.in-Qed.is c.requires.ready) in
     subst (λ os. are_well_formed_in x.context.scope (goal_with goal os) ≡ true) (sym c.items.ensures) fit.lits
 
-pub prove_close-with_number-requires : goal.prove_close-with_number-requires
-prove_close-with_number-requires t c = let one = at_least (close_script c.args.close.now) in omega (arith, one, c.requires.few)
+pub prove_close-count_or_stop-requires : goal.prove_close-count_or_stop-requires
+prove_close-count_or_stop-requires t c = let one = at_least (close_script c.args.close.now) in omega (arith, one, c.requires.few)
 
-pub prove_close-with_number-requires-in-Contradiction : goal.prove_close-with_number-requires-in-Contradiction
-prove_close-with_number-requires-in-Contradiction t c = let one = at_least (close_script c.args.close.now) in omega (arith, one, c.requires.few)
+pub prove_close-count_or_stop-requires-in-Contradiction : goal.prove_close-count_or_stop-requires-in-Contradiction
+prove_close-count_or_stop-requires-in-Contradiction t c = let one = at_least (close_script c.args.close.now) in omega (arith, one, c.requires.few)
 
 pub prove_close-assume-requires : goal.prove_close-assume-requires
 prove_close-assume-requires t c =
@@ -165,8 +165,8 @@ prove_close-returns-in-Err-clause-err t c =
     (stops_outside (all_stated c.args.before.now) (script_of c.in-Cases.first.value) first c.assume.new.self goal (c.args.number.now + 1) c.in-Err.stop hs entered
     (subst (λ b. StopsWithin (all_stated c.args.before.now) (script_of b) c.assume.new.self goal (c.args.number.now + 1) c.in-Err.stop) c.deref.ensures c.in-Err.ensures.err))
 
-pub prove_close-release-requires : goal.prove_close-release-requires
-prove_close-release-requires t c =
+pub prove_close-leave_block-requires : goal.prove_close-leave_block-requires
+prove_close-leave_block-requires t c =
     let x = c.args.state.now in
     let entered = c.in_ok-assume-in-Cases.ensures ∙ ap (after_literal c.in-Cases.lit) c.in_ok-outer-in-Cases.ensures.held in
     some_held x c.prove_block.new.state (c.in-Ok.ensures.kept ∙ ap (λ w. w.context.held) entered)
@@ -186,8 +186,8 @@ prove_close-assume_not-requires t c =
     c.requires.ready
     in
     let back =
-    left_is c.in_ok-outer-in-Cases.outer x c.prove_block.new.state c.release.new.self c.in_ok-outer-in-Cases.ensures.names
-    (c.in-Ok.ensures.kept ∙ ap (λ w. w.context.held) entered) c.release.ensures
+    left_is c.in_ok-outer-in-Cases.outer x c.prove_block.new.state c.leave_block.new.self c.in_ok-outer-in-Cases.ensures.names
+    (c.in-Ok.ensures.kept ∙ ap (λ w. w.context.held) entered) c.leave_block.ensures
     in
     subst (λ y. are_limited_facts y.context.scope (with_fact y.context.facts (negation lit)) ≡ true) (sym back) (block_facts (all_stated c.args.before.now) (script_of c.in-Cases.second.value) (after_literal (negation lit) x) goal other)
 
@@ -207,8 +207,8 @@ prove_close-prove_block-requires-in-Cases t c =
     in
     let count = split_size c.args.close.now lit c.in-Cases.first c.in-Cases.second c.in-Cases.is in
     let back =
-    left_is c.in_ok-outer-in-Cases.outer x c.prove_block.new.state c.release.new.self c.in_ok-outer-in-Cases.ensures.names
-    (c.in-Ok.ensures.kept ∙ ap (λ w. w.context.held) entered) c.release.ensures
+    left_is c.in_ok-outer-in-Cases.outer x c.prove_block.new.state c.leave_block.new.self c.in_ok-outer-in-Cases.ensures.names
+    (c.in-Ok.ensures.kept ∙ ap (λ w. w.context.held) entered) c.leave_block.ensures
     in
     let begun = c.in-Ok-assume_not.ensures ∙ ap (after_literal (negation lit)) back in
     let same = ap (λ b. size (script_of b)) c.deref.ensures in
@@ -224,36 +224,36 @@ prove_close-prove_block-requires-in-Cases t c =
 pub prove_close-returns-in-Qed-clause-next : goal.prove_close-returns-in-Qed-clause-next
 prove_close-returns-in-Qed-clause-next t c =
     let one = ap (λ k. size (close_script k)) c.in-Qed.is ∙ qed_one c.in-Qed.objects c.in-Qed.certs in
-    on_ok_map _ _ c.with_number.result (λ e. omega (arith, e, one)) c.with_number.ensures.next
+    on_ok_map _ _ c.count_or_stop.result (λ e. omega (arith, e, one)) c.count_or_stop.ensures.next
 
 pub prove_close-returns-in-Qed-clause-err : goal.prove_close-returns-in-Qed-clause-err
 prove_close-returns-in-Qed-clause-err t c =
     let x = c.args.state.now in
     let goal = goal_view c.args.goal.now in
-    numbered_close_stops (all_stated c.args.before.now) c.args.close.now x goal c.args.number.now c.qed-answered.result c.with_number.result
+    numbered_close_stops (all_stated c.args.before.now) c.args.close.now x goal c.args.number.now c.qed-answered.result c.count_or_stop.result
     (err_map _ _ c.qed-answered.result
     (λ h k. subst (λ close. IsStopOfClose (all_stated c.args.before.now) close x.context goal h) (sym c.in-Qed.is) (subst (λ os. IsStopOfClose (all_stated c.args.before.now) (Qed os c.in-Qed.certs) x.context goal h) c.items.ensures (k (all_stated c.args.before.now) c.in-Qed.certs)))
     c.qed-answered.ensures.err)
-    c.with_number.ensures.err
+    c.count_or_stop.ensures.err
 
 pub prove_close-returns-in-Qed-clause-kept : goal.prove_close-returns-in-Qed-clause-kept
-prove_close-returns-in-Qed-clause-kept t c = on_ok _ c.with_number.result (ap (λ b. b.held) c.qed-answered.ensures.kept)
+prove_close-returns-in-Qed-clause-kept t c = on_ok _ c.count_or_stop.result (ap (λ b. b.held) c.qed-answered.ensures.kept)
 
 pub prove_close-returns-in-Contradiction-clause-kept : goal.prove_close-returns-in-Contradiction-clause-kept
-prove_close-returns-in-Contradiction-clause-kept t c = on_ok _ c.with_number-in-Contradiction.result (ap (λ b. b.held) c.contradiction-answered.ensures.kept)
+prove_close-returns-in-Contradiction-clause-kept t c = on_ok _ c.count_or_stop-in-Contradiction.result (ap (λ b. b.held) c.contradiction-answered.ensures.kept)
 
 pub prove_close-returns-in-Contradiction-clause-next : goal.prove_close-returns-in-Contradiction-clause-next
 prove_close-returns-in-Contradiction-clause-next t c =
     let one = ap (λ k. size (close_script k)) c.in-Contradiction.is ∙ contradiction_one c.in-Contradiction.against in
-    on_ok_map _ _ c.with_number-in-Contradiction.result (λ e. omega (arith, e, one)) c.with_number-in-Contradiction.ensures.next
+    on_ok_map _ _ c.count_or_stop-in-Contradiction.result (λ e. omega (arith, e, one)) c.count_or_stop-in-Contradiction.ensures.next
 
 pub prove_close-returns-in-Contradiction-clause-err : goal.prove_close-returns-in-Contradiction-clause-err
 prove_close-returns-in-Contradiction-clause-err t c =
     let x = c.args.state.now in
     let goal = goal_view c.args.goal.now in
-    numbered_close_stops (all_stated c.args.before.now) c.args.close.now x goal c.args.number.now c.contradiction-answered.result c.with_number-in-Contradiction.result
+    numbered_close_stops (all_stated c.args.before.now) c.args.close.now x goal c.args.number.now c.contradiction-answered.result c.count_or_stop-in-Contradiction.result
     (err_map _ _ c.contradiction-answered.result (λ h k. subst (λ close. IsStopOfClose (all_stated c.args.before.now) close x.context goal h) (sym c.in-Contradiction.is) (k (all_stated c.args.before.now) goal c.in-Contradiction.against)) c.contradiction-answered.ensures.err)
-    c.with_number-in-Contradiction.ensures.err
+    c.count_or_stop-in-Contradiction.ensures.err
 
 pub prove_close-returns-in_ok-derived-in-Ok-prove_block-clause-derived : goal.prove_close-returns-in_ok-derived-in-Ok-prove_block-clause-derived
 prove_close-returns-in_ok-derived-in-Ok-prove_block-clause-derived t c =
@@ -265,8 +265,8 @@ prove_close-returns-in_ok-derived-in-Ok-prove_block-clause-derived t c =
     let lit = c.in-Cases.lit in
     let parts = split_parts (all_stated c.args.before.now) c.args.close.now lit c.in-Cases.first c.in-Cases.second x goal c.in-Cases.is c.requires.ready in
     let back =
-    left_is c.in_ok-outer-in-Cases.outer x c.prove_block.new.state c.release.new.self c.in_ok-outer-in-Cases.ensures.names
-    (c.in-Ok.ensures.kept ∙ ap (λ w. w.context.held) entered) c.release.ensures
+    left_is c.in_ok-outer-in-Cases.outer x c.prove_block.new.state c.leave_block.new.self c.in_ok-outer-in-Cases.ensures.names
+    (c.in-Ok.ensures.kept ∙ ap (λ w. w.context.held) entered) c.leave_block.ensures
     in
     let begun = c.in-Ok-assume_not.ensures ∙ ap (after_literal (negation lit)) back in
     split_derived (all_stated c.args.before.now) c.args.close.now lit c.in-Cases.first c.in-Cases.second c.in-Ok.one c.in-Ok-prove_block.other c.in_ok-derived-in-Ok-prove_block.derived x goal c.in-Cases.is parts
@@ -291,8 +291,8 @@ prove_close-returns-in_ok-derived-in-Ok-prove_block-clause-kept t c =
     let entered = c.in_ok-assume-in-Cases.ensures ∙ ap (after_literal c.in-Cases.lit) c.in_ok-outer-in-Cases.ensures.held in
     let lit = c.in-Cases.lit in
     let back =
-    left_is c.in_ok-outer-in-Cases.outer x c.prove_block.new.state c.release.new.self c.in_ok-outer-in-Cases.ensures.names
-    (c.in-Ok.ensures.kept ∙ ap (λ w. w.context.held) entered) c.release.ensures
+    left_is c.in_ok-outer-in-Cases.outer x c.prove_block.new.state c.leave_block.new.self c.in_ok-outer-in-Cases.ensures.names
+    (c.in-Ok.ensures.kept ∙ ap (λ w. w.context.held) entered) c.leave_block.ensures
     in
     kept_literal (negation lit) x c.assume_not.new.self c.prove_block-in-Cases.new.state (c.in-Ok-assume_not.ensures ∙ ap (after_literal (negation lit)) back) c.in-Ok-prove_block.ensures.kept
 
@@ -306,8 +306,8 @@ prove_close-returns-in-Err-prove_block-clause-err t c =
     let lit = c.in-Cases.lit in
     let parts = split_parts (all_stated c.args.before.now) c.args.close.now lit c.in-Cases.first c.in-Cases.second x goal c.in-Cases.is c.requires.ready in
     let back =
-    left_is c.in_ok-outer-in-Cases.outer x c.prove_block.new.state c.release.new.self c.in_ok-outer-in-Cases.ensures.names
-    (c.in-Ok.ensures.kept ∙ ap (λ w. w.context.held) entered) c.release.ensures
+    left_is c.in_ok-outer-in-Cases.outer x c.prove_block.new.state c.leave_block.new.self c.in_ok-outer-in-Cases.ensures.names
+    (c.in-Ok.ensures.kept ∙ ap (λ w. w.context.held) entered) c.leave_block.ensures
     in
     let begun = c.in-Ok-assume_not.ensures ∙ ap (after_literal (negation lit)) back in
     let same = ap (λ b. size (script_of b)) c.deref.ensures in
@@ -323,8 +323,8 @@ prove_close-returns-in-Err-prove_block-clause-err t c =
 pub prove_step-cite-answered-requires : goal.prove_step-cite-answered-requires
 prove_step-cite-answered-requires t c = cite_good (all_stated c.args.before.now) c.in-Cite.by c.args.state.now c.args.number.now (subst (λ s. IsReadyStep (all_stated c.args.before.now) s c.args.state.now c.args.number.now) c.in-Cite.is c.requires)
 
-pub prove_step-with_number-requires : goal.prove_step-with_number-requires
-prove_step-with_number-requires t c = let one = at_least (step_script c.args.step.now c.requires.rest) in omega (arith, one, c.requires.few)
+pub prove_step-count_or_stop-requires : goal.prove_step-count_or_stop-requires
+prove_step-count_or_stop-requires t c = let one = at_least (step_script c.args.step.now c.requires.rest) in omega (arith, one, c.requires.few)
 
 pub prove_step-hence-answered-requires-clause-lit : goal.prove_step-hence-answered-requires-clause-lit
 prove_step-hence-answered-requires-clause-lit t c =
@@ -335,8 +335,8 @@ pub prove_step-hence-answered-requires-clause-after : goal.prove_step-hence-answ
 prove_step-hence-answered-requires-clause-after t c =
     (hence_good (all_stated c.args.before.now) c.in-Hence.lit c.in-Hence.cert c.args.state.now c.args.number.now (subst (λ s. IsReadyStep (all_stated c.args.before.now) s c.args.state.now c.args.number.now) c.in-Hence.is c.requires)).after
 
-pub prove_step-with_number-requires-in-Hence : goal.prove_step-with_number-requires-in-Hence
-prove_step-with_number-requires-in-Hence t c = let one = at_least (step_script c.args.step.now c.requires.rest) in omega (arith, one, c.requires.few)
+pub prove_step-count_or_stop-requires-in-Hence : goal.prove_step-count_or_stop-requires-in-Hence
+prove_step-count_or_stop-requires-in-Hence t c = let one = at_least (step_script c.args.step.now c.requires.rest) in omega (arith, one, c.requires.few)
 
 pub prove_step-make-answered-requires-clause-room : goal.prove_step-make-answered-requires-clause-room
 prove_step-make-answered-requires-clause-room t c =
@@ -350,50 +350,50 @@ pub prove_step-make-answered-requires-clause-after : goal.prove_step-make-answer
 prove_step-make-answered-requires-clause-after t c =
     (make_good (all_stated c.args.before.now) c.in-Make.construction c.in-Make.names c.in-Make.certs c.args.state.now c.args.number.now (subst (λ s. IsReadyStep (all_stated c.args.before.now) s c.args.state.now c.args.number.now) c.in-Make.is c.requires)).after
 
-pub prove_step-with_number-requires-in-Make : goal.prove_step-with_number-requires-in-Make
-prove_step-with_number-requires-in-Make t c = let one = at_least (step_script c.args.step.now c.requires.rest) in omega (arith, one, c.requires.few)
+pub prove_step-count_or_stop-requires-in-Make : goal.prove_step-count_or_stop-requires-in-Make
+prove_step-count_or_stop-requires-in-Make t c = let one = at_least (step_script c.args.step.now c.requires.rest) in omega (arith, one, c.requires.few)
 
 pub prove_step-returns-in-Cite-clause-ok : goal.prove_step-returns-in-Cite-clause-ok
 prove_step-returns-in-Cite-clause-ok t c =
     let x = c.args.state.now in
     let after = c.cite-answered.new.state in
-    subst (λ s. IfOk c.with_number.result (λ d. IsPassed (all_stated c.args.before.now) (step_script s) x c.args.number.now (step_script d) after c.with_number.new.number)) (sym c.in-Cite.is)
-    (numbered_passed (all_stated c.args.before.now) (Cite c.in-Cite.by) x after c.args.number.now c.with_number.new.number c.cite-answered.result c.with_number.result (cite_one c.in-Cite.by) (ok_map _ _ c.cite-answered.result (λ d h. h (all_stated c.args.before.now)) c.cite-answered.ensures.ok) c.with_number.ensures.ok c.with_number.ensures.next)
+    subst (λ s. IfOk c.count_or_stop.result (λ d. IsPassed (all_stated c.args.before.now) (step_script s) x c.args.number.now (step_script d) after c.count_or_stop.new.number)) (sym c.in-Cite.is)
+    (numbered_passed (all_stated c.args.before.now) (Cite c.in-Cite.by) x after c.args.number.now c.count_or_stop.new.number c.cite-answered.result c.count_or_stop.result (cite_one c.in-Cite.by) (ok_map _ _ c.cite-answered.result (λ d h. h (all_stated c.args.before.now)) c.cite-answered.ensures.ok) c.count_or_stop.ensures.ok c.count_or_stop.ensures.next)
 
 pub prove_step-returns-in-Cite-clause-err : goal.prove_step-returns-in-Cite-clause-err
 prove_step-returns-in-Cite-clause-err t c =
     let x = c.args.state.now in
-    numbered_stops (all_stated c.args.before.now) c.args.step.now x c.cite-answered.new.state c.args.number.now c.cite-answered.result c.with_number.result
-    (err_map _ _ c.cite-answered.result (λ h k. subst (λ s. IsStopOfStep (all_stated c.args.before.now) s x h) (sym c.in-Cite.is) (k (all_stated c.args.before.now))) c.cite-answered.ensures.err) c.cite-answered.ensures.kept c.with_number.ensures.err
+    numbered_stops (all_stated c.args.before.now) c.args.step.now x c.cite-answered.new.state c.args.number.now c.cite-answered.result c.count_or_stop.result
+    (err_map _ _ c.cite-answered.result (λ h k. subst (λ s. IsStopOfStep (all_stated c.args.before.now) s x h) (sym c.in-Cite.is) (k (all_stated c.args.before.now))) c.cite-answered.ensures.err) c.cite-answered.ensures.kept c.count_or_stop.ensures.err
 
 pub prove_step-returns-in-Hence-clause-ok : goal.prove_step-returns-in-Hence-clause-ok
 prove_step-returns-in-Hence-clause-ok t c =
     let x = c.args.state.now in
     let after = c.hence-answered.new.state in
-    subst (λ s. IfOk c.with_number-in-Hence.result (λ d. IsPassed (all_stated c.args.before.now) (step_script s) x c.args.number.now (step_script d) after c.with_number-in-Hence.new.number)) (sym c.in-Hence.is)
-    (numbered_passed (all_stated c.args.before.now) (Hence c.in-Hence.lit c.in-Hence.cert) x after c.args.number.now c.with_number-in-Hence.new.number c.hence-answered.result c.with_number-in-Hence.result (hence_one c.in-Hence.lit c.in-Hence.cert)
-    (ok_map _ _ c.hence-answered.result (λ d h. h (all_stated c.args.before.now) c.in-Hence.cert) c.hence-answered.ensures.ok) c.with_number-in-Hence.ensures.ok c.with_number-in-Hence.ensures.next)
+    subst (λ s. IfOk c.count_or_stop-in-Hence.result (λ d. IsPassed (all_stated c.args.before.now) (step_script s) x c.args.number.now (step_script d) after c.count_or_stop-in-Hence.new.number)) (sym c.in-Hence.is)
+    (numbered_passed (all_stated c.args.before.now) (Hence c.in-Hence.lit c.in-Hence.cert) x after c.args.number.now c.count_or_stop-in-Hence.new.number c.hence-answered.result c.count_or_stop-in-Hence.result (hence_one c.in-Hence.lit c.in-Hence.cert)
+    (ok_map _ _ c.hence-answered.result (λ d h. h (all_stated c.args.before.now) c.in-Hence.cert) c.hence-answered.ensures.ok) c.count_or_stop-in-Hence.ensures.ok c.count_or_stop-in-Hence.ensures.next)
 
 pub prove_step-returns-in-Hence-clause-err : goal.prove_step-returns-in-Hence-clause-err
 prove_step-returns-in-Hence-clause-err t c =
     let x = c.args.state.now in
-    numbered_stops (all_stated c.args.before.now) c.args.step.now x c.hence-answered.new.state c.args.number.now c.hence-answered.result c.with_number-in-Hence.result
-    (err_map _ _ c.hence-answered.result (λ h k. subst (λ s. IsStopOfStep (all_stated c.args.before.now) s x h) (sym c.in-Hence.is) (k (all_stated c.args.before.now) c.in-Hence.cert)) c.hence-answered.ensures.err) c.hence-answered.ensures.kept c.with_number-in-Hence.ensures.err
+    numbered_stops (all_stated c.args.before.now) c.args.step.now x c.hence-answered.new.state c.args.number.now c.hence-answered.result c.count_or_stop-in-Hence.result
+    (err_map _ _ c.hence-answered.result (λ h k. subst (λ s. IsStopOfStep (all_stated c.args.before.now) s x h) (sym c.in-Hence.is) (k (all_stated c.args.before.now) c.in-Hence.cert)) c.hence-answered.ensures.err) c.hence-answered.ensures.kept c.count_or_stop-in-Hence.ensures.err
 
 pub prove_step-returns-in-Make-clause-ok : goal.prove_step-returns-in-Make-clause-ok
 prove_step-returns-in-Make-clause-ok t c =
     let x = c.args.state.now in
     let after = c.make-answered.new.state in
-    subst (λ s. IfOk c.with_number-in-Make.result (λ d. IsPassed (all_stated c.args.before.now) (step_script s) x c.args.number.now (step_script d) after c.with_number-in-Make.new.number)) (sym c.in-Make.is)
-    (numbered_passed (all_stated c.args.before.now) (Make c.in-Make.construction c.in-Make.names c.in-Make.certs) x after c.args.number.now c.with_number-in-Make.new.number c.make-answered.result c.with_number-in-Make.result (make_one c.in-Make.construction c.in-Make.names c.in-Make.certs)
-    (ok_map _ _ c.make-answered.result (λ d h. subst (λ ns. IsLicensedStep (all_stated c.args.before.now) (Make c.in-Make.construction ns c.in-Make.certs) x d after) c.items.ensures (h (all_stated c.args.before.now) c.in-Make.certs)) c.make-answered.ensures.ok) c.with_number-in-Make.ensures.ok c.with_number-in-Make.ensures.next)
+    subst (λ s. IfOk c.count_or_stop-in-Make.result (λ d. IsPassed (all_stated c.args.before.now) (step_script s) x c.args.number.now (step_script d) after c.count_or_stop-in-Make.new.number)) (sym c.in-Make.is)
+    (numbered_passed (all_stated c.args.before.now) (Make c.in-Make.construction c.in-Make.names c.in-Make.certs) x after c.args.number.now c.count_or_stop-in-Make.new.number c.make-answered.result c.count_or_stop-in-Make.result (make_one c.in-Make.construction c.in-Make.names c.in-Make.certs)
+    (ok_map _ _ c.make-answered.result (λ d h. subst (λ ns. IsLicensedStep (all_stated c.args.before.now) (Make c.in-Make.construction ns c.in-Make.certs) x d after) c.items.ensures (h (all_stated c.args.before.now) c.in-Make.certs)) c.make-answered.ensures.ok) c.count_or_stop-in-Make.ensures.ok c.count_or_stop-in-Make.ensures.next)
 
 pub prove_step-returns-in-Make-clause-err : goal.prove_step-returns-in-Make-clause-err
 prove_step-returns-in-Make-clause-err t c =
     let x = c.args.state.now in
-    numbered_stops (all_stated c.args.before.now) c.args.step.now x c.make-answered.new.state c.args.number.now c.make-answered.result c.with_number-in-Make.result
+    numbered_stops (all_stated c.args.before.now) c.args.step.now x c.make-answered.new.state c.args.number.now c.make-answered.result c.count_or_stop-in-Make.result
     (err_map _ _ c.make-answered.result (λ h k. subst (λ s. IsStopOfStep (all_stated c.args.before.now) s x h) (sym c.in-Make.is) (subst (λ ns. IsStopOfStep (all_stated c.args.before.now) (Make c.in-Make.construction ns c.in-Make.certs) x h) c.items.ensures (k (all_stated c.args.before.now) c.in-Make.certs))) c.make-answered.ensures.err)
-    c.make-answered.ensures.kept c.with_number-in-Make.ensures.err
+    c.make-answered.ensures.kept c.count_or_stop-in-Make.ensures.err
 
 -- ---- an application
 
@@ -404,8 +404,8 @@ prove_step-bounds-before-theorem t c =
     let many = as_many c.args.before.now in
     omega (arith, many, ready.place)
 
-pub prove_step-with_number-requires-in-Apply : goal.prove_step-with_number-requires-in-Apply
-prove_step-with_number-requires-in-Apply t c = let one = at_least (step_script c.args.step.now c.requires.rest) in omega (arith, one, c.requires.few)
+pub prove_step-count_or_stop-requires-in-Apply : goal.prove_step-count_or_stop-requires-in-Apply
+prove_step-count_or_stop-requires-in-Apply t c = let one = at_least (step_script c.args.step.now c.requires.rest) in omega (arith, one, c.requires.few)
 
 pub prove_step-apply-answered-requires : goal.prove_step-apply-answered-requires
 prove_step-apply-answered-requires t c =
@@ -426,13 +426,13 @@ prove_step-returns-in-Apply-clause-ok t c =
     let place : y.theorem < length c.args.before.now = omega (arith, many, ready.place) in
     let is = theorem_is c.args.before.now y.theorem c.index-before-theorem.result place c.index-before-theorem.is in
     let after = c.apply-answered.new.state in
-    subst (λ s. IfOk c.with_number-in-Apply.result (λ d. IsPassed (all_stated c.args.before.now) (step_script s) x c.args.number.now (step_script d) after c.with_number-in-Apply.new.number)) (sym y.is)
-    (numbered_passed (all_stated c.args.before.now) (Apply y.theorem y.args y.names y.certs) x after c.args.number.now c.with_number-in-Apply.new.number c.apply-answered.result c.with_number-in-Apply.result (apply_one y.theorem y.args y.names y.certs)
+    subst (λ s. IfOk c.count_or_stop-in-Apply.result (λ d. IsPassed (all_stated c.args.before.now) (step_script s) x c.args.number.now (step_script d) after c.count_or_stop-in-Apply.new.number)) (sym y.is)
+    (numbered_passed (all_stated c.args.before.now) (Apply y.theorem y.args y.names y.certs) x after c.args.number.now c.count_or_stop-in-Apply.new.number c.apply-answered.result c.count_or_stop-in-Apply.result (apply_one y.theorem y.args y.names y.certs)
     (ok_map _ _ c.apply-answered.result
     (λ d h. subst (λ ns. IsLicensedStep (all_stated c.args.before.now) (Apply y.theorem y.args ns y.certs) x d after) c.items-in-Apply-2.ensures
     (subst (λ es. IsLicensedStep (all_stated c.args.before.now) (Apply y.theorem es c.items-in-Apply-2.result.now y.certs) x d after) c.items-in-Apply.ensures (h (all_stated c.args.before.now) y.certs is)))
     c.apply-answered.ensures.ok)
-    c.with_number-in-Apply.ensures.ok c.with_number-in-Apply.ensures.next)
+    c.count_or_stop-in-Apply.ensures.ok c.count_or_stop-in-Apply.ensures.next)
 
 pub prove_step-returns-in-Apply-clause-err : goal.prove_step-returns-in-Apply-clause-err
 prove_step-returns-in-Apply-clause-err t c =
@@ -442,13 +442,13 @@ prove_step-returns-in-Apply-clause-err t c =
     let many = as_many c.args.before.now in
     let place : y.theorem < length c.args.before.now = omega (arith, many, ready.place) in
     let is = theorem_is c.args.before.now y.theorem c.index-before-theorem.result place c.index-before-theorem.is in
-    numbered_stops (all_stated c.args.before.now) c.args.step.now x c.apply-answered.new.state c.args.number.now c.apply-answered.result c.with_number-in-Apply.result
+    numbered_stops (all_stated c.args.before.now) c.args.step.now x c.apply-answered.new.state c.args.number.now c.apply-answered.result c.count_or_stop-in-Apply.result
     (err_map _ _ c.apply-answered.result
     (λ h k. subst (λ s. IsStopOfStep (all_stated c.args.before.now) s x h) (sym y.is)
     (subst (λ ns. IsStopOfStep (all_stated c.args.before.now) (Apply y.theorem y.args ns y.certs) x h) c.items-in-Apply-2.ensures
     (subst (λ es. IsStopOfStep (all_stated c.args.before.now) (Apply y.theorem es c.items-in-Apply-2.result.now y.certs) x h) c.items-in-Apply.ensures (k (all_stated c.args.before.now) y.certs is))))
     c.apply-answered.ensures.err)
-    c.apply-answered.ensures.kept c.with_number-in-Apply.ensures.err
+    c.apply-answered.ensures.kept c.count_or_stop-in-Apply.ensures.err
 
 -- ---- a claim
 
@@ -485,13 +485,13 @@ prove_claim-prove_block-requires t c =
     let hs = x.context.held ++ state_of x.context ∷ [] in
     let parts = claim_begins before c.args.shown.now inner x c.args.number.now c.requires in (
       search (rules, the_lemmas),
-      (ready_inside before inner x c.hold.new.self (goal_of c.args.shown.now) hs c.in_ok-outer.ensures.held parts.block, claim_numbers before c.args.shown.now inner x c.args.number.now c.requires),
+      (ready_inside before inner x c.enter_block.new.self (goal_of c.args.shown.now) hs c.in_ok-outer.ensures.held parts.block, claim_numbers before c.args.shown.now inner x c.args.number.now c.requires),
     )
 
 pub prove_claim-end_claim-requires-clause-held : goal.prove_claim-end_claim-requires-clause-held
 prove_claim-end_claim-requires-clause-held t c =
     let x = c.args.state.now in
-    some_held x c.prove_block.new.state (kept_inside x c.hold.new.self c.prove_block.new.state c.in_ok-outer.ensures.held c.in-Ok.ensures.kept)
+    some_held x c.prove_block.new.state (kept_inside x c.enter_block.new.self c.prove_block.new.state c.in_ok-outer.ensures.held c.in-Ok.ensures.kept)
 
 pub prove_claim-end_claim-requires-clause-good : goal.prove_claim-end_claim-requires-clause-good
 prove_claim-end_claim-requires-clause-good t c =
@@ -500,8 +500,8 @@ prove_claim-end_claim-requires-clause-good t c =
     let inner = script_of c.args.inner.now in
     let x = c.args.state.now in
     let hs = x.context.held ++ state_of x.context ∷ [] in
-    let derived = derived_outside before inner x c.hold.new.self (goal_of shown) (script_of c.in-Ok.proved) hs c.in_ok-outer.ensures.held c.in-Ok.ensures.derived in
-    good_after x c.prove_block.new.state shown shown (kept_inside x c.hold.new.self c.prove_block.new.state c.in_ok-outer.ensures.held c.in-Ok.ensures.kept) refl
+    let derived = derived_outside before inner x c.enter_block.new.self (goal_of shown) (script_of c.in-Ok.proved) hs c.in_ok-outer.ensures.held c.in-Ok.ensures.derived in
+    good_after x c.prove_block.new.state shown shown (kept_inside x c.enter_block.new.self c.prove_block.new.state c.in_ok-outer.ensures.held c.in-Ok.ensures.kept) refl
     (claim_ends before shown inner (script_of c.in-Ok.proved) x c.args.number.now derived c.requires)
 
 pub prove_claim-returns-in-Ok-clause-ok : goal.prove_claim-returns-in-Ok-clause-ok
@@ -511,9 +511,9 @@ prove_claim-returns-in-Ok-clause-ok t c =
     let inner = script_of c.args.inner.now in
     let x = c.args.state.now in
     let hs = x.context.held ++ state_of x.context ∷ [] in
-    let derived = derived_outside before inner x c.hold.new.self (goal_of shown) (script_of c.in-Ok.proved) hs c.in_ok-outer.ensures.held c.in-Ok.ensures.derived in
+    let derived = derived_outside before inner x c.enter_block.new.self (goal_of shown) (script_of c.in-Ok.proved) hs c.in_ok-outer.ensures.held c.in-Ok.ensures.derived in
     claim_is_passed before shown inner x c.prove_block.new.state c.end_claim.new.state c.args.number.now c.prove_block.new.number c.in_ok-outer.outer c.in-Ok.proved c.end_claim.result (claim_begins before shown inner x c.args.number.now c.requires) derived c.in-Ok.ensures.next
-    c.in_ok-outer.ensures.names (kept_inside x c.hold.new.self c.prove_block.new.state c.in_ok-outer.ensures.held c.in-Ok.ensures.kept) c.end_claim.ensures.step c.end_claim.ensures.after
+    c.in_ok-outer.ensures.names (kept_inside x c.enter_block.new.self c.prove_block.new.state c.in_ok-outer.ensures.held c.in-Ok.ensures.kept) c.end_claim.ensures.step c.end_claim.ensures.after
 
 pub prove_claim-returns-in-Err-clause-err : goal.prove_claim-returns-in-Err-clause-err
 prove_claim-returns-in-Err-clause-err t c =
@@ -523,7 +523,7 @@ prove_claim-returns-in-Err-clause-err t c =
     let x = c.args.state.now in
     let hs = x.context.held ++ state_of x.context ∷ [] in
     claim_is_stopped before shown inner x c.args.number.now c.in-Err.stop (claim_begins before shown inner x c.args.number.now c.requires)
-    (stops_outside before inner x c.hold.new.self (goal_of shown) (c.args.number.now + 1) c.in-Err.stop hs c.in_ok-outer.ensures.held c.in-Err.ensures.err)
+    (stops_outside before inner x c.enter_block.new.self (goal_of shown) (c.args.number.now + 1) c.in-Err.stop hs c.in_ok-outer.ensures.held c.in-Err.ensures.err)
 
 -- ---- a superposition
 
@@ -557,7 +557,7 @@ prove_step-returns-in-Superposed-clause-err t c =
     all_stopped_as before (whole y.certs) (step_script c.args.step.now) c.args.state.now c.args.number.now c.prove_superposed.result
     (superposed_is c.args.step.now y.superposition y.names c.items-in-Superposed.result.now y.shown c.items-in-Superposed-2.result.now y.certs y.inner c.deref-in-Superposed.result.now y.is c.items-in-Superposed.ensures c.items-in-Superposed-2.ensures
     c.deref-in-Superposed.ensures)
-    (err_with c.prove_superposed.result (λ s certs. StepsStop before (whole certs) c.args.state.now c.args.number.now s) y.certs c.prove_superposed.ensures.err)
+    (err_with c.prove_superposed.result (λ s certs. StopsInSteps before (whole certs) c.args.state.now c.args.number.now s) y.certs c.prove_superposed.ensures.err)
 
 pub prove_superposed-superpose-requires-clause-room : goal.prove_superposed-superpose-requires-clause-room
 prove_superposed-superpose-requires-clause-room t c =
@@ -590,8 +590,8 @@ prove_superposed-returns-in-Err-clause-err t c =
     let s = c.in-Err.step_stop in
     let hs = x.context.held ++ state_of x.context ∷ [] in
     superposed_is_refused (all_stated c.args.before.now) h.superposition.now h.names.now h.shown.now (script_of c.args.inner.now) x c.superpose.new.state c.args.number.now s c.stop_at.result
-    (step_stops_outside hs x c.hold.new.self (superposing.needs_of_superposition h.superposition.now) s c.in_ok-outer.ensures.held c.in-Err.ensures.err)
-    (names_outside hs x c.hold.new.self c.superpose.new.state s c.in_ok-outer.ensures.held c.in-Err.ensures.kept) c.stop_at.ensures
+    (step_stops_outside hs x c.enter_block.new.self (superposing.needs_of_superposition h.superposition.now) s c.in_ok-outer.ensures.held c.in-Err.ensures.err)
+    (names_outside hs x c.enter_block.new.self c.superpose.new.state s c.in_ok-outer.ensures.held c.in-Err.ensures.kept) c.stop_at.ensures
 
 pub prove_superposed-overflow_add-number : goal.prove_superposed-overflow_add-number
 prove_superposed-overflow_add-number t c =

@@ -30,8 +30,8 @@ reach-returns-then-number-target-clause-reached t c =
 pub reach-returns-then-number-target-clause-kept : goal.reach-returns-then-number-target-clause-kept
 reach-returns-then-number-target-clause-kept t c = c.loop-step.invariant.passed.kept
 
-pub reach-lines_of-lines-requires : goal.reach-lines_of-lines-requires
-reach-lines_of-lines-requires t c =
+pub reach-step_count-lines-requires : goal.reach-step_count-lines-requires
+reach-step_count-lines-requires t c =
     let ready = step_ready (all_stated c.args.before.now) c.args.block.now.steps.items c.deref-step-items.result.now c.loop-step.invariant.done (close_script c.args.block.now.close) c.loop-step.step-index c.step-item.result c.args.state.now c.loop-step.state
     (goal_view c.args.goal.now) c.args.first c.loop-step.number c.deref-step-items.ensures.value c.loop-step-test.true c.step-item.is c.loop-step.invariant.passed c.requires.ready c.requires.few
     in
@@ -42,7 +42,7 @@ reach-overflow_add-next t c =
     let ready = step_ready (all_stated c.args.before.now) c.args.block.now.steps.items c.deref-step-items.result.now c.loop-step.invariant.done (close_script c.args.block.now.close) c.loop-step.step-index c.step-item.result c.args.state.now c.loop-step.state
     (goal_view c.args.goal.now) c.args.first c.loop-step.number c.deref-step-items.ensures.value c.loop-step-test.true c.step-item.is c.loop-step.invariant.passed c.requires.ready c.requires.few
     in
-    omega (arith, ready.few, c.lines_of-lines.ensures ready.rest)
+    omega (arith, ready.few, c.step_count-lines.ensures ready.rest)
 
 pub reach-enter_step-requires : goal.reach-enter_step-requires
 reach-enter_step-requires t c =
@@ -54,7 +54,7 @@ reach-enter_step-requires t c =
         ready,
         (
           omega (arith, c.loop-step.invariant.from, c.if-number-target.false),
-          λ rest. omega (arith, c.lines_of-lines.ensures rest, c.if-target-next.true),
+          λ rest. omega (arith, c.step_count-lines.ensures rest, c.if-target-next.true),
         ),
       ),
     )
@@ -92,8 +92,8 @@ reach-loop-step-preserved t c =
           c.loop-step.invariant.passed c.in-Ok.ensures.ok;
       from = omega (
         arith,
-        step_ends (all_stated c.args.before.now) c.step-item.result c.in-Ok.proved c.loop-step.state c.prove_step.new.state c.loop-step.number c.prove_step.new.number c.lines_of-lines.result (close_script c.args.block.now.close)
-            (c.lines_of-lines.ensures (close_script c.args.block.now.close)) c.in-Ok.ensures.ok,
+        step_ends (all_stated c.args.before.now) c.step-item.result c.in-Ok.proved c.loop-step.state c.prove_step.new.state c.loop-step.number c.prove_step.new.number c.step_count-lines.result (close_script c.args.block.now.close)
+            (c.step_count-lines.ensures (close_script c.args.block.now.close)) c.in-Ok.ensures.ok,
         c.if-target-next.false,
       );
     }
@@ -108,7 +108,7 @@ reach-returns-in-Err-clause-earlier t c =
     let ready = step_ready (all_stated c.args.before.now) c.args.block.now.steps.items c.deref-step-items.result.now c.loop-step.invariant.done (close_script c.args.block.now.close) c.loop-step.step-index c.step-item.result c.args.state.now c.loop-step.state
     (goal_view c.args.goal.now) c.args.first c.loop-step.number c.deref-step-items.ensures.value c.loop-step-test.true c.step-item.is c.loop-step.invariant.passed c.requires.ready c.requires.few
     in
-    step_stops_before (all_stated c.args.before.now) c.step-item.result c.loop-step.state c.loop-step.number c.lines_of-lines.result c.args.target c.in-Err.stop ready (c.lines_of-lines.ensures ready.rest)
+    step_stops_before (all_stated c.args.before.now) c.step-item.result c.loop-step.state c.loop-step.number c.step_count-lines.result c.args.target c.in-Err.stop ready (c.step_count-lines.ensures ready.rest)
     (omega (arith, c.if-target-next.false)) c.in-Err.ensures.err
 
 -- ---- its close
@@ -401,21 +401,21 @@ enter_close-returns-then-target-middle-clause-err t c =
     (subst (λ b. StopsWithin (all_stated c.args.before.now) (script_of b) c.assume.new.self goal (c.args.number + 1) stop) c.deref-then-target-middle.ensures k)))
     c.reach.ensures.err
 
-pub enter_close-pass_first-requires-clause-ready : goal.enter_close-pass_first-requires-clause-ready
-enter_close-pass_first-requires-clause-ready t c =
+pub enter_close-pass_first_case-requires-clause-ready : goal.enter_close-pass_first_case-requires-clause-ready
+enter_close-pass_first_case-requires-clause-ready t c =
     let x = c.args.state.now in
     let goal = goal_view c.args.goal.now in
     let parts = split_parts (all_stated c.args.before.now) c.args.close.now c.in-Cases.lit c.in-Cases.first c.in-Cases.second x goal c.in-Cases.is c.requires.ready in
     subst (λ b. IsReadyFor (all_stated c.args.before.now) (script_of b) (after_literal c.in-Cases.lit x) goal) (sym c.deref-in-Cases.ensures) parts.one
 
-pub enter_close-pass_first-requires-clause-few : goal.enter_close-pass_first-requires-clause-few
-enter_close-pass_first-requires-clause-few t c =
+pub enter_close-pass_first_case-requires-clause-few : goal.enter_close-pass_first_case-requires-clause-few
+enter_close-pass_first_case-requires-clause-few t c =
     let count = split_size c.args.close.now c.in-Cases.lit c.in-Cases.first c.in-Cases.second c.in-Cases.is in
     let same = ap (λ b. size (script_of b)) c.deref-in-Cases.ensures in
     omega (arith, count, same, c.requires.few)
 
-pub enter_close-pass_first-requires-clause-second : goal.enter_close-pass_first-requires-clause-second
-enter_close-pass_first-requires-clause-second t c = λ derived d.
+pub enter_close-pass_first_case-requires-clause-second : goal.enter_close-pass_first_case-requires-clause-second
+enter_close-pass_first_case-requires-clause-second t c = λ derived d.
     let x = c.args.state.now in
     let goal = goal_view c.args.goal.now in
     let lit = c.in-Cases.lit in
@@ -430,14 +430,14 @@ enter_close-reach-requires-in-Ok t c =
     let x = c.args.state.now in
     let goal = goal_view c.args.goal.now in
     let lit = c.in-Cases.lit in
-    let passed = subst (λ b. IsFirstPassed (all_stated c.args.before.now) lit (script_of b) x goal c.pass_first.new.state) c.deref-in-Cases.ensures c.in-Ok.ensures.passed in
+    let passed = subst (λ b. IsFirstPassed (all_stated c.args.before.now) lit (script_of b) x goal c.pass_first_case.new.state) c.deref-in-Cases.ensures c.in-Ok.ensures.passed in
     let other = split_second_ready (all_stated c.args.before.now) c.args.close.now lit c.in-Cases.first c.in-Cases.second passed.derived x goal c.in-Cases.is passed.is_derived c.requires.ready in
     let count = split_size c.args.close.now lit c.in-Cases.first c.in-Cases.second c.in-Cases.is in
     let same = ap (λ b. size (script_of b)) c.deref.ensures in
     let again = ap (λ b. size (script_of b)) c.deref-in-Ok.ensures in (
       search (rules, the_lemmas),
       (
-        subst (λ b. IsReadyFor (all_stated c.args.before.now) (script_of b) c.pass_first.new.state goal) (sym c.deref-in-Ok.ensures)
+        subst (λ b. IsReadyFor (all_stated c.args.before.now) (script_of b) c.pass_first_case.new.state goal) (sym c.deref-in-Ok.ensures)
             (subst (λ y. IsReadyFor (all_stated c.args.before.now) (script_of c.in-Cases.second.value) y goal) (sym passed.is_after) other),
         (
           omega (arith, count, same, again, c.size-count.ensures, c.requires.few),
@@ -455,18 +455,18 @@ enter_close-returns-in-Ok-clause-reached t c =
     let goal = goal_view c.args.goal.now in
     let lit = c.in-Cases.lit in
     let parts = split_parts (all_stated c.args.before.now) c.args.close.now lit c.in-Cases.first c.in-Cases.second x goal c.in-Cases.is c.requires.ready in
-    let passed = subst (λ b. IsFirstPassed (all_stated c.args.before.now) lit (script_of b) x goal c.pass_first.new.state) c.deref-in-Cases.ensures c.in-Ok.ensures.passed in
+    let passed = subst (λ b. IsFirstPassed (all_stated c.args.before.now) lit (script_of b) x goal c.pass_first_case.new.state) c.deref-in-Cases.ensures c.in-Ok.ensures.passed in
     let same = ap (λ b. size (script_of b)) c.deref.ensures in
     on_ok_map _ _ c.reach-in-Ok.result
-    (λ k. split_entered_second (all_stated c.args.before.now) c.args.close.now lit c.in-Cases.first c.in-Cases.second x c.pass_first.new.state c.reach-in-Ok.new.state goal c.args.number (c.args.number + 1 + c.size-count.result) c.args.target c.in-Cases.is parts passed
+    (λ k. split_entered_second (all_stated c.args.before.now) c.args.close.now lit c.in-Cases.first c.in-Cases.second x c.pass_first_case.new.state c.reach-in-Ok.new.state goal c.args.number (c.args.number + 1 + c.size-count.result) c.args.target c.in-Cases.is parts passed
     (omega (arith, same, c.size-count.ensures))
-    (subst (λ b. ReachesStep (all_stated c.args.before.now) (script_of b) c.pass_first.new.state goal (c.args.number + 1 + c.size-count.result) c.args.target c.reach-in-Ok.new.state) c.deref-in-Ok.ensures k))
+    (subst (λ b. ReachesStep (all_stated c.args.before.now) (script_of b) c.pass_first_case.new.state goal (c.args.number + 1 + c.size-count.result) c.args.target c.reach-in-Ok.new.state) c.deref-in-Ok.ensures k))
     c.reach-in-Ok.ensures.reached
 
 pub enter_close-returns-in-Ok-clause-kept : goal.enter_close-returns-in-Ok-clause-kept
 enter_close-returns-in-Ok-clause-kept t c =
     on_ok_map _ _ c.reach-in-Ok.result
-    (kept_literal (negation c.in-Cases.lit) c.args.state.now c.pass_first.new.state c.reach-in-Ok.new.state c.in-Ok.ensures.passed.is_after) c.reach-in-Ok.ensures.kept
+    (kept_literal (negation c.in-Cases.lit) c.args.state.now c.pass_first_case.new.state c.reach-in-Ok.new.state c.in-Ok.ensures.passed.is_after) c.reach-in-Ok.ensures.kept
 
 pub enter_close-returns-in-Ok-clause-err : goal.enter_close-returns-in-Ok-clause-err
 enter_close-returns-in-Ok-clause-err t c =
@@ -474,12 +474,12 @@ enter_close-returns-in-Ok-clause-err t c =
     let goal = goal_view c.args.goal.now in
     let lit = c.in-Cases.lit in
     let parts = split_parts (all_stated c.args.before.now) c.args.close.now lit c.in-Cases.first c.in-Cases.second x goal c.in-Cases.is c.requires.ready in
-    let passed = subst (λ b. IsFirstPassed (all_stated c.args.before.now) lit (script_of b) x goal c.pass_first.new.state) c.deref-in-Cases.ensures c.in-Ok.ensures.passed in
+    let passed = subst (λ b. IsFirstPassed (all_stated c.args.before.now) lit (script_of b) x goal c.pass_first_case.new.state) c.deref-in-Cases.ensures c.in-Ok.ensures.passed in
     let same = ap (λ b. size (script_of b)) c.deref.ensures in
     err_map _ _ c.reach-in-Ok.result
-    (λ stop k. split_stopped_second (all_stated c.args.before.now) c.args.close.now lit c.in-Cases.first c.in-Cases.second x c.pass_first.new.state goal c.args.number (c.args.number + 1 + c.size-count.result) stop c.in-Cases.is parts passed
+    (λ stop k. split_stopped_second (all_stated c.args.before.now) c.args.close.now lit c.in-Cases.first c.in-Cases.second x c.pass_first_case.new.state goal c.args.number (c.args.number + 1 + c.size-count.result) stop c.in-Cases.is parts passed
     (omega (arith, same, c.size-count.ensures))
-    (subst (λ b. StopsWithin (all_stated c.args.before.now) (script_of b) c.pass_first.new.state goal (c.args.number + 1 + c.size-count.result) stop) c.deref-in-Ok.ensures k))
+    (subst (λ b. StopsWithin (all_stated c.args.before.now) (script_of b) c.pass_first_case.new.state goal (c.args.number + 1 + c.size-count.result) stop) c.deref-in-Ok.ensures k))
     c.reach-in-Ok.ensures.err
 
 pub enter_close-returns-in-Err-clause-err : goal.enter_close-returns-in-Err-clause-err

@@ -4,7 +4,7 @@ use Rattle.e_theorem.specs.Statements.{all_stated}
 use Rattle.e_deriv.specs.declared.block.Close.TheViews.{the_lemmas}
 use Rattle.e_deriv.specs.Script.{script_of, step_script, close_script, Cite, Hence, Make, Apply, Claim, Superposed}
 use Rattle.e_deriv.specs.Goal.{goal_view}
-use Rattle.e_verify.specs.Checking.{verdict_at, IsCheckable, IsChecked, AreVerified, StepsReject}
+use Rattle.e_verify.specs.Checking.{verdict_at, IsCheckable, IsChecked, AreVerified, RejectsInSteps}
 use Rattle.e_deriv.proofs.Keeping.{all_stay}
 use Rattle.e_verify.proofs.checking.PassedLines.{cite_line, hence_line, make_line, apply_line, line_passed, line_rejected}
 use Rattle.e_verify.proofs.checking.InnerBlocks.{step_ready, step_rejects, step_same, step_next, steps_end, kept_on, ok_as, err_as, few_one, few_step, formed_step, small_step, cite_parts, cite_is, hence_is, make_is, apply_is, hence_parts, make_parts, apply_parts, ready_as, all_passed_as, all_rejected_as, ok_with, err_with, few_lines, formed_lines, small_lines, claim_is, claim_ready, claim_fails, claim_stops, claim_done, superposed_is, superposed_parts, superposed_ready, tested_fits, superposed_fails, superposed_stops, superposed_done, qed_parts, contradiction_parts, qed_ok, qed_bad, contradiction_ok, contradiction_bad, split_fails, first_ready, first_stops, after_first, second_ready, split_same, kept_after_first}
@@ -92,100 +92,100 @@ verify_step-verdict_of-requires-in-Make t c = few_step (all_stated c.args.before
 pub verify_step-verdict_of-requires-in-Apply : goal.verify_step-verdict_of-requires-in-Apply
 verify_step-verdict_of-requires-in-Apply t c = few_step (all_stated c.args.before.now) c.args.step.now c.args.state.now c.args.number c.requires.ready
 
-pub verify_step-returns-in_ok-cite-in-Cite-clause-ok : goal.verify_step-returns-in_ok-cite-in-Cite-clause-ok
-verify_step-returns-in_ok-cite-in-Cite-clause-ok t c =
+pub verify_step-returns-in_ok-check_cite-in-Cite-clause-ok : goal.verify_step-returns-in_ok-check_cite-in-Cite-clause-ok
+verify_step-returns-in_ok-check_cite-in-Cite-clause-ok t c =
     let before = all_stated c.args.before.now in
-    line_passed before c.args.step.now (Cite c.in-Cite.by) c.args.state.now c.cite.new.state c.args.number c.in_ok-cite-in-Cite.field-0 c.verdict_of.result (cite_is c.args.step.now c.in-Cite.by c.in-Cite.is) (cite_line c.in-Cite.by)
-    (c.in_ok-cite-in-Cite.ensures before) c.verdict_of.ensures.ok
+    line_passed before c.args.step.now (Cite c.in-Cite.by) c.args.state.now c.check_cite.new.state c.args.number c.in_ok-check_cite-in-Cite.field-0 c.verdict_of.result (cite_is c.args.step.now c.in-Cite.by c.in-Cite.is) (cite_line c.in-Cite.by)
+    (c.in_ok-check_cite-in-Cite.ensures before) c.verdict_of.ensures.ok
 
-pub verify_step-returns-in_ok-cite-in-Cite-clause-err : goal.verify_step-returns-in_ok-cite-in-Cite-clause-err
-verify_step-returns-in_ok-cite-in-Cite-clause-err t c =
+pub verify_step-returns-in_ok-check_cite-in-Cite-clause-err : goal.verify_step-returns-in_ok-check_cite-in-Cite-clause-err
+verify_step-returns-in_ok-check_cite-in-Cite-clause-err t c =
     let before = all_stated c.args.before.now in
-    line_rejected before c.args.step.now (Cite c.in-Cite.by) c.args.state.now c.cite.new.state c.args.number c.in_ok-cite-in-Cite.field-0 c.verdict_of.result (cite_is c.args.step.now c.in-Cite.by c.in-Cite.is)
-    (c.in_ok-cite-in-Cite.ensures before) c.verdict_of.ensures.err
+    line_rejected before c.args.step.now (Cite c.in-Cite.by) c.args.state.now c.check_cite.new.state c.args.number c.in_ok-check_cite-in-Cite.field-0 c.verdict_of.result (cite_is c.args.step.now c.in-Cite.by c.in-Cite.is)
+    (c.in_ok-check_cite-in-Cite.ensures before) c.verdict_of.ensures.err
 
-pub verify_step-cite-requires : goal.verify_step-cite-requires
-verify_step-cite-requires t c = cite_parts (all_stated c.args.before.now) c.args.step.now c.in-Cite.by c.args.state.now c.args.number c.in-Cite.is c.requires.ready
+pub verify_step-check_cite-requires : goal.verify_step-check_cite-requires
+verify_step-check_cite-requires t c = cite_parts (all_stated c.args.before.now) c.args.step.now c.in-Cite.by c.args.state.now c.args.number c.in-Cite.is c.requires.ready
 
-pub verify_step-hence-requires-clause-facts : goal.verify_step-hence-requires-clause-facts
-verify_step-hence-requires-clause-facts t c = formed_step (all_stated c.args.before.now) c.args.step.now c.args.state.now c.args.number c.requires.ready
+pub verify_step-check_hence-requires-clause-facts : goal.verify_step-check_hence-requires-clause-facts
+verify_step-check_hence-requires-clause-facts t c = formed_step (all_stated c.args.before.now) c.args.step.now c.args.state.now c.args.number c.requires.ready
 
-pub verify_step-hence-requires-clause-lit : goal.verify_step-hence-requires-clause-lit
-verify_step-hence-requires-clause-lit t c =
+pub verify_step-check_hence-requires-clause-lit : goal.verify_step-check_hence-requires-clause-lit
+verify_step-check_hence-requires-clause-lit t c =
     (hence_parts (all_stated c.args.before.now) c.args.step.now c.in-Hence.lit c.in-Hence.cert c.args.state.now c.args.number c.in-Hence.is c.requires.ready).0
 
-pub verify_step-hence-requires-clause-cert : goal.verify_step-hence-requires-clause-cert
-verify_step-hence-requires-clause-cert t c =
+pub verify_step-check_hence-requires-clause-cert : goal.verify_step-check_hence-requires-clause-cert
+verify_step-check_hence-requires-clause-cert t c =
     (hence_parts (all_stated c.args.before.now) c.args.step.now c.in-Hence.lit c.in-Hence.cert c.args.state.now c.args.number c.in-Hence.is c.requires.ready).1
 
-pub verify_step-returns-in_ok-hence-in-Hence-clause-ok : goal.verify_step-returns-in_ok-hence-in-Hence-clause-ok
-verify_step-returns-in_ok-hence-in-Hence-clause-ok t c =
+pub verify_step-returns-in_ok-check_hence-in-Hence-clause-ok : goal.verify_step-returns-in_ok-check_hence-in-Hence-clause-ok
+verify_step-returns-in_ok-check_hence-in-Hence-clause-ok t c =
     let before = all_stated c.args.before.now in
     let y = c.in-Hence in
-    line_passed before c.args.step.now (Hence y.lit y.cert) c.args.state.now c.hence.new.state c.args.number c.in_ok-hence-in-Hence.field-0 c.verdict_of-in-Hence.result (hence_is c.args.step.now y.lit y.cert y.is) (hence_line y.lit y.cert)
-    (c.in_ok-hence-in-Hence.ensures before) c.verdict_of-in-Hence.ensures.ok
+    line_passed before c.args.step.now (Hence y.lit y.cert) c.args.state.now c.check_hence.new.state c.args.number c.in_ok-check_hence-in-Hence.field-0 c.verdict_of-in-Hence.result (hence_is c.args.step.now y.lit y.cert y.is) (hence_line y.lit y.cert)
+    (c.in_ok-check_hence-in-Hence.ensures before) c.verdict_of-in-Hence.ensures.ok
 
-pub verify_step-returns-in_ok-hence-in-Hence-clause-err : goal.verify_step-returns-in_ok-hence-in-Hence-clause-err
-verify_step-returns-in_ok-hence-in-Hence-clause-err t c =
+pub verify_step-returns-in_ok-check_hence-in-Hence-clause-err : goal.verify_step-returns-in_ok-check_hence-in-Hence-clause-err
+verify_step-returns-in_ok-check_hence-in-Hence-clause-err t c =
     let before = all_stated c.args.before.now in
     let y = c.in-Hence in
-    line_rejected before c.args.step.now (Hence y.lit y.cert) c.args.state.now c.hence.new.state c.args.number c.in_ok-hence-in-Hence.field-0 c.verdict_of-in-Hence.result (hence_is c.args.step.now y.lit y.cert y.is)
-    (c.in_ok-hence-in-Hence.ensures before) c.verdict_of-in-Hence.ensures.err
+    line_rejected before c.args.step.now (Hence y.lit y.cert) c.args.state.now c.check_hence.new.state c.args.number c.in_ok-check_hence-in-Hence.field-0 c.verdict_of-in-Hence.result (hence_is c.args.step.now y.lit y.cert y.is)
+    (c.in_ok-check_hence-in-Hence.ensures before) c.verdict_of-in-Hence.ensures.err
 
-pub verify_step-make-requires-clause-facts : goal.verify_step-make-requires-clause-facts
-verify_step-make-requires-clause-facts t c = formed_step (all_stated c.args.before.now) c.args.step.now c.args.state.now c.args.number c.requires.ready
+pub verify_step-check_make-requires-clause-facts : goal.verify_step-check_make-requires-clause-facts
+verify_step-check_make-requires-clause-facts t c = formed_step (all_stated c.args.before.now) c.args.step.now c.args.state.now c.args.number c.requires.ready
 
-pub verify_step-make-requires-clause-scope : goal.verify_step-make-requires-clause-scope
-verify_step-make-requires-clause-scope t c = small_step (all_stated c.args.before.now) c.args.step.now c.args.state.now c.args.number c.requires.ready
+pub verify_step-check_make-requires-clause-scope : goal.verify_step-check_make-requires-clause-scope
+verify_step-check_make-requires-clause-scope t c = small_step (all_stated c.args.before.now) c.args.step.now c.args.state.now c.args.number c.requires.ready
 
-pub verify_step-make-requires-clause-certs : goal.verify_step-make-requires-clause-certs
-verify_step-make-requires-clause-certs t c =
+pub verify_step-check_make-requires-clause-certs : goal.verify_step-check_make-requires-clause-certs
+verify_step-check_make-requires-clause-certs t c =
     let y = c.in-Make in
     make_parts (all_stated c.args.before.now) c.args.step.now y.construction y.names y.certs c.items.result.now c.args.state.now c.args.number y.is c.items.ensures c.requires.ready
 
-pub verify_step-returns-in_ok-make-in-Make-clause-ok : goal.verify_step-returns-in_ok-make-in-Make-clause-ok
-verify_step-returns-in_ok-make-in-Make-clause-ok t c =
+pub verify_step-returns-in_ok-check_make-in-Make-clause-ok : goal.verify_step-returns-in_ok-check_make-in-Make-clause-ok
+verify_step-returns-in_ok-check_make-in-Make-clause-ok t c =
     let before = all_stated c.args.before.now in
     let y = c.in-Make in
-    line_passed before c.args.step.now (Make y.construction y.names y.certs) c.args.state.now c.make.new.state c.args.number c.in_ok-make-in-Make.field-0 c.verdict_of-in-Make.result (make_is c.args.step.now y.construction y.names y.certs y.is) (make_line y.construction y.names y.certs)
-    (subst (λ cs. IsChecked before (Make y.construction y.names cs) c.args.state.now c.make.new.state c.in_ok-make-in-Make.field-0) c.items.ensures (c.in_ok-make-in-Make.ensures before y.names)) c.verdict_of-in-Make.ensures.ok
+    line_passed before c.args.step.now (Make y.construction y.names y.certs) c.args.state.now c.check_make.new.state c.args.number c.in_ok-check_make-in-Make.field-0 c.verdict_of-in-Make.result (make_is c.args.step.now y.construction y.names y.certs y.is) (make_line y.construction y.names y.certs)
+    (subst (λ cs. IsChecked before (Make y.construction y.names cs) c.args.state.now c.check_make.new.state c.in_ok-check_make-in-Make.field-0) c.items.ensures (c.in_ok-check_make-in-Make.ensures before y.names)) c.verdict_of-in-Make.ensures.ok
 
-pub verify_step-returns-in_ok-make-in-Make-clause-err : goal.verify_step-returns-in_ok-make-in-Make-clause-err
-verify_step-returns-in_ok-make-in-Make-clause-err t c =
+pub verify_step-returns-in_ok-check_make-in-Make-clause-err : goal.verify_step-returns-in_ok-check_make-in-Make-clause-err
+verify_step-returns-in_ok-check_make-in-Make-clause-err t c =
     let before = all_stated c.args.before.now in
     let y = c.in-Make in
-    line_rejected before c.args.step.now (Make y.construction y.names y.certs) c.args.state.now c.make.new.state c.args.number c.in_ok-make-in-Make.field-0 c.verdict_of-in-Make.result (make_is c.args.step.now y.construction y.names y.certs y.is)
-    (subst (λ cs. IsChecked before (Make y.construction y.names cs) c.args.state.now c.make.new.state c.in_ok-make-in-Make.field-0) c.items.ensures (c.in_ok-make-in-Make.ensures before y.names)) c.verdict_of-in-Make.ensures.err
+    line_rejected before c.args.step.now (Make y.construction y.names y.certs) c.args.state.now c.check_make.new.state c.args.number c.in_ok-check_make-in-Make.field-0 c.verdict_of-in-Make.result (make_is c.args.step.now y.construction y.names y.certs y.is)
+    (subst (λ cs. IsChecked before (Make y.construction y.names cs) c.args.state.now c.check_make.new.state c.in_ok-check_make-in-Make.field-0) c.items.ensures (c.in_ok-check_make-in-Make.ensures before y.names)) c.verdict_of-in-Make.ensures.err
 
-pub verify_step-apply-requires-clause-facts : goal.verify_step-apply-requires-clause-facts
-verify_step-apply-requires-clause-facts t c = formed_step (all_stated c.args.before.now) c.args.step.now c.args.state.now c.args.number c.requires.ready
+pub verify_step-check_apply-requires-clause-facts : goal.verify_step-check_apply-requires-clause-facts
+verify_step-check_apply-requires-clause-facts t c = formed_step (all_stated c.args.before.now) c.args.step.now c.args.state.now c.args.number c.requires.ready
 
-pub verify_step-apply-requires-clause-scope : goal.verify_step-apply-requires-clause-scope
-verify_step-apply-requires-clause-scope t c = small_step (all_stated c.args.before.now) c.args.step.now c.args.state.now c.args.number c.requires.ready
+pub verify_step-check_apply-requires-clause-scope : goal.verify_step-check_apply-requires-clause-scope
+verify_step-check_apply-requires-clause-scope t c = small_step (all_stated c.args.before.now) c.args.step.now c.args.state.now c.args.number c.requires.ready
 
-pub verify_step-apply-requires-clause-certs : goal.verify_step-apply-requires-clause-certs
-verify_step-apply-requires-clause-certs t c =
+pub verify_step-check_apply-requires-clause-certs : goal.verify_step-check_apply-requires-clause-certs
+verify_step-check_apply-requires-clause-certs t c =
     let y = c.in-Apply in
     apply_parts (all_stated c.args.before.now) c.args.step.now y.theorem y.args y.names y.certs c.items-in-Apply.result.now c.args.state.now c.args.number y.is c.items-in-Apply.ensures c.requires.ready
 
-pub verify_step-returns-in_ok-apply-in-Apply-clause-ok : goal.verify_step-returns-in_ok-apply-in-Apply-clause-ok
-verify_step-returns-in_ok-apply-in-Apply-clause-ok t c =
+pub verify_step-returns-in_ok-check_apply-in-Apply-clause-ok : goal.verify_step-returns-in_ok-check_apply-in-Apply-clause-ok
+verify_step-returns-in_ok-check_apply-in-Apply-clause-ok t c =
     let before = all_stated c.args.before.now in
     let y = c.in-Apply in
     let x = c.args.state.now in
-    line_passed before c.args.step.now (Apply y.theorem y.args y.names y.certs) x c.apply.new.state c.args.number c.in_ok-apply-in-Apply.field-0 c.verdict_of-in-Apply.result (apply_is c.args.step.now y.theorem y.args y.names y.certs y.is)
+    line_passed before c.args.step.now (Apply y.theorem y.args y.names y.certs) x c.check_apply.new.state c.args.number c.in_ok-check_apply-in-Apply.field-0 c.verdict_of-in-Apply.result (apply_is c.args.step.now y.theorem y.args y.names y.certs y.is)
     (apply_line y.theorem y.args y.names y.certs)
-    (subst (λ os. IsChecked before (Apply y.theorem os y.names y.certs) x c.apply.new.state c.in_ok-apply-in-Apply.field-0) c.items-args.ensures
-    (subst (λ cs. IsChecked before (Apply y.theorem c.items-args.result.now y.names cs) x c.apply.new.state c.in_ok-apply-in-Apply.field-0) c.items-in-Apply.ensures (c.in_ok-apply-in-Apply.ensures y.names))) c.verdict_of-in-Apply.ensures.ok
+    (subst (λ os. IsChecked before (Apply y.theorem os y.names y.certs) x c.check_apply.new.state c.in_ok-check_apply-in-Apply.field-0) c.items-args.ensures
+    (subst (λ cs. IsChecked before (Apply y.theorem c.items-args.result.now y.names cs) x c.check_apply.new.state c.in_ok-check_apply-in-Apply.field-0) c.items-in-Apply.ensures (c.in_ok-check_apply-in-Apply.ensures y.names))) c.verdict_of-in-Apply.ensures.ok
 
-pub verify_step-returns-in_ok-apply-in-Apply-clause-err : goal.verify_step-returns-in_ok-apply-in-Apply-clause-err
-verify_step-returns-in_ok-apply-in-Apply-clause-err t c =
+pub verify_step-returns-in_ok-check_apply-in-Apply-clause-err : goal.verify_step-returns-in_ok-check_apply-in-Apply-clause-err
+verify_step-returns-in_ok-check_apply-in-Apply-clause-err t c =
     let before = all_stated c.args.before.now in
     let y = c.in-Apply in
     let x = c.args.state.now in
-    line_rejected before c.args.step.now (Apply y.theorem y.args y.names y.certs) x c.apply.new.state c.args.number c.in_ok-apply-in-Apply.field-0 c.verdict_of-in-Apply.result (apply_is c.args.step.now y.theorem y.args y.names y.certs y.is)
-    (subst (λ os. IsChecked before (Apply y.theorem os y.names y.certs) x c.apply.new.state c.in_ok-apply-in-Apply.field-0) c.items-args.ensures
-    (subst (λ cs. IsChecked before (Apply y.theorem c.items-args.result.now y.names cs) x c.apply.new.state c.in_ok-apply-in-Apply.field-0) c.items-in-Apply.ensures (c.in_ok-apply-in-Apply.ensures y.names))) c.verdict_of-in-Apply.ensures.err
+    line_rejected before c.args.step.now (Apply y.theorem y.args y.names y.certs) x c.check_apply.new.state c.args.number c.in_ok-check_apply-in-Apply.field-0 c.verdict_of-in-Apply.result (apply_is c.args.step.now y.theorem y.args y.names y.certs y.is)
+    (subst (λ os. IsChecked before (Apply y.theorem os y.names y.certs) x c.check_apply.new.state c.in_ok-check_apply-in-Apply.field-0) c.items-args.ensures
+    (subst (λ cs. IsChecked before (Apply y.theorem c.items-args.result.now y.names cs) x c.check_apply.new.state c.in_ok-check_apply-in-Apply.field-0) c.items-in-Apply.ensures (c.in_ok-check_apply-in-Apply.ensures y.names))) c.verdict_of-in-Apply.ensures.err
 
 -- ---- a claim
 
@@ -318,20 +318,20 @@ verify_step-returns-in-Superposed-clause-err t c =
     all_rejected_as before (whole y.names) (step_script c.args.step.now) c.args.state.now c.args.number c.verify_superposed.result
     (superposed_is c.args.step.now y.superposition y.names y.shown c.items-in-Superposed.result.now y.certs c.items-in-Superposed-2.result.now y.inner c.deref-in-Superposed.result.now y.is c.items-in-Superposed.ensures c.items-in-Superposed-2.ensures
     c.deref-in-Superposed.ensures)
-    (err_with c.verify_superposed.result (λ e names. StepsReject before (whole names) c.args.state.now c.args.number e) y.names c.verify_superposed.ensures.err)
+    (err_with c.verify_superposed.result (λ e names. RejectsInSteps before (whole names) c.args.state.now c.args.number e) y.names c.verify_superposed.ensures.err)
 
-pub verify_superposed-superpose-requires-clause-facts : goal.verify_superposed-superpose-requires-clause-facts
-verify_superposed-superpose-requires-clause-facts t c =
+pub verify_superposed-check_superpose-requires-clause-facts : goal.verify_superposed-check_superpose-requires-clause-facts
+verify_superposed-check_superpose-requires-clause-facts t c =
     let h = c.args.parts.now in
     formed_lines (all_stated c.args.before.now) (Superposed h.superposition.now c.requires.ready.0 h.shown.now h.certs.now (script_of c.args.inner.now)) c.args.state.now c.args.number c.requires.ready.1
 
-pub verify_superposed-superpose-requires-clause-scope : goal.verify_superposed-superpose-requires-clause-scope
-verify_superposed-superpose-requires-clause-scope t c =
+pub verify_superposed-check_superpose-requires-clause-scope : goal.verify_superposed-check_superpose-requires-clause-scope
+verify_superposed-check_superpose-requires-clause-scope t c =
     let h = c.args.parts.now in
     small_lines (all_stated c.args.before.now) (Superposed h.superposition.now c.requires.ready.0 h.shown.now h.certs.now (script_of c.args.inner.now)) c.args.state.now c.args.number c.requires.ready.1
 
-pub verify_superposed-superpose-requires-clause-certs : goal.verify_superposed-superpose-requires-clause-certs
-verify_superposed-superpose-requires-clause-certs t c =
+pub verify_superposed-check_superpose-requires-clause-certs : goal.verify_superposed-check_superpose-requires-clause-certs
+verify_superposed-check_superpose-requires-clause-certs t c =
     let h = c.args.parts.now in
     superposed_parts (all_stated c.args.before.now) h.superposition.now c.requires.ready.0 h.shown.now h.certs.now (script_of c.args.inner.now) c.args.state.now c.args.number c.requires.ready.1
 
@@ -339,7 +339,7 @@ pub verify_superposed-returns-then-not-branch-clause-err : goal.verify_superpose
 verify_superposed-returns-then-not-branch-clause-err t c =
     let before = all_stated c.args.before.now in
     let h = c.args.parts.now in
-    superposed_fails before h.superposition.now h.shown.now h.certs.now (script_of c.args.inner.now) c.args.state.now c.args.number c.in_ok-superpose.field-0 c.if-not-branch.true (c.in_ok-superpose.ensures.test before)
+    superposed_fails before h.superposition.now h.shown.now h.certs.now (script_of c.args.inner.now) c.args.state.now c.args.number c.in_ok-check_superpose.field-0 c.if-not-branch.true (c.in_ok-check_superpose.ensures.test before)
 
 pub verify_superposed-overflow_add-number : goal.verify_superposed-overflow_add-number
 verify_superposed-overflow_add-number t c =
@@ -352,8 +352,8 @@ verify_superposed-verify_block-requires t c =
     let h = c.args.parts.now in (
       search (rules, the_lemmas),
       (
-        superposed_ready before h.superposition.now c.requires.ready.0 h.shown.now h.certs.now (script_of c.args.inner.now) c.args.state.now c.superpose.new.state c.args.number (c.in_ok-superpose.ensures.after c.if-not-branch.false)
-            (tested_fits before h.superposition.now h.shown.now h.certs.now c.args.state.now c.in_ok-superpose.field-0 c.if-not-branch.false (c.in_ok-superpose.ensures.test before)) c.requires.ready.1,
+        superposed_ready before h.superposition.now c.requires.ready.0 h.shown.now h.certs.now (script_of c.args.inner.now) c.args.state.now c.check_superpose.new.state c.args.number (c.in_ok-check_superpose.ensures.after c.if-not-branch.false)
+            (tested_fits before h.superposition.now h.shown.now h.certs.now c.args.state.now c.in_ok-check_superpose.field-0 c.if-not-branch.false (c.in_ok-check_superpose.ensures.test before)) c.requires.ready.1,
         c.requires.statements,
       ),
     )
@@ -362,8 +362,8 @@ pub verify_superposed-returns-clause-ok : goal.verify_superposed-returns-clause-
 verify_superposed-returns-clause-ok t c =
     let before = all_stated c.args.before.now in
     let h = c.args.parts.now in
-    superposed_done before h.superposition.now h.shown.now h.certs.now (script_of c.args.inner.now) c.args.state.now c.superpose.new.state c.verify_block.new.state c.restore.new.self c.assume_all.new.self c.checkpoint-outer.result c.args.number c.in_ok-next.next
-    c.in_ok-superpose.field-0 (c.in_ok-superpose.ensures.after c.if-not-branch.false) c.if-not-branch.false (c.in_ok-superpose.ensures.test before) c.in_ok-next.ensures.ok c.checkpoint-outer.ensures c.in_ok-next.ensures.kept c.restore.ensures
+    superposed_done before h.superposition.now h.shown.now h.certs.now (script_of c.args.inner.now) c.args.state.now c.check_superpose.new.state c.verify_block.new.state c.restore.new.self c.assume_all.new.self c.checkpoint-outer.result c.args.number c.in_ok-next.next
+    c.in_ok-check_superpose.field-0 (c.in_ok-check_superpose.ensures.after c.if-not-branch.false) c.if-not-branch.false (c.in_ok-check_superpose.ensures.test before) c.in_ok-next.ensures.ok c.checkpoint-outer.ensures c.in_ok-next.ensures.kept c.restore.ensures
     c.in_ok-assume_all.ensures
 
 pub verify_superposed-returns-in_err-next-clause-err : goal.verify_superposed-returns-in_err-next-clause-err
@@ -372,8 +372,8 @@ verify_superposed-returns-in_err-next-clause-err t c =
     let h = c.args.parts.now in
     let p = err_from_is_err_and c.from_residual-in_err-next.result c.from_residual-in_err-next.ensures.1 in
     rw (p.1, p.2)
-    (superposed_stops before h.superposition.now h.shown.now h.certs.now (script_of c.args.inner.now) c.args.state.now c.superpose.new.state c.args.number c.in_ok-superpose.field-0 c.in_err-next.field-0.0 (c.in_ok-superpose.ensures.after c.if-not-branch.false)
-    c.if-not-branch.false (c.in_ok-superpose.ensures.test before) c.in_err-next.ensures.err)
+    (superposed_stops before h.superposition.now h.shown.now h.certs.now (script_of c.args.inner.now) c.args.state.now c.check_superpose.new.state c.args.number c.in_ok-check_superpose.field-0 c.in_err-next.field-0.0 (c.in_ok-check_superpose.ensures.after c.if-not-branch.false)
+    c.if-not-branch.false (c.in_ok-check_superpose.ensures.test before) c.in_err-next.ensures.err)
 
 -- ---- a split
 

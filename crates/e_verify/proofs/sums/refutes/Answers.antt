@@ -37,20 +37,20 @@ loop-multiplier-preserved c =
     (ap (λ s. allows_multiplier s x.0) (sym c.sense.ensures) ∙ sym sign ∙ c.if-not-allows_sign.false) (strict ∙ ap (λ s. is_strict s x.0) c.sense-in-loop-multiplier.ensures) new c.in-Some.ensures.small
     (good_multiplier c.args.sum.now c.loop-multiplier.multiplier-index x (sym c.has_limited_size.ensures ∙ c.if-not-has_limited_size.false) c.loop-multiplier-test.true c.loop-multiplier-item.is)
 
-pub cancel-cancel-requires : goal.cancel-cancel-requires
-cancel-cancel-requires c t =
+pub all_cancel-cancel-requires : goal.all_cancel-cancel-requires
+all_cancel-cancel-requires c t =
     let p = row_scope_view c.args.row_scope.now in
     small_totals p c.args.sum.now c.loop-multiplier.multiplier-index c.loop-multiplier.totals c.loop-multiplier.strict t (sym c.has_limited_size.ensures ∙ c.if-not-has_limited_size.false) c.loop-multiplier.invariant
 
 pub returns-then-strict-2 : goal.returns-then-strict-2
 returns-then-strict-2 c =
-    ap (λ b. b && c.cancel-cancel.result) (sym c.if-strict-2.true)
-    ∙ whole (row_scope_view c.args.row_scope.now) c.args.sum.now _ c.loop-multiplier.totals c.loop-multiplier.strict c.cancel-cancel.result (sym c.has_limited_size.ensures ∙ c.if-not-has_limited_size.false)
-    (all_taken c.args.sum.now c.loop-multiplier.multiplier-index c.loop-multiplier-test.false) c.loop-multiplier.invariant c.cancel-cancel.ensures
+    ap (λ b. b && c.all_cancel-cancel.result) (sym c.if-strict-2.true)
+    ∙ whole (row_scope_view c.args.row_scope.now) c.args.sum.now _ c.loop-multiplier.totals c.loop-multiplier.strict c.all_cancel-cancel.result (sym c.has_limited_size.ensures ∙ c.if-not-has_limited_size.false)
+    (all_taken c.args.sum.now c.loop-multiplier.multiplier-index c.loop-multiplier-test.false) c.loop-multiplier.invariant c.all_cancel-cancel.ensures
 
 pub returns-else-strict-2 : goal.returns-else-strict-2
 returns-else-strict-2 c =
     c.if-strict-2.false
-    ∙ ap (λ b. b && c.cancel-cancel.result) (sym c.if-strict-2.false)
-    ∙ whole (row_scope_view c.args.row_scope.now) c.args.sum.now _ c.loop-multiplier.totals c.loop-multiplier.strict c.cancel-cancel.result (sym c.has_limited_size.ensures ∙ c.if-not-has_limited_size.false)
-    (all_taken c.args.sum.now c.loop-multiplier.multiplier-index c.loop-multiplier-test.false) c.loop-multiplier.invariant c.cancel-cancel.ensures
+    ∙ ap (λ b. b && c.all_cancel-cancel.result) (sym c.if-strict-2.false)
+    ∙ whole (row_scope_view c.args.row_scope.now) c.args.sum.now _ c.loop-multiplier.totals c.loop-multiplier.strict c.all_cancel-cancel.result (sym c.has_limited_size.ensures ∙ c.if-not-has_limited_size.false)
+    (all_taken c.args.sum.now c.loop-multiplier.multiplier-index c.loop-multiplier-test.false) c.loop-multiplier.invariant c.all_cancel-cancel.ensures
