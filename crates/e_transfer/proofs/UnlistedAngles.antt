@@ -29,9 +29,8 @@ use Rattle.e_transfer.proofs.Instances.{chosen}
 use Rattle.e_transfer.proofs.ModelValues.{refuted}
 
 -- a number that is chosen is known
-pub chosen_known : (n : Numbers) (v k : ℕ) → v < length n.positions.now → get_or n.positions.now v 0 < length n.part.now → k ≡ get_or n.part.now (get_or n.positions.now v 0) 0 → IsKnown n v k
-chosen_known n v k here less is rest =
-    chosen (row_of n.row.now) (n.part.now ++ rest) 0 n.positions.now v here ∙ get_or_append_left n.part.now rest 0 (get_or n.positions.now v 0) less ∙ sym is
+pub chosen_known : (n : Numbers) (v : ℕ) → v < length n.positions.now → get_or n.positions.now v 0 < length n.part.now → IsKnown n v (get_or n.part.now (get_or n.positions.now v 0) 0)
+chosen_known n v here less rest = chosen (row_of n.row.now) (n.part.now ++ rest) 0 n.positions.now v here ∙ get_or_append_left n.part.now rest 0 (get_or n.positions.now v 0) less
 
 -- what is known of a number, where further numbers are given
 abbrev Fits : Option ℕ → ℕ → Type 0

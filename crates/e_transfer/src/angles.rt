@@ -31,12 +31,7 @@ fn may_be_angle(x: Option<u16>, y: Option<u16>, z: Option<u16>, term: Term) -> b
 }
 
 /// Whether the values may list an angle of whose points this is known.
-fn may_be_listed(
-    x: Option<u16>,
-    y: Option<u16>,
-    z: Option<u16>,
-    values: &[(Term, u128)],
-) -> bool
+fn may_be_listed(x: Option<u16>, y: Option<u16>, z: Option<u16>, values: &[(Term, u128)]) -> bool
     ensures { result ≡ list_any (λ p. Angles.may_be_angle x y z p.0) values.now }
 {
     values.iter().any(|pair| may_be_angle(x, y, z, pair.0))

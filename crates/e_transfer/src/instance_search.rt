@@ -120,8 +120,7 @@ fn are_unlisted(query: &Query, numbers: &Numbers, term: Term, other: Term) -> bo
     if !one {
         return false;
     }
-    let another = is_unlisted(numbers, values, other);
-    another
+    is_unlisted(numbers, values, other)
 }
 
 /// Whether it is seen that no need holds that says that the two terms differ, whatever numbers come

@@ -16,4 +16,4 @@ returns c = λ e.
     let is = c.args.query.now.hinted hints (ap option_copied c.in-Some.is) in
     unlisted_never_differ facts hints.values n c.args.term c.args.other (then hints.plain_model (is_model facts (value_by Ones hints.values)) is.plain c.if-not-hints.false)
     (subst (λ (vs : List (Term × ℕ)). IsUnlisted vs n c.args.term) c.items-values.ensures (c.is_unlisted-one.ensures c.if-not-one.false))
-    (subst (λ (vs : List (Term × ℕ)). IsUnlisted vs n c.args.other) c.items-values.ensures (c.is_unlisted-another.ensures e))
+    (subst (λ (vs : List (Term × ℕ)). IsUnlisted vs n c.args.other) c.items-values.ensures (c.is_unlisted.ensures e))
