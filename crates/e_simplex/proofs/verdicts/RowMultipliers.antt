@@ -186,8 +186,3 @@ take_done [] zero l = refl
 take_done [] (suc k) l = refl
 take_done (x ∷ xs) zero l = absurd (omega (arith, l))
 take_done (x ∷ xs) (suc k) l = ap (λ v. x ∷ v) (take_done xs k (omega (arith, l)))
-
-pub take_length : {X : Type 0} (xs : List X) (k : ℕ) → k ≤ length xs → length (take k xs) ≡ k
-take_length xs zero l = refl
-take_length [] (suc k) l = absurd (omega (arith, l))
-take_length (x ∷ xs) (suc k) l = ap suc (take_length xs k (omega (arith, l)))

@@ -1,4 +1,4 @@
-use Rattle.std.proofs.Common.{◌≡◌, ◌-◌, ◌+◌, ◌++◌, SFits, to_z-of_z, arith, ap, ap₂, ◌∙◌, get_or, length, true, cond, suc, subst, pos}
+use Rattle.std.proofs.Common.{◌≡◌, ◌-◌, ◌+◌, ◌++◌, SFits, to_z-of_z, arith, ap, ◌∙◌, get_or, length, true, cond, suc, subst, pos}
 use Rattle.std.proofs.lemmas.List.{length_push, take_all}
 use mir.Syntax.{w128}
 use Rattle.e_fraction.specs.Views.{sense_of, view_of_row}

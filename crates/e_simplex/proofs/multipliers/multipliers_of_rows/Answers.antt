@@ -1,4 +1,4 @@
-use Rattle.std.proofs.Common.{◌≡◌, ◌+◌, ◌++◌, SFits, to_z-of_z, arith, length, length-append, []}
+use Rattle.std.proofs.Common.{SFits, to_z-of_z, arith, length-append, []}
 use mir.Syntax.{w128}
 use Rattle.e_simplex.proofs.verdicts.RowMultipliers.{seen_none, seen_most}
 use Rattle.e_simplex.proofs.multipliers.multipliers_of_rows.Goals as goal

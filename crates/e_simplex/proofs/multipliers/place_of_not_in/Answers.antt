@@ -1,5 +1,4 @@
-use Rattle.std.proofs.Common.{◌≡◌, ◌+◌, ◌<◌, Fits, arith, refl, ◌∙◌, length, length-append}
-use mir.Syntax.{w64}
+use Rattle.std.proofs.Common.{◌+◌, ◌<◌, arith, refl, ◌∙◌, length, length-append}
 use Rattle.e_fraction.specs.Views.{views_of_rows}
 use Rattle.e_simplex.proofs.verdicts.RowMultipliers.{nots_append, is_not_here, not_before, not_after, nots_before, nots_after}
 use Rattle.e_simplex.proofs.verdicts.Refuting.{length_seen}

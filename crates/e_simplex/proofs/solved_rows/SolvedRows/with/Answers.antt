@@ -1,4 +1,4 @@
-use Rattle.std.proofs.Common.{◌≡◌, ◌++◌, [], ◌+◌, ◌<◌, ◌≤◌, ◌^◌, ap, arith, sym, ◌∙◌, subst, length, false, rules}
+use Rattle.std.proofs.Common.{◌≡◌, ◌++◌, ◌+◌, ◌<◌, ◌≤◌, ◌^◌, ap, arith, sym, ◌∙◌, subst, length, false, rules}
 use Rattle.std.proofs.lemmas.List.{append-nil}
 use Rattle.e_fraction.specs.Views.{views_of_rows}
 use Rattle.e_fraction.specs.Limits.{most_rows_of_system}

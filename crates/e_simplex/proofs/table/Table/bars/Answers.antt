@@ -1,7 +1,6 @@
-use Rattle.std.proofs.Common.{◌≡◌, ◌<◌, ◌+◌, SFits, to_z-of_z, pos, true, false, length, get_or, arith, ap, sym, ◌∙◌, subst, inl, inr}
+use Rattle.std.proofs.Common.{◌≡◌, ◌<◌, ◌+◌, SFits, to_z-of_z, pos, true, false, length, get_or, arith, ap, sym, ◌∙◌, subst}
 use mir.Syntax.{w128}
 use Rattle.std.proofs.lemmas.List.{get_or_read}
-use Rattle.std.proofs.lemmas.Bool.{cases_eq}
 use Rattle.e_simplex.specs.Least.{CannotEnter, fixed_at}
 use Rattle.e_simplex.proofs.pivots.Pivoting.{fits_small}
 use Rattle.e_simplex.proofs.outcomes.Spreading.{none_enters, bars_more}

@@ -1,4 +1,4 @@
-use Rattle.std.proofs.Common.{ℕ, ◌<◌, get_or, pos, false}
+use Rattle.std.proofs.Common.{ℕ, ◌<◌, get_or, pos}
 use Rattle.e_simplex.specs.Least.{CannotEnter, fixed_at}
 use Rattle.e_simplex.proofs.table.Table.bars.Given as goal
 

@@ -1,4 +1,4 @@
-use Rattle.std.proofs.Common.{◌≡◌, ◌<◌, SFits, to_z-of_z, pos, length, get_or, arith, sym, ◌∙◌, subst}
+use Rattle.std.proofs.Common.{◌≡◌, ◌<◌, SFits, to_z-of_z, pos, length, get_or, arith, subst}
 use mir.Syntax.{w128}
 use Rattle.std.proofs.lemmas.List.{get_or_read}
 use Rattle.e_simplex.specs.Entries.{AllSmall}

@@ -1,10 +1,10 @@
-use Rattle.std.proofs.Common.{◌≡◌, ◌∙◌, ◌+◌, ◌<◌, SFits, to_z-of_z, length, length-set, get_or, arith, ap, sym, subst}
+use Rattle.std.proofs.Common.{◌≡◌, ◌∙◌, ◌+◌, SFits, to_z-of_z, length, length-set, get_or, arith, ap, sym, subst}
 use mir.Syntax.{w128}
 use Rattle.e_simplex.specs.Entries.{at}
-use Rattle.e_simplex.specs.inner.Readings.{AreSpread, ValuesTo}
+use Rattle.e_simplex.specs.inner.Readings.{AreSpread}
 use Rattle.e_simplex.proofs.pivots.Pivoting.{fits_small}
 use Rattle.e_simplex.proofs.outcomes.Spreading.{spread_write, spread_skip, values_spread}
-use Rattle.e_simplex.proofs.outcomes.Solving.{solved_shaped, solved_values, solved_bounds, solved_further}
+use Rattle.e_simplex.proofs.outcomes.Solving.{solved_values, solved_bounds, solved_further}
 use Rattle.e_simplex.proofs.table.Table.values.Goals.{then-number-w, else-number-w}
 use Rattle.e_simplex.proofs.table.Table.values.Goals as goal
 

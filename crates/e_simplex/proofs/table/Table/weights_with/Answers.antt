@@ -1,4 +1,4 @@
-use Rattle.std.proofs.Common.{◌≡◌, ◌∙◌, ◌+◌, ◌-◌, ◌<◌, ◌≤◌, SFits, to_z-of_z, pos, ◌-ℤ◌, length, length-set, get_or, arith, ap, sym, subst}
+use Rattle.std.proofs.Common.{◌≡◌, ◌∙◌, ◌+◌, ◌-◌, ◌<◌, SFits, to_z-of_z, pos, ◌-ℤ◌, length, length-set, get_or, arith, ap, sym, subst}
 use Rattle.std.specs.Prelude.{neg_ℤ}
 use mir.Syntax.{w128}
 use Rattle.e_literal.proofs.Arith.{sums}
