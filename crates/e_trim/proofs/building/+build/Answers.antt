@@ -15,18 +15,18 @@ use Rattle.e_trim.proofs.walks.FirstSteps.{ok_map, later_steps, whole_is, begun_
 use Rattle.e_trim.proofs.kept_scripts.StepSizes.{rest_falls, step_falls, claim_falls, superposed_falls, first_falls, second_falls}
 use Rattle.e_trim.proofs.building.+build.Goals as goal
 
-pub build-grown-after-requires-clause-points : goal.build-grown-after-requires-clause-points
-build-grown-after-requires-clause-points t c =
+pub build-with_sorts-after-requires-clause-points : goal.build-with_sorts-after-requires-clause-points
+build-with_sorts-after-requires-clause-points t c =
     (begun_room (all_stated c.args.before.now) c.args.steps.now c.step-item.result c.makes-sorts.result.now c.args.scope (close_script c.args.close.now)
     (record { some = c.in-len1-up.len_at_least; first = c.step-item.is; makes = c.makes-sorts.ensures; statements = c.requires.statements; scopes = c.requires.scopes })).0
 
-pub build-grown-after-requires-clause-lines : goal.build-grown-after-requires-clause-lines
-build-grown-after-requires-clause-lines t c =
+pub build-with_sorts-after-requires-clause-lines : goal.build-with_sorts-after-requires-clause-lines
+build-with_sorts-after-requires-clause-lines t c =
     (begun_room (all_stated c.args.before.now) c.args.steps.now c.step-item.result c.makes-sorts.result.now c.args.scope (close_script c.args.close.now)
     (record { some = c.in-len1-up.len_at_least; first = c.step-item.is; makes = c.makes-sorts.ensures; statements = c.requires.statements; scopes = c.requires.scopes })).1
 
-pub build-grown-after-requires-clause-circles : goal.build-grown-after-requires-clause-circles
-build-grown-after-requires-clause-circles t c =
+pub build-with_sorts-after-requires-clause-circles : goal.build-with_sorts-after-requires-clause-circles
+build-with_sorts-after-requires-clause-circles t c =
     (begun_room (all_stated c.args.before.now) c.args.steps.now c.step-item.result c.makes-sorts.result.now c.args.scope (close_script c.args.close.now)
     (record { some = c.in-len1-up.len_at_least; first = c.step-item.is; makes = c.makes-sorts.ensures; statements = c.requires.statements; scopes = c.requires.scopes })).2
 
@@ -34,8 +34,8 @@ pub build-build-requires : goal.build-build-requires
 build-build-requires t c = (
   omega (arith, c.decreases, rest_falls c.step-item.result (steps_script (later_steps c.args.steps.now) (close_script c.args.close.now)) (steps_script c.args.steps.now (close_script c.args.close.now)) (whole_is c.args.steps.now c.step-item.result (close_script c.args.close.now) c.in-len1-up.len_at_least c.step-item.is)),
   (
-    begun_rest (all_stated c.args.before.now) c.args.steps.now c.step-item.result c.makes-sorts.result.now c.args.scope c.grown-after.result (close_script c.args.close.now) (record { some = c.in-len1-up.len_at_least; first = c.step-item.is; makes = c.makes-sorts.ensures; statements = c.requires.statements; scopes = c.requires.scopes }) c.grown-after.ensures,
-    (c.requires.statements, wide_few c.args.scope c.grown-after.result c.makes-sorts.result.now c.args.kept.now c.grown-after.ensures c.requires.few),
+    begun_rest (all_stated c.args.before.now) c.args.steps.now c.step-item.result c.makes-sorts.result.now c.args.scope c.with_sorts-after.result (close_script c.args.close.now) (record { some = c.in-len1-up.len_at_least; first = c.step-item.is; makes = c.makes-sorts.ensures; statements = c.requires.statements; scopes = c.requires.scopes }) c.with_sorts-after.ensures,
+    (c.requires.statements, wide_few c.args.scope c.with_sorts-after.result c.makes-sorts.result.now c.args.kept.now c.with_sorts-after.ensures c.requires.few),
   ),
 )
 
@@ -46,8 +46,8 @@ build-returns-then-not-take_flag t c =
     let left = c.build.new.flags.items in
     let done = c.args.out.now.items in
     let now = c.build.new.out.items in
-    ok_map (λ (new : Close). IsBuilt (all_stated c.args.before.now) c.args.kept.now (steps_script (later_steps c.args.steps.now) (close_script c.args.close.now)) c.grown-after.result popped left done now new) (λ (new : Close). IsBuilt (all_stated c.args.before.now) c.args.kept.now (steps_script c.args.steps.now (close_script c.args.close.now)) c.args.scope pile left done now new) c.build.result
-    (λ new h. dropped_whole (all_stated c.args.before.now) c.args.kept.now c.args.steps.now c.step-item.result c.makes-sorts.result.now c.args.scope c.grown-after.result (close_script c.args.close.now) pile popped left c.take_flag.result done now new (record { some = c.in-len1-up.len_at_least; first = c.step-item.is; makes = c.makes-sorts.ensures; statements = c.requires.statements; scopes = c.requires.scopes }) c.grown-after.ensures c.take_flag.ensures c.if-not-take_flag.true h) c.build.ensures
+    ok_map (λ (new : Close). IsBuilt (all_stated c.args.before.now) c.args.kept.now (steps_script (later_steps c.args.steps.now) (close_script c.args.close.now)) c.with_sorts-after.result popped left done now new) (λ (new : Close). IsBuilt (all_stated c.args.before.now) c.args.kept.now (steps_script c.args.steps.now (close_script c.args.close.now)) c.args.scope pile left done now new) c.build.result
+    (λ new h. dropped_whole (all_stated c.args.before.now) c.args.kept.now c.args.steps.now c.step-item.result c.makes-sorts.result.now c.args.scope c.with_sorts-after.result (close_script c.args.close.now) pile popped left c.take_flag.result done now new (record { some = c.in-len1-up.len_at_least; first = c.step-item.is; makes = c.makes-sorts.ensures; statements = c.requires.statements; scopes = c.requires.scopes }) c.with_sorts-after.ensures c.take_flag.ensures c.if-not-take_flag.true h) c.build.ensures
 
 pub build-build_step-requires : goal.build-build_step-requires
 build-build_step-requires t c = (
@@ -65,10 +65,10 @@ pub build-build-requires-in-len1-up : goal.build-build-requires-in-len1-up
 build-build-requires-in-len1-up t c = (
   omega (arith, c.decreases, rest_falls c.step-item.result (steps_script (later_steps c.args.steps.now) (close_script c.args.close.now)) (steps_script c.args.steps.now (close_script c.args.close.now)) (whole_is c.args.steps.now c.step-item.result (close_script c.args.close.now) c.in-len1-up.len_at_least c.step-item.is)),
   (
-    begun_rest (all_stated c.args.before.now) c.args.steps.now c.step-item.result c.makes-sorts.result.now c.args.scope c.grown-after.result (close_script c.args.close.now) (record { some = c.in-len1-up.len_at_least; first = c.step-item.is; makes = c.makes-sorts.ensures; statements = c.requires.statements; scopes = c.requires.scopes }) c.grown-after.ensures,
+    begun_rest (all_stated c.args.before.now) c.args.steps.now c.step-item.result c.makes-sorts.result.now c.args.scope c.with_sorts-after.result (close_script c.args.close.now) (record { some = c.in-len1-up.len_at_least; first = c.step-item.is; makes = c.makes-sorts.ensures; statements = c.requires.statements; scopes = c.requires.scopes }) c.with_sorts-after.ensures,
     (
       c.requires.statements,
-      more_few c.args.scope c.grown-after.result c.makes-sorts.result.now c.args.kept.now c.deref.result.now c.grown-after.ensures (c.deref.ensures.value ∙ c.in_ok-more-in-len1-up.ensures) c.requires.few,
+      more_few c.args.scope c.with_sorts-after.result c.makes-sorts.result.now c.args.kept.now c.deref.result.now c.with_sorts-after.ensures (c.deref.ensures.value ∙ c.in_ok-more-in-len1-up.ensures) c.requires.few,
     ),
   ),
 )
@@ -82,8 +82,8 @@ build-returns-in_ok-more-in-len1-up t c =
     let done = c.args.out.now.items in
     let put = c.push.new.self.items in
     let now = c.build-in-len1-up.new.out.items in
-    ok_map (λ (new : Close). IsBuilt (all_stated c.args.before.now) c.deref.result.now (steps_script (later_steps c.args.steps.now) (close_script c.args.close.now)) c.grown-after.result over left put now new) (λ (new : Close). IsBuilt (all_stated c.args.before.now) c.args.kept.now (steps_script c.args.steps.now (close_script c.args.close.now)) c.args.scope pile left done now new) c.build-in-len1-up.result
-    (λ new h. kept_whole (all_stated c.args.before.now) c.args.kept.now c.deref.result.now c.args.steps.now c.step-item.result c.makes-sorts.result.now c.args.scope c.grown-after.result (close_script c.args.close.now) pile popped over left c.take_flag.result done put now c.in_ok-new-in-len1-up.new new (record { some = c.in-len1-up.len_at_least; first = c.step-item.is; makes = c.makes-sorts.ensures; statements = c.requires.statements; scopes = c.requires.scopes }) c.grown-after.ensures
+    ok_map (λ (new : Close). IsBuilt (all_stated c.args.before.now) c.deref.result.now (steps_script (later_steps c.args.steps.now) (close_script c.args.close.now)) c.with_sorts-after.result over left put now new) (λ (new : Close). IsBuilt (all_stated c.args.before.now) c.args.kept.now (steps_script c.args.steps.now (close_script c.args.close.now)) c.args.scope pile left done now new) c.build-in-len1-up.result
+    (λ new h. kept_whole (all_stated c.args.before.now) c.args.kept.now c.deref.result.now c.args.steps.now c.step-item.result c.makes-sorts.result.now c.args.scope c.with_sorts-after.result (close_script c.args.close.now) pile popped over left c.take_flag.result done put now c.in_ok-new-in-len1-up.new new (record { some = c.in-len1-up.len_at_least; first = c.step-item.is; makes = c.makes-sorts.ensures; statements = c.requires.statements; scopes = c.requires.scopes }) c.with_sorts-after.ensures
     (c.deref.ensures.value ∙ c.in_ok-more-in-len1-up.ensures) c.in_ok-push-in-len1-up.ensures.items c.take_flag.ensures c.if-not-take_flag.false c.in_ok-new-in-len1-up.ensures h) c.build-in-len1-up.ensures
 
 -- ---- a close
@@ -213,23 +213,23 @@ build_step-returns-in_ok-inner-in-Claim t c =
 pub build_step-with_next-requires-clause-small : goal.build_step-with_next-requires-clause-small
 build_step-with_next-requires-clause-small t c = (small_step (all_stated c.args.before.now) c.args.step.now c.args.scope c.requires.scopes)
 
-pub build_step-grown-requires-clause-points : goal.build_step-grown-requires-clause-points
-build_step-grown-requires-clause-points t c = (copies_room c.args.scope c.made-copies.result.now (small_step (all_stated c.args.before.now) c.args.step.now c.args.scope c.requires.scopes) c.made-copies.ensures).0
+pub build_step-with_sorts-requires-clause-points : goal.build_step-with_sorts-requires-clause-points
+build_step-with_sorts-requires-clause-points t c = (copies_room c.args.scope c.made-copies.result.now (small_step (all_stated c.args.before.now) c.args.step.now c.args.scope c.requires.scopes) c.made-copies.ensures).0
 
-pub build_step-grown-requires-clause-lines : goal.build_step-grown-requires-clause-lines
-build_step-grown-requires-clause-lines t c = (copies_room c.args.scope c.made-copies.result.now (small_step (all_stated c.args.before.now) c.args.step.now c.args.scope c.requires.scopes) c.made-copies.ensures).1
+pub build_step-with_sorts-requires-clause-lines : goal.build_step-with_sorts-requires-clause-lines
+build_step-with_sorts-requires-clause-lines t c = (copies_room c.args.scope c.made-copies.result.now (small_step (all_stated c.args.before.now) c.args.step.now c.args.scope c.requires.scopes) c.made-copies.ensures).1
 
-pub build_step-grown-requires-clause-circles : goal.build_step-grown-requires-clause-circles
-build_step-grown-requires-clause-circles t c = (copies_room c.args.scope c.made-copies.result.now (small_step (all_stated c.args.before.now) c.args.step.now c.args.scope c.requires.scopes) c.made-copies.ensures).2
+pub build_step-with_sorts-requires-clause-circles : goal.build_step-with_sorts-requires-clause-circles
+build_step-with_sorts-requires-clause-circles t c = (copies_room c.args.scope c.made-copies.result.now (small_step (all_stated c.args.before.now) c.args.step.now c.args.scope c.requires.scopes) c.made-copies.ensures).2
 
 pub build_step-build_block-requires-in-Superposed : goal.build_step-build_block-requires-in-Superposed
 build_step-build_block-requires-in-Superposed t c = (
   omega (arith, c.decreases, superposed_falls c.args.step.now c.in-Superposed.superposition c.in-Superposed.names c.in-Superposed.shown c.in-Superposed.certs c.in-Superposed.inner c.deref-in-Superposed.result.now c.in-Superposed.is c.deref-in-Superposed.ensures),
   (
-    subst (λ x. AreSmall (all_stated c.args.before.now) (script_of c.deref-in-Superposed.result.now) x) (sym (c.grown.ensures ∙ ap (with_sorts c.args.scope) c.made-copies.ensures))
+    subst (λ x. AreSmall (all_stated c.args.before.now) (script_of c.deref-in-Superposed.result.now) x) (sym (c.with_sorts.ensures ∙ ap (with_sorts c.args.scope) c.made-copies.ensures))
         (subst (λ b. AreSmall (all_stated c.args.before.now) (script_of b) (with_sorts c.args.scope superposing.sorts_copied)) (sym c.deref-in-Superposed.ensures)
         (small_superposed (all_stated c.args.before.now) c.in-Superposed.superposition c.in-Superposed.names c.in-Superposed.shown c.in-Superposed.certs c.in-Superposed.inner c.args.scope (subst (λ st. IsSmallStep (all_stated c.args.before.now) st c.args.scope) c.in-Superposed.is c.requires.scopes))),
-    (c.requires.statements, more_few c.args.scope c.grown.result c.made-copies.result.now c.args.kept.now c.deref-in-Superposed-2.result.now c.grown.ensures (c.deref-in-Superposed-2.ensures.value ∙ c.in_ok-inside-in-Superposed.ensures) c.requires.few),
+    (c.requires.statements, more_few c.args.scope c.with_sorts.result c.made-copies.result.now c.args.kept.now c.deref-in-Superposed-2.result.now c.with_sorts.ensures (c.deref-in-Superposed-2.ensures.value ∙ c.in_ok-inside-in-Superposed.ensures) c.requires.few),
   ),
 )
 
@@ -250,4 +250,4 @@ build_step-returns-in_ok-inner-in-Superposed t c =
     (λ made script. superposed_built before kept wide c.args.step.now made y.superposition superposition y.names names y.shown shown y.certs certs y.inner block c.args.scope pile left y.is
     (c.deref-in-Superposed-2.ensures.value ∙ c.in_ok-inside-in-Superposed.ensures ∙ ap (λ xs. kept ++ next_objects c.args.scope xs) c.made-copies.ensures) refl c.items-in-Superposed.ensures
     (ap (map (lit_among_kept kept)) c.items-in-Superposed-2.ensures) (ap (map (cert_at kept)) c.items-in-Superposed-3.ensures) script
-    (boxed before wide c.deref-in-Superposed.result.now y.inner block (with_sorts c.args.scope superposing.sorts_copied) c.grown.result pile left c.deref-in-Superposed.ensures (c.grown.ensures ∙ ap (with_sorts c.args.scope) c.made-copies.ensures) c.in_ok-inner-in-Superposed.ensures)) c.new_superposition.ensures
+    (boxed before wide c.deref-in-Superposed.result.now y.inner block (with_sorts c.args.scope superposing.sorts_copied) c.with_sorts.result pile left c.deref-in-Superposed.ensures (c.with_sorts.ensures ∙ ap (with_sorts c.args.scope) c.made-copies.ensures) c.in_ok-inner-in-Superposed.ensures)) c.new_superposition.ensures
