@@ -8,9 +8,9 @@ use Rattle.e_literal.specs.Use.{scope_of}
 use Rattle.e_construct.specs.Construct.{sorts_made}
 use Rattle.e_construct.specs.Superposing as superposing
 use Rattle.e_theorem.specs.declared.statement.Statement.{Statement}
-use Rattle.e_theorem.specs.Statements.{stated}
+use Rattle.e_theorem.specs.Statements.{as_view}
 use Rattle.e_deriv.specs.declared.names.Names.{Names}
-use Rattle.e_deriv.specs.Naming.{named, declared_names}
+use Rattle.e_deriv.specs.Naming.{with_new_names, declared_names}
 use Rattle.e_deriv.specs.Script.{Script, Cite, Hence, Make, Apply, Claim, Superposed, Qed}
 use Rattle.e_deriv.specs.Script.{Contradiction, Cases}
 use Rattle.e_line.specs.declared.raw_line.RawLine.{RawLine}
@@ -56,7 +56,7 @@ declared_objects t = next_objects nothing t.declared
 
 -- its made objects, which take the next numbers
 abbrev pub made_objects : Statement → List Obj
-made_objects t = next_objects (scope_of (stated t)) t.made
+made_objects t = next_objects (scope_of (as_view t)) t.made
 
 -- what is given: one raw line for each group of declared objects, and one for each given literal
 abbrev pub given_raw_lines : Names → Statement → List RawLine
@@ -83,15 +83,15 @@ script_raw_lines known ns (Hence lit cert rest) =
     hence_raw_line ns lit ∷ script_raw_lines known ns rest
 script_raw_lines known ns (Make construction names certs rest) =
     let_raw_line ns construction names
-    ∷ script_raw_lines known (named ns (sorts_made construction) names) rest
+    ∷ script_raw_lines known (with_new_names ns (sorts_made construction) names) rest
 script_raw_lines known ns (Apply theorem args names certs rest) =
     apply_raw_line known ns theorem args names
-    ∷ script_raw_lines known (named ns (theorem_of known theorem).made names) rest
+    ∷ script_raw_lines known (with_new_names ns (theorem_of known theorem).made names) rest
 script_raw_lines known ns (Claim shown inner rest) =
     claim_raw_line ns shown ∷ (script_raw_lines known ns inner ++ script_raw_lines known ns rest)
 script_raw_lines known ns (Superposed superposition names shown certs inner rest) =
     superpose_raw_line ns superposition names shown ∷ (script_raw_lines known
-    (named ns superposing.sorts_copied names) inner ++ script_raw_lines known ns rest)
+    (with_new_names ns superposing.sorts_copied names) inner ++ script_raw_lines known ns rest)
 script_raw_lines known ns (Qed objects certs) = qed_raw_line ns objects ∷ []
 script_raw_lines known ns (Contradiction against) = contradiction_raw_line ∷ []
 script_raw_lines known ns (Cases lit first second) =
@@ -100,7 +100,7 @@ script_raw_lines known ns (Cases lit first second) =
 
 -- the names that a theorem's proof begins with: those of the declared objects
 abbrev pub names_of_proof : TheoremView → Names
-names_of_proof t = declared_names (stated t.statement) t.names
+names_of_proof t = declared_names (as_view t.statement) t.names
 
 -- the raw lines of a theorem after those that are known, in order
 abbrev pub raw_lines_of : List TitledStatement → TheoremView → List RawLine

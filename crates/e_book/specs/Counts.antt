@@ -7,9 +7,9 @@ use Rattle.e_literal.specs.declared.object.Scope.{Scope}
 use Rattle.e_literal.specs.Literal.{negation}
 use Rattle.e_construct.specs.Construct.{sorts_made, gives_of_construction}
 use Rattle.e_construct.specs.Superposing as superposing
-use Rattle.e_theorem.specs.Statements.{stated}
+use Rattle.e_theorem.specs.Statements.{as_view}
 use Rattle.e_deriv.specs.declared.names.Names.{Names}
-use Rattle.e_deriv.specs.Naming.{named, declared_names}
+use Rattle.e_deriv.specs.Naming.{with_new_names, declared_names}
 use Rattle.e_deriv.specs.Script.{size}
 use Rattle.e_deriv.specs.PlainStep.{PlainStep, Cited, Inferred, Made, Applied, Claimed, Copied}
 use Rattle.e_line.specs.declared.fault.FaultKind.{FaultKind}
@@ -32,9 +32,9 @@ use Rattle.e_book.specs.Open.{Open, Stating, Proving, Splitting, Proved, Ended}
 -- the names in scope after a step
 abbrev pub names_after_plain_step : List TitledStatement → Names → PlainStep → Names
 names_after_plain_step known ns (Made construction names certs) =
-    named ns (sorts_made construction) names
+    with_new_names ns (sorts_made construction) names
 names_after_plain_step known ns (Applied theorem args names certs) =
-    named ns (theorem_of known theorem).made names
+    with_new_names ns (theorem_of known theorem).made names
 names_after_plain_step known ns step = ns
 
 -- what a step makes facts. A theorem that is applied gives as many literals as it shows, with as
@@ -68,7 +68,7 @@ abbrev pub context_inside : LineContext → Opener → LineContext
 context_inside at (ByClaim shown) = at
 context_inside at (BySuperposition superposition names shown) =
     record {
-      names = named at.names superposing.sorts_copied names;
+      names = with_new_names at.names superposing.sorts_copied names;
       facts = at.facts
           ++ superposing.gives_of_superposition superposition (scope_of_names at.names);
     }
@@ -78,7 +78,7 @@ context_inside at (ByElse lit first) = record at { facts = at.facts ++ negation 
 -- where the block inside these begins
 abbrev pub first_context : List TitledStatement → Head → List Enclosing → LineContext
 first_context known h [] =
-    record { names = declared_names (stated h.statement) h.names; facts = h.statement.given }
+    record { names = declared_names (as_view h.statement) h.names; facts = h.statement.given }
 first_context known h (a ∷ around) =
     context_inside (after_steps known (first_context known h around) a.steps) a.opener
 

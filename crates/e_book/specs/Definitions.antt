@@ -5,7 +5,7 @@ use Rattle.std.specs.Prelude.{Option, Some, None, IsTrue, Result, Ok, Err, if◌
 use Rattle.std.specs.Option.{option_map}
 use Rattle.e_text.specs.Tokens.{tokens_of}
 use Rattle.e_text.specs.Lines.{Ahead}
-use Rattle.e_theorem.specs.Statements.{stated}
+use Rattle.e_theorem.specs.Statements.{as_view}
 use Rattle.e_deriv.specs.declared.names.Names.{Names}
 use Rattle.e_deriv.specs.Script.{script_of}
 use Rattle.e_deriv.specs.Fitting.{is_small_statement, IsFitting}
@@ -198,6 +198,6 @@ HasWellFormedView known i = IsWellFormedItem known (view_of i)
 -- where the theorems before are statements, a theorem that is read can be judged, and is one
 abbrev pub IsFittingItem : Known → Item → Type 0
 IsFittingItem known (items.Theorem t) =
-    IsFitting (stated_by known.theorems) (stated t.statement) (script_of t.block)
-    × IsTrue (is_small_statement (stated t.statement))
+    IsFitting (stated_by known.theorems) (as_view t.statement) (script_of t.block)
+    × IsTrue (is_small_statement (as_view t.statement))
 IsFittingItem known (items.Notion title n) = Unit {0}

@@ -11,12 +11,12 @@ use Rattle.e_literal.specs.Scopes.{with_sorts}
 use Rattle.e_literal.specs.Use.{StatementView, scope_of}
 use Rattle.e_construct.specs.Construct.{sorts_made, gives_of_construction}
 use Rattle.e_construct.specs.Superposing as superposing
-use Rattle.e_theorem.specs.Statements.{stated}
+use Rattle.e_theorem.specs.Statements.{as_view}
 use Rattle.e_deriv.specs.declared.names.Names.{Names}
 use Rattle.e_deriv.specs.Script.{Script, Cite, Hence, Make, Apply, Claim, Superposed, Qed}
 use Rattle.e_deriv.specs.Script.{Contradiction, Cases, size, depth}
 use Rattle.e_deriv.specs.PlacedSteps.{theorem_at, proof_steps}
-use Rattle.e_deriv.specs.Naming.{named, declared_names}
+use Rattle.e_deriv.specs.Naming.{with_new_names, declared_names}
 use Rattle.e_deriv.specs.Fitting.{all_objects, fits_with_blanks}
 use Rattle.e_line.specs.Limits.{most_of, most_steps, most_depth, most_facts, most_terms}
 use Rattle.e_line.specs.Limits.{most_blanks, monomials, count_monomials}
@@ -35,18 +35,18 @@ NewNamesFit before ns (Cite by rest) = NewNamesFit before ns rest
 NewNamesFit before ns (Hence lit cert rest) = NewNamesFit before ns rest
 NewNamesFit before ns (Make construction names certs rest) =
     (fresh ns [] names ≡ Ok tt) × (length names ≡ length (sorts_made construction))
-    × (few_objects (named ns (sorts_made construction) names) ≡ Ok tt)
-    × NewNamesFit before (named ns (sorts_made construction) names) rest
+    × (few_objects (with_new_names ns (sorts_made construction) names) ≡ Ok tt)
+    × NewNamesFit before (with_new_names ns (sorts_made construction) names) rest
 NewNamesFit before ns (Apply theorem args names certs rest) =
     (fresh ns [] names ≡ Ok tt) × (length names ≡ length (theorem_at before theorem).made)
-    × (few_objects (named ns (theorem_at before theorem).made names) ≡ Ok tt)
-    × NewNamesFit before (named ns (theorem_at before theorem).made names) rest
+    × (few_objects (with_new_names ns (theorem_at before theorem).made names) ≡ Ok tt)
+    × NewNamesFit before (with_new_names ns (theorem_at before theorem).made names) rest
 NewNamesFit before ns (Claim shown inner rest) =
     NewNamesFit before ns inner × NewNamesFit before ns rest
 NewNamesFit before ns (Superposed superposition names shown certs inner rest) =
     (fresh ns [] names ≡ Ok tt) × (length names ≡ length superposing.sorts_copied)
-    × (few_objects (named ns superposing.sorts_copied names) ≡ Ok tt)
-    × NewNamesFit before (named ns superposing.sorts_copied names) inner
+    × (few_objects (with_new_names ns superposing.sorts_copied names) ≡ Ok tt)
+    × NewNamesFit before (with_new_names ns superposing.sorts_copied names) inner
     × NewNamesFit before ns rest
 NewNamesFit before ns (Qed objects certs) = Unit {0}
 NewNamesFit before ns (Contradiction against) = Unit {0}
@@ -142,14 +142,14 @@ pub record Fits (known : List TitledStatement) (t : TheoremView) : Type 0 where
   -- no earlier theorem has its title
   pub new : is_known known t.title ≡ false
   -- one name for each declared and each made object of the statement
-  pub scope : all_objects (stated t.statement) ≡ scope_of_names t.names
+  pub scope : all_objects (as_view t.statement) ≡ scope_of_names t.names
   pub differ : NamesDiffer t.names
   pub points : length t.names.points ≤ most_of Point
   pub lines : length t.names.lines ≤ most_of Line
   pub circles : length t.names.circles ≤ most_of Circle
   -- the given literals are over the declared objects, and the shown ones over these and the made
   -- ones
-  pub given : IsTrue (list_all (all_in_scope (scope_of (stated t.statement))) t.statement.given)
+  pub given : IsTrue (list_all (all_in_scope (scope_of (as_view t.statement))) t.statement.given)
   pub shown : IsTrue (list_all (all_in_scope (scope_of_names t.names)) t.statement.shown)
   -- sums have terms of one kind, not too many, with coefficients that are not too large
   pub good_given : IsTrue (list_all is_well_formed t.statement.given)
@@ -158,15 +158,15 @@ pub record Fits (known : List TitledStatement) (t : TheoremView) : Type 0 where
   -- each step of the script has objects of the right sorts, all in scope where it is, whatever
   -- its blanks are filled with; each theorem that it uses is an earlier one
   pub script : IsTrue (list_all (λ x. fits_with_blanks (stated_by known) x x.here)
-      (proof_steps (stated_by known) (stated t.statement) t.script t.script))
+      (proof_steps (stated_by known) (as_view t.statement) t.script t.script))
   pub new_names : NewNamesFit (stated_by known)
-      (declared_names (stated t.statement) t.names) t.script
+      (declared_names (as_view t.statement) t.names) t.script
   pub steps : size t.script ≤ most_steps
   pub depth : depth t.script ≤ most_depth
   pub given_facts : length t.statement.given ≤ most_facts
   pub given_terms : count_monomials t.statement.given ≤ most_terms
   pub facts : IsTrue (few_facts (stated_by known) (length t.statement.given)
-      (scope_of (stated t.statement)) t.script)
+      (scope_of (as_view t.statement)) t.script)
   pub terms : IsTrue (few_terms (stated_by known) (count_monomials t.statement.given)
-      (scope_of (stated t.statement)) t.script)
+      (scope_of (as_view t.statement)) t.script)
   pub blanks : IsTrue (few_blanks t.script)

@@ -9,7 +9,7 @@ use Rattle.e_literal.specs.Use.{StatementView}
 use Rattle.e_construct.specs.Construct.{sorts_made, gives_of_construction}
 use Rattle.e_construct.specs.Superposing as superposing
 use Rattle.e_deriv.specs.declared.names.Names.{Names}
-use Rattle.e_deriv.specs.Naming.{names_of_sort, with_names, named, declared_names}
+use Rattle.e_deriv.specs.Naming.{names_of_sort, with_names, with_new_names, declared_names}
 use Rattle.e_deriv.specs.PlainStep.{PlainStep, Cited, Inferred, Made, Applied, Claimed, Copied}
 use Rattle.e_deriv.specs.PlainStep.{all_before}
 use Rattle.e_deriv.specs.Script.{Script}
@@ -36,7 +36,7 @@ use Rattle.e_line.specs.Reading.{◌>>=◌, with_front, Fails}
 use Rattle.e_line.specs.Limits.{most_theorems, most_of, most_steps, most_depth, most_facts}
 use Rattle.e_line.specs.Limits.{most_terms, most_blanks, what_of, within, monomials}
 use Rattle.e_line.specs.Limits.{count_monomials}
-use Rattle.e_theorem.specs.Statements.{stated}
+use Rattle.e_theorem.specs.Statements.{as_view}
 use Rattle.e_names.specs.TitledStatements.{TitledStatement, is_known, theorem_of}
 use Rattle.e_book.specs.ParserViews.{statement_of_parser, script_of_close}
 use Rattle.e_line.specs.LineLimits.{count_raw_monomials, check_literal_limits}
@@ -107,7 +107,7 @@ with_terms d raws = do
 unfoldable pub after_let : TheoremParser → RawLet → Result TheoremParser FaultKind
 after_let d raw = do
   construction ← let_in d.in_scope raw
-  let after = named d.in_scope (sorts_made construction) raw.new
+  let after = with_new_names d.in_scope (sorts_made construction) raw.new
   few ← few_objects after
   with_step (record d { in_scope = after }) (Made construction raw.new [])
       (length (gives_of_construction construction (scope_of_names d.in_scope)))
@@ -117,7 +117,7 @@ after_let d raw = do
 unfoldable pub with_use : TheoremParser → StatementView → ℕ → List (Option Obj) → List (List ℕ)
     → Result TheoremParser FaultKind
 with_use d t theorem args new = do
-  let after = named d.in_scope t.made new
+  let after = with_new_names d.in_scope t.made new
   few ← few_objects after
   e ← with_step (record d { in_scope = after }) (Applied theorem args new []) (length t.shown)
   n ← terms_after e.terms t.shown
@@ -194,7 +194,7 @@ unfoldable pub after_superpose : TheoremParser → RawSuperpose → Result Theor
 after_superpose d raw = do
   p ← superpose_in d.in_scope raw
   let given = superposing.gives_of_superposition p.0 (scope_of_names d.in_scope)
-  let after = named d.in_scope superposing.sorts_copied raw.new
+  let after = with_new_names d.in_scope superposing.sorts_copied raw.new
   objects ← few_objects after
   e ← inside_if_room d (kind.Superpose p.0 raw.new p.1) (length given)
   few ← check_literal_limits raw.shown
@@ -308,7 +308,7 @@ after_show d raws =
 abbrev pub after_proof : TheoremParser → Result TheoremParser FaultKind
 after_proof d =
     Ok (record d {
-      in_scope = declared_names (stated (statement_of_parser d)) d.names;
+      in_scope = declared_names (as_view (statement_of_parser d)) d.names;
       section = Proving;
     })
 

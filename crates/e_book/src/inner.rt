@@ -1,7 +1,7 @@
 //! Blocks inside a theorem while its lines come: what begins one, and what closes it.
 ghost use Rattle.std.specs.Prelude.{◌≡◌, ◌≤◌, ◌+◌, ◌++◌, ◌∷◌, [], length, IfOk, OnOk, Ok, Err};
 ghost use Rattle.e_line.specs.Reading.{Gives, Moves};
-ghost use Rattle.e_deriv.specs.Naming.{named};
+ghost use Rattle.e_deriv.specs.Naming.{with_new_names};
 ghost use Rattle.e_book.specs.LineLimits.{few_objects, FewNamed};
 
 use crate::blocks::{BlockKind, Closed, OpenBlock};
@@ -24,8 +24,8 @@ fn names_with(
     sorts: &[Sort],
     new: &[Name],
 ) -> Result<Names, LineError>
-    ensures value { Gives (λ n. tt) result (few_objects (named names.now sorts.now new.now)) }
-    ensures names { IfOk result (λ n. n ≡ named names.now sorts.now new.now) }
+    ensures value { Gives (λ n. tt) result (few_objects (with_new_names names.now sorts.now new.now)) }
+    ensures names { IfOk result (λ n. n ≡ with_new_names names.now sorts.now new.now) }
     ensures few { IfOk result FewNamed }
 {
     let mut after = names.copy(alloc)?;
@@ -41,7 +41,7 @@ fn names_with(
 }
 
 impl TheoremParser {
-    ghost use Rattle.e_deriv.specs.Naming.{named};
+    ghost use Rattle.e_deriv.specs.Naming.{with_new_names};
     ghost use Rattle.e_deriv.specs.PlainStep.{plain_step, Claimed, Copied, all_before};
     ghost use Rattle.e_line.specs.Limits.{most_depth, most_facts, most_terms, monomials};
     ghost use Rattle.e_book.specs.LineLimits.{few_objects};

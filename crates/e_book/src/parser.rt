@@ -4,7 +4,7 @@ ghost use Rattle.std.specs.Prelude.{replicate, IfOk, OnOk, Ok, Err};
 ghost use Rattle.e_line.specs.Reading.{Gives, Moves};
 ghost use Rattle.e_construct.specs.Construct.{gives_of_construction};
 ghost use Rattle.e_names.specs.Scope.{names_of_sort, with_names};
-ghost use Rattle.e_deriv.specs.Naming.{named};
+ghost use Rattle.e_deriv.specs.Naming.{with_new_names};
 ghost use Rattle.e_book.specs.LineLimits.{few_objects, FewNamed};
 ghost use Rattle.e_book.specs.Steps.{line_may_come, with_declared, no_names, count_names};
 
@@ -168,9 +168,9 @@ fn count_given(
 }
 
 impl TheoremParser {
-    ghost use Rattle.e_deriv.specs.Naming.{named};
+    ghost use Rattle.e_deriv.specs.Naming.{with_new_names};
     ghost use Rattle.e_deriv.specs.PlainStep.{plain_step};
-    ghost use Rattle.e_theorem.specs.Statements.{stated};
+    ghost use Rattle.e_theorem.specs.Statements.{as_view};
     ghost use Rattle.e_line.specs.Limits.{most_theorems};
     ghost use Rattle.e_book.specs.LineLimits.{few_objects};
     ghost use Rattle.e_book.specs.Steps.{FitsScope, begin, with_title, step, after_line};
@@ -423,11 +423,11 @@ impl TheoremParser {
         new: &[Name],
     ) -> Result<Items<Name>, LineError>
         ensures value { Gives (λ n. tt) result
-            (few_objects (named self.old.in_scope sorts.now new.now)) }
+            (few_objects (with_new_names self.old.in_scope sorts.now new.now)) }
         ensures names { IfOk result (λ n. n ≡ new.now) }
         ensures scope { OnOk result
-            (self.new ≡ record self.old { in_scope = named self.old.in_scope sorts.now new.now }) }
-        ensures few { OnOk result (FewNamed (named self.old.in_scope sorts.now new.now)) }
+            (self.new ≡ record self.old { in_scope = with_new_names self.old.in_scope sorts.now new.now }) }
+        ensures few { OnOk result (FewNamed (with_new_names self.old.in_scope sorts.now new.now)) }
     {
         put_names(&mut self.in_scope, sorts, new)?;
         few_objects(&self.in_scope)?;
@@ -460,7 +460,7 @@ impl TheoremParser {
     ) -> Result<(), LineError>
         requires { FitsScope self.old }
         ensures value { Moves result self.new (with_use self.old
-            (stated statement.now) application.theorem application.args new.now) }
+            (as_view statement.now) application.theorem application.args new.now) }
         ensures fits { OnOk result (FitsScope self.new) }
     {
         let names = match self.bring_in(alloc, statement.made.items(), new) {

@@ -38,7 +38,7 @@ pub enum RawRow {
     FactAt(u32),
 }
 
-/// A line of a certificate, after its sign.
+/// A line of a certificate, after its bar.
 #[derive(Drop)]
 pub enum CertLine {
     /// `fact`

@@ -28,13 +28,41 @@ pub struct SeenLines {
     places: Vec<u16>,
 }
 
-/// A number below `MAX_LINES`, by which most lines differ.
+/// A number below `MAX_LINES`, by which most lines differ. Eight bytes are taken at once, the last
+/// ones again where some are left.
 fn hash_of(line: &[u8]) -> usize {
-    let mut hash = 0u64;
-    for byte in line {
-        hash = (hash ^ u64::from(*byte)).wrapping_mul(0x9e37_79b9_7f4a_7c15);
+    let mut hash = 0;
+    let mut rest = line;
+    while let [a, b, c, d, e, f, g, h, after @ ..] = rest {
+        hash = hash_with(hash, number_of([*a, *b, *c, *d, *e, *f, *g, *h]));
+        rest = after;
+    }
+    if let [.., a, b, c, d, e, f, g, h] = line {
+        hash = hash_with(hash, number_of([*a, *b, *c, *d, *e, *f, *g, *h]));
+    } else {
+        for byte in rest {
+            hash = hash_with(hash, u64::from(*byte));
+        }
     }
     (hash >> 54) as usize
+}
+
+/// These bytes as one number.
+fn number_of(bytes: [u8; 8]) -> u64 {
+    let [a, b, c, d, e, f, g, h] = bytes;
+    u64::from(a)
+        | u64::from(b) << 8
+        | u64::from(c) << 16
+        | u64::from(d) << 24
+        | u64::from(e) << 32
+        | u64::from(f) << 40
+        | u64::from(g) << 48
+        | u64::from(h) << 56
+}
+
+/// The hash with one more part of the line.
+fn hash_with(hash: u64, part: u64) -> u64 {
+    (hash.rotate_left(5) ^ part).wrapping_mul(0x9e37_79b9_7f4a_7c15)
 }
 
 impl SeenLines {

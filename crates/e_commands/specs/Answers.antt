@@ -3,7 +3,7 @@
 use Rattle.std.specs.Prelude.{◌≡◌, ℕ, ◌+◌, List, [], ◌∷◌, ◌++◌, map, Option, Some, None, IsTrue}
 use Rattle.e_literal.specs.declared.object.Term.{Term}
 use Rattle.e_clause.specs.declared.cert.Version.TheVariants.{One}
-use Rattle.e_theorem.specs.Statements.{stated}
+use Rattle.e_theorem.specs.Statements.{as_view}
 use Rattle.e_deriv.specs.declared.stop.Wanted.{Wanted}
 use Rattle.e_deriv.specs.declared.names.Names.{Names}
 use Rattle.e_deriv.specs.Script.{Script, bare_script, size}
@@ -41,11 +41,11 @@ pub record Derived : Type 0 where
 -- application are the least good choice. The literals that its certificates name are well formed,
 -- and no fact is named by its place.
 pub record IsDerived (known : List TitledStatement) (d : Derived) : Type 0 where
-  pub proves : IsProof (stated_by known) (stated d.theorem.statement) d.derivation
-  pub certified : Certified (stated_by known) (stated d.theorem.statement) d.derivation
+  pub proves : IsProof (stated_by known) (as_view d.theorem.statement) d.derivation
+  pub certified : Certified (stated_by known) (as_view d.theorem.statement) d.derivation
   pub own : bare_script d.derivation ≡ filled_by (bare_script d.theorem.script) d.derivation
   pub least : AllLicensed (stated_by known)
-      (proof_steps (stated_by known) (stated d.theorem.statement) d.theorem.script d.derivation)
+      (proof_steps (stated_by known) (as_view d.theorem.statement) d.theorem.script d.derivation)
   pub written : IsTrue (is_written_well d.derivation)
   pub version : IsTrue (has_certs_of One d.derivation)
 

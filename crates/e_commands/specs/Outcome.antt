@@ -3,7 +3,7 @@
 use Rattle.std.specs.Prelude.{◌≡◌, ℕ, ◌+◌, ◌-◌, slice_get, List, [], ◌∷◌, ◌++◌, length, Option}
 use Rattle.std.specs.Prelude.{Some, None, Ok, Err}
 use Rattle.e_text.specs.Lines.{lines_of}
-use Rattle.e_theorem.specs.Statements.{stated}
+use Rattle.e_theorem.specs.Statements.{as_view}
 use Rattle.e_deriv.specs.declared.stop.Wanted.{Wanted}
 use Rattle.e_deriv.specs.declared.names.Names.{Names}
 use Rattle.e_literal.specs.declared.object.Term.{Term}
@@ -26,7 +26,7 @@ use Rattle.e_judgement.specs.Judged.{with_theorem}
 pub record IsLicensed (known : List TitledStatement) (t : TheoremView) : Type 0 where
   pub filled : Script
   pub licensed : AllLicensed (stated_by known)
-      (proof_steps (stated_by known) (stated t.statement) t.script filled)
+      (proof_steps (stated_by known) (as_view t.statement) t.script filled)
 
 -- after a theorem, and after a definition, this is known
 abbrev pub and_theorem : Known → TheoremView → Known
@@ -68,14 +68,14 @@ pub data BookOutcome : Type 0 where
 abbrev pub HasNamesAt : List TitledStatement → TheoremView → ℕ → Names → Type 0
 HasNamesAt known t step names =
     Some names ≡ slice_get (names_of_steps (stated_by known)
-    (declared_names (stated t.statement) t.names) t.script) (step - 1)
+    (declared_names (as_view t.statement) t.names) t.script) (step - 1)
 
 -- with this known, the next theorem has this title, its step of this number is the first unlicensed
 -- one and lacks this, and these are the names of the objects in scope before it
 pub record StopsAt (known : List TitledStatement) (t : TheoremView) (title : List ℕ) (step : ℕ)
     (wanted : Wanted) (names : Names) : Type 0 where
   pub titled : t.title ≡ title
-  pub first : IsFirstUnlicensed (stated_by known) (stated t.statement) t.script step wanted
+  pub first : IsFirstUnlicensed (stated_by known) (as_view t.statement) t.script step wanted
   pub named : HasNamesAt known t step names
 
 -- with this known, the next theorem of these lines is one of which this holds
@@ -126,21 +126,21 @@ pub record IsOutcomeOf (text : List ℕ) (end : BookOutcome) : Type 0 where
 pub record RefusedAt (known : List TitledStatement) (t : TheoremView) (title : List ℕ) (step : ℕ)
     (wanted : Wanted) (values : Option (List (Term × ℕ))) (names : Names) : Type 0 where
   pub titled : t.title ≡ title
-  pub refused : IsRefused (stated_by known) (stated t.statement) t.script step wanted values
+  pub refused : IsRefused (stated_by known) (as_view t.statement) t.script step wanted values
   pub named : HasNamesAt known t step names
 
 -- with this known, each step before is licensed, and this one is too wide at what is wanted there
 pub record TooWideAt (known : List TitledStatement) (t : TheoremView) (title : List ℕ) (step : ℕ)
     (wanted : Wanted) (width : ℕ) (names : Names) : Type 0 where
   pub titled : t.title ≡ title
-  pub too_wide : IsTooWideAt (stated_by known) (stated t.statement) t.script step wanted width
+  pub too_wide : IsTooWideAt (stated_by known) (as_view t.statement) t.script step wanted width
   pub named : HasNamesAt known t step names
 
 -- with this known, a step of the theorem is wide, and each step before it is licensed
 pub record HasWideStep (known : List TitledStatement) (t : TheoremView) : Type 0 where
   pub step : ℕ
   pub placed : PlacedStep
-  pub context : IsContext (stated_by known) (stated t.statement) t.script step placed
+  pub context : IsContext (stated_by known) (as_view t.statement) t.script step placed
   pub is_wide : IsWideStep (stated_by known) placed
 
 -- in a theorem of these lines whose earlier ones are licensed, a step is wide, and each step before

@@ -4,7 +4,7 @@ use Rattle.std.specs.Prelude.{◌≡◌, ◌⊎◌, ℕ, ◌+◌, ◌<◌, ◌�
 use Rattle.std.specs.Prelude.{flat_map, codes, Ok, Err, Option, Some, None}
 use Rattle.e_clause.specs.declared.cert.Version.{Version}
 use Rattle.e_clause.specs.declared.cert.Version.TheVariants.{One, Two}
-use Rattle.e_theorem.specs.Statements.{stated}
+use Rattle.e_theorem.specs.Statements.{as_view}
 use Rattle.e_names.specs.TitledStatements.{TitledStatement, stated_by, title_at}
 use Rattle.e_book.specs.TheoremViews.{TheoremView}
 use Rattle.e_book.specs.Grammar.{Rest}
@@ -30,11 +30,11 @@ use Rattle.e_roundtrip.specs.Written.{accepted_blocks_line, version_line}
 -- its block, where the derivation cites facts by their places
 abbrev pub upgraded_block : List TitledStatement → TheoremView → List ℕ
 upgraded_block known t =
-    spelling known t (derivation_with_places (stated_by known) (stated t.statement) t.script)
+    spelling known t (derivation_with_places (stated_by known) (as_view t.statement) t.script)
 
 -- its block, where the derivation has no step that nothing needs
 abbrev pub trimmed_block : List TitledStatement → TheoremView → List ℕ
-trimmed_block known t = spelling known t (trimmed_script (stated_by known) (stated t.statement) t.script)
+trimmed_block known t = spelling known t (trimmed_script (stated_by known) (as_view t.statement) t.script)
 
 -- its line: its title, and those of the theorems that its derivation applies, each after a space
 abbrev pub title_word : List TitledStatement → ℕ → List ℕ

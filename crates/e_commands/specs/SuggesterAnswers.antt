@@ -10,7 +10,7 @@ use Rattle.e_literal.specs.declared.object.Obj.{Obj}
 use Rattle.e_literal.specs.declared.object.Scope.{Scope}
 use Rattle.e_literal.specs.declared.literal.Lit.{Lit}
 use Rattle.e_theorem.specs.Choice.{IsAllowedChoice, is_below}
-use Rattle.e_theorem.specs.Statements.{stated}
+use Rattle.e_theorem.specs.Statements.{as_view}
 use Rattle.e_deriv.specs.declared.stop.Wanted.{Wanted}
 use Rattle.e_deriv.specs.declared.stop.Wanted.TheVariants.{Match}
 use Rattle.e_deriv.specs.declared.names.Names.{Names}
@@ -65,7 +65,7 @@ IsEarlier title step t n =
 pub record IsAsked (title : List ℕ) (step : ℕ) (known : List TitledStatement) (t : TheoremView)
     (x : PlacedStep) : Type 0 where
   pub titled : t.title ≡ title
-  pub context : IsContext (stated_by known) (stated t.statement) t.script step x
+  pub context : IsContext (stated_by known) (as_view t.statement) t.script step x
 
 -- the theorem has the title, and fewer steps
 pub record HasTooFewSteps (title : List ℕ) (step : ℕ) (t : TheoremView) : Type 0 where
@@ -115,8 +115,8 @@ pub record MayApply (scope : Scope) (facts : List Lit) (known : List TitledState
     (a : Application) : Type 0 where
   pub is_known : Some a.theorem ≡ slice_get known a.place
   pub is_asked_for : length a.theorem.statement.declared ≤ 6
-  pub good : IsAllowedChoice (stated a.theorem.statement) scope facts
-      (blanks (stated a.theorem.statement)) a.args
+  pub good : IsAllowedChoice (as_view a.theorem.statement) scope facts
+      (blanks (as_view a.theorem.statement)) a.args
 
 -- its theorem is earlier; or it is the same, and its arguments are below
 abbrev pub precedes : Application → Application → Bool
@@ -166,7 +166,7 @@ pub record WidensAtStep (title : List ℕ) (step width : ℕ) (names : Names)
   pub theorem : TitledStatement
   pub is_one : Contains known theorem
   pub is_asked_for : length theorem.statement.declared ≤ 6
-  pub too_wide : SomeArgsAreTooWide (stated theorem.statement) placed.scope placed.facts width
+  pub too_wide : SomeArgsAreTooWide (as_view theorem.statement) placed.scope placed.facts width
 
 -- an earlier step is too wide; or it is the step itself, where a match is wanted, and a choice
 -- there is too wide
@@ -205,7 +205,7 @@ pub record HasWideEarlier (title : List ℕ) (step : ℕ) (known : List TitledSt
   pub number : ℕ
   pub placed : PlacedStep
   pub earlier : IsEarlier title step t number
-  pub context : IsContext (stated_by known) (stated t.statement) t.script number placed
+  pub context : IsContext (stated_by known) (as_view t.statement) t.script number placed
   pub is_wide : IsWideStep (stated_by known) placed
 
 -- or that one is, under some choice of arguments for a theorem that may be suggested

@@ -2,7 +2,7 @@
 //! end; and those of a book whose lines are all there.
 ghost use Rattle.std.specs.Prelude.{◌≡◌, ◌≤◌, ◌<◌, ◌^◌, length, IfOk, IfErr, IsErrOf, IsTrue};
 ghost use Rattle.e_io.specs.Bytes.{Rose};
-ghost use Rattle.e_theorem.specs.Statements.{stated};
+ghost use Rattle.e_theorem.specs.Statements.{as_view};
 ghost use Rattle.e_deriv.specs.Script.{script_of};
 ghost use Rattle.e_deriv.specs.Fitting.{IsFitting};
 ghost use Rattle.e_names.specs.TitledStatements.{stated_by};
@@ -38,14 +38,14 @@ pub enum BookResult {
 
 /// The block of a theorem with its derivation from those that are known.
 pub fn block(alloc: Global, known: &Theorems, theorem: &Theorem) -> Result<Vec<u8>, Stop>
-    requires fitting { IsFitting (stated_by known.now) (stated theorem.now.statement)
+    requires fitting { IsFitting (stated_by known.now) (as_view theorem.now.statement)
         (script_of theorem.now.block) }
     requires good { IsTrue (has_well_formed_literals (script_of theorem.now.block)) }
     ensures block { IfOk result (λ v. HasBlock known.now (entry_of theorem.now) v.items) }
-    ensures stop { IfErr result (StopIs (stated_by known.now) (stated theorem.now.statement)
+    ensures stop { IfErr result (StopIs (stated_by known.now) (as_view theorem.now.statement)
         (script_of theorem.now.block)) }
     ensures names { IfErr result (HasNames (stated_by known.now)
-        (stated theorem.now.statement) theorem.now.names (script_of theorem.now.block)) }
+        (as_view theorem.now.statement) theorem.now.names (script_of theorem.now.block)) }
 {
     let derivation = prove(alloc, known.statements(), theorem)?;
     let text = spell(alloc, known, theorem, &derivation);

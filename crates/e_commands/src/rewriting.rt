@@ -1,7 +1,7 @@
 //! What `upgrade`, `trim` and `uses` write of each verified theorem of a derivation text, and last.
 ghost use Rattle.std.specs.Prelude.{◌≡◌, ◌++◌, IfOk, OnOk, flat_map, IsTrue};
 ghost use Rattle.e_clause.specs.declared.cert.Version.TheVariants.{Two};
-ghost use Rattle.e_theorem.specs.Statements.{stated};
+ghost use Rattle.e_theorem.specs.Statements.{as_view};
 ghost use Rattle.e_deriv.specs.Certified.{Certified};
 ghost use Rattle.e_deriv.specs.Script.{script_of};
 ghost use Rattle.e_deriv.specs.Versions.{has_certs_of};
@@ -65,14 +65,14 @@ pub fn read_as(job: Job, head: Option<Version>) -> Option<Version>
 
 /// The block of the theorem with its derivation, which cites facts by their places.
 fn upgraded_block(alloc: Global, known: &Theorems, theorem: &Theorem) -> Result<Vec<u8>, AllocError>
-    requires verifiable { IsVerifiable (stated_by known.now) (stated theorem.now.statement)
+    requires verifiable { IsVerifiable (stated_by known.now) (as_view theorem.now.statement)
         (script_of theorem.now.block) }
-    requires certified { Certified (stated_by known.now) (stated theorem.now.statement)
+    requires certified { Certified (stated_by known.now) (as_view theorem.now.statement)
         (script_of theorem.now.block) }
     ensures block { IfOk result
         (λ v. v.items ≡ Rewrites.upgraded_block known.now (entry_of theorem.now)) }
     ensures version { OnOk result (IsTrue (has_certs_of Two (derivation_with_places
-        (stated_by known.now) (stated theorem.now.statement) (script_of theorem.now.block)))) }
+        (stated_by known.now) (as_view theorem.now.statement) (script_of theorem.now.block)))) }
 {
     let derivation = numbered(
         alloc,
@@ -87,7 +87,7 @@ fn upgraded_block(alloc: Global, known: &Theorems, theorem: &Theorem) -> Result<
 
 /// The block of the theorem with its derivation without the steps that nothing needs.
 fn trimmed_block(alloc: Global, known: &Theorems, theorem: &Theorem) -> Result<Vec<u8>, AllocError>
-    requires { IsTrimmable (stated_by known.now) (stated theorem.now.statement)
+    requires { IsTrimmable (stated_by known.now) (as_view theorem.now.statement)
         (script_of theorem.now.block) }
     ensures { IfOk result (λ v. v.items ≡ Rewrites.trimmed_block known.now (entry_of theorem.now)) }
 {
@@ -145,9 +145,9 @@ pub fn block_of(
     known: &Theorems,
     theorem: &Theorem,
 ) -> Result<Vec<u8>, AllocError>
-    requires verifiable { IsVerifiable (stated_by known.now) (stated theorem.now.statement)
+    requires verifiable { IsVerifiable (stated_by known.now) (as_view theorem.now.statement)
         (script_of theorem.now.block) }
-    requires certified { Certified (stated_by known.now) (stated theorem.now.statement)
+    requires certified { Certified (stated_by known.now) (as_view theorem.now.statement)
         (script_of theorem.now.block) }
     requires version { HasVersionFor job (script_of theorem.now.block) }
     ensures block { IfOk result

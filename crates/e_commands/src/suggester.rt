@@ -3,7 +3,7 @@ ghost use Rattle.std.specs.Prelude.{◌≡◌, ◌≤◌, ◌<◌, ◌^◌, ◌+
 ghost use Rattle.std.specs.List.{list_all};
 ghost use Rattle.std.specs.Str.{bytes_eq};
 ghost use Rattle.e_io.specs.Bytes.{Rose};
-ghost use Rattle.e_theorem.specs.Statements.{stated};
+ghost use Rattle.e_theorem.specs.Statements.{as_view};
 ghost use Rattle.e_deriv.specs.Script.{script_of};
 ghost use Rattle.e_deriv.specs.Fitting.{IsFitting, is_small_statement};
 ghost use Rattle.e_book.specs.Definitions.{OfTheorem, view_of, IsWellFormedItem, HasWellFormedView};
@@ -123,7 +123,7 @@ fn answer_on(
     step: u32,
 ) -> Result<Answer, AllocError>
     requires small { IsTrue (list_all is_small_statement (stated_by known.now)) }
-    requires fitting { IsFitting (stated_by known.now) (stated theorem.now.statement)
+    requires fitting { IsFitting (stated_by known.now) (as_view theorem.now.statement)
         (script_of theorem.now.block) }
     requires first { 1 ≤ step }
     ensures { IfOk result (λ a. AnswersNext known.now
@@ -160,9 +160,9 @@ fn pass_theorem(
 ) -> Result<Option<Answer>, AllocError>
     requires small { IsTrue (list_all is_small_statement (stated_by known.old.theorems)) }
     requires good { IsWellFormedItem known.old (OfTheorem (entry_of theorem)) }
-    requires fitting { IsFitting (stated_by known.old.theorems) (stated theorem.statement)
+    requires fitting { IsFitting (stated_by known.old.theorems) (as_view theorem.statement)
         (script_of theorem.block) }
-    requires states { IsTrue (is_small_statement (stated theorem.statement)) }
+    requires states { IsTrue (is_small_statement (as_view theorem.statement)) }
     requires first { 1 ≤ step }
     ensures { IfOk result
         (PassesNext known.old (OfTheorem (entry_of theorem)) title step known.new) }

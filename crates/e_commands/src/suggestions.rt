@@ -2,7 +2,7 @@
 ghost use Rattle.std.specs.Prelude.{◌≡◌, ◌++◌, ◌∷◌, [], map, IfOk, IsTrue, OnOk};
 ghost use Rattle.std.specs.List.{list_all};
 ghost use Rattle.e_literal.specs.Use.{is_statement};
-ghost use Rattle.e_theorem.specs.Statements.{stated};
+ghost use Rattle.e_theorem.specs.Statements.{as_view};
 ghost use Rattle.e_licence.specs.Verdicts.{AreRight};
 ghost use Rattle.e_deriv.specs.Fitting.{is_small_statement};
 ghost use Rattle.e_names.specs.TitledStatements.{stated_by};
@@ -101,9 +101,9 @@ fn list_theorem(
     out: &mut Vec<u8>,
 ) -> Result<Listed, AllocError>
     requires memory { AreRight place.now.context memory.old }
-    requires states { IsTrue (is_statement (stated statement.now)) }
+    requires states { IsTrue (is_statement (as_view statement.now)) }
     ensures listed { IfOk result (IsListedOne place.now.names place.now.context.scope
-        place.now.context.facts title (stated statement.now) left out.old.items out.new.items) }
+        place.now.context.facts title (as_view statement.now) left out.old.items out.new.items) }
     ensures memory { OnOk result (AreRight place.now.context memory.new) }
 {
     let declared = statement.declared.len();

@@ -18,7 +18,7 @@ use Rattle.e_construct.specs.Construct.{sorts_made, gives_of_construction}
 use Rattle.e_construct.specs.Superposing as superposing
 use Rattle.e_theorem.specs.Choice.{fills, is_choice, IsAllowedChoice}
 use Rattle.e_deriv.specs.Script.{Script, Cite, Hence, Make, Apply, Claim, Superposed, Qed, Contradiction, Cases}
-use Rattle.e_deriv.specs.Parts.{rest_of, inner_of, args_of, written, filled_in, filled_by}
+use Rattle.e_deriv.specs.Parts.{rest_of, inner_of, args_of, args_written, filled_in, filled_by}
 use Rattle.e_deriv.specs.Goal.{Goal, goal_of, facts_of_statement, goal_of_statement}
 use Rattle.e_deriv.specs.PlacedSteps.{PlacedStep, placed_step, placed_steps, theorem_at, proof_steps}
 use Rattle.e_deriv.specs.Steps.{fits, needs, are_over, is_applied}
@@ -84,7 +84,7 @@ proves_of_certified before (Make construction names certs rest) s facts goal h =
 proves_of_certified before (Apply theorem args names certs rest) s facts goal h =
     let x = placed_step (Apply theorem args names certs rest) (Apply theorem args names certs rest) s facts goal in
     let t = theorem_at before theorem in
-    let after = with_facts facts (gives_of_use t (written args) s) in
+    let after = with_facts facts (gives_of_use t (args_written args) s) in
     let q = parts_of before x (placed_steps before rest rest (with_sorts s t.made) after goal) h in
     (q.others, q.form, all_allowed_of_certified s facts (needs before x) certs q.certs, proves_of_certified before rest (with_sorts s t.made) after goal q.rest)
 proves_of_certified before (Claim shown inner rest) s facts goal h =
@@ -148,7 +148,7 @@ proves_of_licensed before (Make construction names certs rest) f s facts goal h 
 proves_of_licensed before (Apply theorem pattern names certs rest) f s facts goal h =
     let t = theorem_at before theorem in
     let args = args_of f in
-    let again : args ≡ written (filled_in args) = sym (written_again args) in (
+    let again : args ≡ args_written (filled_in args) = sym (written_again args) in (
       no_blank_again args,
       subst (λ xs. is_applied before theorem s (filled_in args) xs ≡ true) again (applied_again before theorem s pattern args h.0.fits),
       subst (λ xs. AllAllowed s facts (needs_of_use t xs s)) again h.0.allowed,
@@ -193,9 +193,9 @@ licensed_of_proves before (Make construction names certs rest) s facts goal h =
     (record { fits = h.0; allowed = h.1; others = tt }, licensed_of_proves before rest (with_sorts s (sorts_made construction)) (with_facts facts (gives_of_construction construction s)) goal h.2)
 licensed_of_proves before (Apply theorem args names certs rest) s facts goal h =
     let t = theorem_at before theorem in
-    let good : IsAllowedChoice t s facts args (written args) = record { is_choice = and_right (ltb theorem (length before)) (is_choice t s args (written args)) h.1; allowed = h.2 } in (
-      record { fits = h.1; allowed = h.2; others = least_of_good t s facts args (written args) h.0 good },
-      licensed_of_proves before rest (with_sorts s t.made) (with_facts facts (gives_of_use t (written args) s)) goal h.3,
+    let good : IsAllowedChoice t s facts args (args_written args) = record { is_choice = and_right (ltb theorem (length before)) (is_choice t s args (args_written args)) h.1; allowed = h.2 } in (
+      record { fits = h.1; allowed = h.2; others = least_of_good t s facts args (args_written args) h.0 good },
+      licensed_of_proves before rest (with_sorts s t.made) (with_facts facts (gives_of_use t (args_written args) s)) goal h.3,
     )
 licensed_of_proves before (Claim shown inner rest) s facts goal h =
     let one = placed_steps before inner inner s facts (goal_of shown) in

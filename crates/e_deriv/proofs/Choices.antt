@@ -13,7 +13,7 @@ use Rattle.e_literal.specs.Use.{StatementView}
 use Rattle.e_literal.proofs.Sorts.{same_sort_is, same_obj_is, same_obj_self}
 use Rattle.e_literal.proofs.Booleans.{or_not_left, or_not_right, and_left, and_right}
 use Rattle.e_theorem.specs.Choice.{fills, is_choice, is_below, IsAllowedChoice, IsLeastChoice}
-use Rattle.e_deriv.specs.Parts.{written, has_no_blank, filled_in}
+use Rattle.e_deriv.specs.Parts.{args_written, has_no_blank, filled_in}
 
 abbrev the_object : Sort → ℕ → Obj
 the_object sort n = record { sort = sort; num = n }
@@ -22,19 +22,19 @@ objects_equal : (a b : Obj) → a.sort ≡ b.sort → a.num ≡ b.num → a ≡ 
 objects_equal a b p q = ap (λ s. the_object s a.num) p ∙ ap (the_object b.sort) q
 
 -- without a blank the written arguments are the choice
-pub only_choice : (pattern : List (Option Obj)) (args : List Obj) → has_no_blank pattern ≡ true → fills pattern args ≡ true → args ≡ written pattern
+pub only_choice : (pattern : List (Option Obj)) (args : List Obj) → has_no_blank pattern ≡ true → fills pattern args ≡ true → args ≡ args_written pattern
 only_choice [] [] n h = refl
 only_choice [] (o ∷ os) n h = absurd (true≢false (sym h))
 only_choice (None ∷ ps) os n h = absurd (true≢false (sym n))
 only_choice (Some p ∷ ps) [] n h = absurd (true≢false (sym h))
 only_choice (Some p ∷ ps) (o ∷ os) n h =
     let e : p ≡ o = same_obj_is p o (and_left (same_obj p o) (fills ps os) h) in
-    let r : os ≡ written ps = only_choice ps os n (and_right (same_obj p o) (fills ps os) h) in
+    let r : os ≡ args_written ps = only_choice ps os n (and_right (same_obj p o) (fills ps os) h) in
     ap (λ x. x ∷ os) (sym e) ∙ ap (λ xs. p ∷ xs) r
 
 -- ---- arguments as a pattern
 
-pub written_again : (args : List Obj) → written (filled_in args) ≡ args
+pub written_again : (args : List Obj) → args_written (filled_in args) ≡ args
 written_again [] = refl
 written_again (o ∷ os) = ap (λ xs. o ∷ xs) (written_again os)
 

@@ -19,7 +19,7 @@ use Rattle.e_theorem.specs.Choice.{fills, is_choice}
 use Rattle.e_deriv.specs.declared.stop.Wanted.{Wanted}
 use Rattle.e_deriv.specs.declared.stop.Wanted.TheVariants.{Literal, Match, Contradiction as AContradiction}
 use Rattle.e_deriv.specs.Script.{Script, Cite, Hence, Make, Apply, Claim, Superposed, Qed, Contradiction, Cases, size}
-use Rattle.e_deriv.specs.Parts.{rest_of, inner_of, args_of, written}
+use Rattle.e_deriv.specs.Parts.{rest_of, inner_of, args_of, args_written}
 use Rattle.e_deriv.specs.Goal.{Goal, goal_of, facts_of_statement, goal_of_statement}
 use Rattle.e_deriv.specs.PlacedSteps.{PlacedStep, placed_step, placed_steps, theorem_at, proof_steps}
 use Rattle.e_deriv.specs.Steps.{fits, needs_at}
@@ -71,8 +71,8 @@ lacks_nothing before (Hence lit cert rest) s facts goal args (Literal l) h k = n
 lacks_nothing before (Make construction names certs rest) s facts goal args (Literal l) h k = none_not_allowed s facts (needs_at before (Make construction names certs rest) s goal args) l h.allowed k
 lacks_nothing before (Apply theorem pattern names certs rest) s facts goal args (Literal l) h k =
     let t = theorem_at before theorem in
-    let same : args ≡ written pattern = only_choice pattern args k.0 (and_left (fills pattern args) (are_arguments t s args) (and_right _ (is_choice t s pattern args) h.fits)) in
-    none_not_allowed s facts (needs_of_use t (written pattern) s) l (subst (λ xs. AllAllowed s facts (needs_of_use t xs s)) same h.allowed) k.1
+    let same : args ≡ args_written pattern = only_choice pattern args k.0 (and_left (fills pattern args) (are_arguments t s args) (and_right _ (is_choice t s pattern args) h.fits)) in
+    none_not_allowed s facts (needs_of_use t (args_written pattern) s) l (subst (λ xs. AllAllowed s facts (needs_of_use t xs s)) same h.allowed) k.1
 lacks_nothing before (Apply theorem pattern names certs rest) s facts goal args Match h k = k.1 args h.others.good
 lacks_nothing before (Superposed superposition names shown certs inner rest) s facts goal args (Literal l) h k =
     none_not_allowed s facts (needs_at before (Superposed superposition names shown certs inner rest) s goal args) l h.allowed k
@@ -99,7 +99,7 @@ lacks_same before (Cite by rest) s facts goal args (Literal l) (Literal l') h k 
 lacks_same before (Hence lit cert rest) s facts goal args (Literal l) (Literal l') h k = ap Literal (one_not_allowed s facts (needs_at before (Hence lit cert rest) s goal []) l l' h k)
 lacks_same before (Make construction names certs rest) s facts goal args (Literal l) (Literal l') h k = ap Literal (one_not_allowed s facts (needs_at before (Make construction names certs rest) s goal []) l l' h k)
 lacks_same before (Apply theorem pattern names certs rest) s facts goal args (Literal l) (Literal l') h k =
-    ap Literal (one_not_allowed s facts (needs_of_use (theorem_at before theorem) (written pattern) s) l l' h.1 k.1)
+    ap Literal (one_not_allowed s facts (needs_of_use (theorem_at before theorem) (args_written pattern) s) l l' h.1 k.1)
 lacks_same before (Apply theorem pattern names certs rest) s facts goal args Match Match h k = refl
 lacks_same before (Apply theorem pattern names certs rest) s facts goal args (Literal l) Match h k = absurd (true≢false (sym h.0 ∙ k.0))
 lacks_same before (Apply theorem pattern names certs rest) s facts goal args Match (Literal l) h k = absurd (true≢false (sym k.0 ∙ h.0))

@@ -14,7 +14,7 @@ use Rattle.e_deriv.specs.Steps.{fits, needs}
 abbrev pub all_objects : StatementView → Scope
 all_objects t = with_sorts (scope_of t) t.made
 
--- at most 1,000 objects of each sort
+-- at most 1,000 objects of each sort: more than a book can have, and 16 bits number them
 abbrev pub is_small : Scope → Bool
 is_small s = nat_le s.points 1000 && (nat_le s.lines 1000 && nat_le s.circles 1000)
 

@@ -24,10 +24,10 @@ with_names ns sorts.Line new = record ns { lines = new }
 with_names ns sorts.Circle new = record ns { circles = new }
 
 -- each new name after those of its sort, in order
-abbrev pub named : Names → List Sort → List (List ℕ) → Names
-named ns (sort ∷ kinds) (name ∷ names) =
-    named (with_names ns sort (names_of_sort ns sort ++ name ∷ [])) kinds names
-named ns _ _ = ns
+abbrev pub with_new_names : Names → List Sort → List (List ℕ) → Names
+with_new_names ns (sort ∷ kinds) (name ∷ names) =
+    with_new_names (with_names ns sort (names_of_sort ns sort ++ name ∷ [])) kinds names
+with_new_names ns _ _ = ns
 
 -- the names in scope before each step, in text order, where these are in scope before the first;
 -- those that an inner block brings are gone after it
@@ -35,13 +35,13 @@ unfoldable pub names_of_steps : List StatementView → Names → Script → List
 names_of_steps before ns (Cite by rest) = ns ∷ names_of_steps before ns rest
 names_of_steps before ns (Hence lit cert rest) = ns ∷ names_of_steps before ns rest
 names_of_steps before ns (Make construction names certs rest) =
-    ns ∷ names_of_steps before (named ns (sorts_made construction) names) rest
+    ns ∷ names_of_steps before (with_new_names ns (sorts_made construction) names) rest
 names_of_steps before ns (Apply theorem args names certs rest) =
-    ns ∷ names_of_steps before (named ns (theorem_at before theorem).made names) rest
+    ns ∷ names_of_steps before (with_new_names ns (theorem_at before theorem).made names) rest
 names_of_steps before ns (Claim shown inner rest) =
     ns ∷ (names_of_steps before ns inner ++ names_of_steps before ns rest)
 names_of_steps before ns (Superposed superposition names shown certs inner rest) =
-    ns ∷ (names_of_steps before (named ns superposing.sorts_copied names) inner
+    ns ∷ (names_of_steps before (with_new_names ns superposing.sorts_copied names) inner
     ++ names_of_steps before ns rest)
 names_of_steps before ns (Qed objects certs) = ns ∷ []
 names_of_steps before ns (Contradiction against) = ns ∷ []

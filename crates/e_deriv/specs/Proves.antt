@@ -15,7 +15,7 @@ use Rattle.e_deriv.specs.Script.{Script, Cite, Hence, Make, Apply, Claim, Superp
 use Rattle.e_deriv.specs.Script.{Contradiction, Cases}
 use Rattle.e_deriv.specs.Goal.{Goal, goal_of, are_for, goal_with, goal_of_statement}
 use Rattle.e_deriv.specs.Goal.{facts_of_statement}
-use Rattle.e_deriv.specs.Parts.{written, has_no_blank}
+use Rattle.e_deriv.specs.Parts.{args_written, has_no_blank}
 use Rattle.e_deriv.specs.PlacedSteps.{theorem_at}
 use Rattle.e_deriv.specs.Steps.{is_citation, is_cited, is_applied, are_over}
 
@@ -38,10 +38,10 @@ Proves before s facts goal (Make construction names certs rest) =
 -- no argument is a blank, they fit the theorem, which is an earlier one, and each given literal is
 -- allowed; the made objects come into scope, and the shown literals join the facts
 Proves before s facts goal (Apply theorem args names certs rest) =
-    IsTrue (has_no_blank args) × IsTrue (is_applied before theorem s args (written args))
-    × AllAllowed s facts (needs_of_use (theorem_at before theorem) (written args) s)
+    IsTrue (has_no_blank args) × IsTrue (is_applied before theorem s args (args_written args))
+    × AllAllowed s facts (needs_of_use (theorem_at before theorem) (args_written args) s)
     × Proves before (with_sorts s (theorem_at before theorem).made)
-    (with_facts facts (gives_of_use (theorem_at before theorem) (written args) s)) goal rest
+    (with_facts facts (gives_of_use (theorem_at before theorem) (args_written args) s)) goal rest
 -- the inner block proves the claimed literals, and these join the facts; the inner objects and
 -- facts are gone
 Proves before s facts goal (Claim shown inner rest) =

@@ -7,6 +7,7 @@ mod erasing;
 mod inner;
 mod laws;
 mod names;
+mod parts;
 mod sizes;
 mod stop;
 
@@ -19,5 +20,6 @@ pub use laws::{
     stop_is_one,
 };
 pub use names::Names;
+pub use parts::{goal_with, written_args};
 pub use sizes::{depth, size};
 pub use stop::{Stop, Wanted};

@@ -12,7 +12,10 @@ use Rattle.e_literal.specs.Same.{same_neg, same_atom, same_lit}
 use Rattle.e_literal.specs.Facts.{has}
 use Rattle.e_facts.specs.declared.key.Key.{Key}
 use Rattle.e_facts.specs.contracts.key.KeyPartialEq.TheImpl.{eq-value}
-use Rattle.e_facts.specs.inner.Key.{key_of_lit, with_key, keys_of, with_place, metric_places, same_at}
+use Rattle.e_facts.specs.declared.facts.Place.{Place}
+use Rattle.e_facts.specs.inner.Fingerprint.{fingerprint}
+use Rattle.e_facts.specs.inner.Key.{key_of_lit, with_key, keys_of, with_place, place_of, metric_places, same_at}
+use Rattle.e_facts.proofs.Fingerprints.{same_by_number}
 
 -- a diagram literal is the same as another exactly where its key is equal, and as no metric one
 abbrev Agree : Option Key → Option Key → Bool → Type 0
@@ -84,10 +87,10 @@ has_by_key (f ∷ ls) l k e =
     put_key k (key_of_lit f) (same_lit f l) (keys_of ls) (has ls l) (subst (λ o. Agree o (key_of_lit f) (same_lit f l)) e (agree_lits f l)) (has_by_key ls l k e)
 
 -- a metric literal is among the facts exactly where one at a metric place is the same
-put_place : (test : ℕ → Bool) (o : Option Key) (b : Bool) (n : ℕ) (ns : List ℕ) (r : Bool) → Agree None o b → test n ≡ b → list_any test ns ≡ r
-    → list_any test (with_place o n ns) ≡ (b || r)
-put_place test None b n ns r h here e = rw (here, e) refl
-put_place test (Some q) b n ns r h here e = rw (h, e) refl
+put_place : (test : Place → Bool) (o : Option Key) (b : Bool) (p : Place) (ps : List Place) (r : Bool) → Agree None o b → test p ≡ b → list_any test ps ≡ r
+    → list_any test (with_place o p ps) ≡ (b || r)
+put_place test None b p ps r h here e = rw (here, e) refl
+put_place test (Some q) b p ps r h here e = rw (h, e) refl
 
 pub found_at : (before ls : List Lit) (f : Lit) → slice_get (before ++ f ∷ ls) (length before) ≡ Some f
 found_at [] ls f = refl
@@ -97,9 +100,9 @@ has_at_places : (before ls : List Lit) (l : Lit) → key_of_lit l ≡ None
     → list_any (same_at (before ++ ls) l) (metric_places (length before) ls) ≡ has ls l
 has_at_places before [] l e = refl
 has_at_places before (f ∷ ls) l e =
-    put_place (same_at (before ++ f ∷ ls) l) (key_of_lit f) (same_lit f l) (length before) (metric_places (length before + 1) ls) (has ls l)
+    put_place (same_at (before ++ f ∷ ls) l) (key_of_lit f) (same_lit f l) (place_of (length before) f) (metric_places (length before + 1) ls) (has ls l)
     (subst (λ o. Agree o (key_of_lit f) (same_lit f l)) e (agree_lits f l))
-    (ap (λ o. option_map_or (λ g. same_lit g l) o false) (found_at before ls f))
+    (ap (λ o. (fingerprint f.atom == fingerprint l.atom) && option_map_or (λ g. same_lit g l) o false) (found_at before ls f) ∙ same_by_number f l)
     (subst (λ n. list_any (same_at (before ++ f ∷ ls) l) (metric_places n ls) ≡ has ls l) (length-append before (f ∷ []))
     (subst (λ all. list_any (same_at all l) (metric_places (length (before ++ f ∷ [])) ls) ≡ has ls l) (append_assoc before (f ∷ []) ls)
     (has_at_places (before ++ f ∷ []) ls l e)))
@@ -116,14 +119,15 @@ pub keys_of-push : (ls : List Lit) (l : Lit) → keys_of (ls ++ l ∷ []) ≡ ke
 keys_of-push [] l = refl
 keys_of-push (f ∷ ls) l = ap (with_key (key_of_lit f)) (keys_of-push ls l) ∙ last_key (key_of_lit f) (key_of_lit l) (keys_of ls)
 
-last_place : (o p : Option Key) (n m : ℕ) (ns : List ℕ) → with_place o n (ns ++ with_place p m []) ≡ with_place o n ns ++ with_place p m []
-last_place None p n m ns = refl
-last_place (Some k) p n m ns = refl
+last_place : (o p : Option Key) (q r : Place) (ps : List Place) → with_place o q (ps ++ with_place p r []) ≡ with_place o q ps ++ with_place p r []
+last_place None p q r ps = refl
+last_place (Some k) p q r ps = refl
 
-metric_places-last : (n : ℕ) (ls : List Lit) (l : Lit) (m : ℕ) → n + length ls ≡ m → metric_places n (ls ++ l ∷ []) ≡ metric_places n ls ++ with_place (key_of_lit l) m []
-metric_places-last n [] l m e = ap (λ k. with_place (key_of_lit l) k []) (omega arith)
+metric_places-last : (n : ℕ) (ls : List Lit) (l : Lit) (m : ℕ) → n + length ls ≡ m → metric_places n (ls ++ l ∷ []) ≡ metric_places n ls ++ with_place (key_of_lit l) (place_of m l) []
+metric_places-last n [] l m e = ap (λ k. with_place (key_of_lit l) (place_of k l) []) (omega arith)
 metric_places-last n (f ∷ ls) l m e =
-    ap (with_place (key_of_lit f) n) (metric_places-last (n + 1) ls l m (omega arith)) ∙ last_place (key_of_lit f) (key_of_lit l) n m (metric_places (n + 1) ls)
+    ap (with_place (key_of_lit f) (place_of n f)) (metric_places-last (n + 1) ls l m (omega arith))
+    ∙ last_place (key_of_lit f) (key_of_lit l) (place_of n f) (place_of m l) (metric_places (n + 1) ls)
 
-pub metric_places-push : (ls : List Lit) (l : Lit) → metric_places 0 (ls ++ l ∷ []) ≡ metric_places 0 ls ++ with_place (key_of_lit l) (length ls) []
+pub metric_places-push : (ls : List Lit) (l : Lit) → metric_places 0 (ls ++ l ∷ []) ≡ metric_places 0 ls ++ with_place (key_of_lit l) (place_of (length ls) l) []
 metric_places-push ls l = metric_places-last 0 ls l (length ls) (omega arith)

@@ -17,7 +17,7 @@ use Rattle.e_literal.specs.Absurd.{Weighed, total, allows_multiplier, is_strict,
 use Rattle.e_fraction.specs.declared.row.Row.{Row as GivenRow}
 use Rattle.e_fraction.specs.Distinct.{have_distinct_terms}
 use Rattle.e_fraction.specs.Limits.{has_small_coefficients, all_small, small_multipliers}
-use Rattle.e_fraction.specs.Views.{sense_of, view_of_row, views_of_rows, weighed}
+use Rattle.e_fraction.specs.Views.{sense_of, view_of_row, views_of_rows, with_multipliers}
 use Rattle.e_literal.proofs.Arith.{sums}
 use Rattle.e_literal.proofs.Terms.{term_eq_is}
 use Rattle.e_literal.proofs.Booleans.{and_left, and_right}
@@ -96,14 +96,14 @@ good_multiplier (m ∷ ms) (suc i) l h = good_multiplier ms i (omega (arith, l))
 
 -- one row more
 pub total_more : (rows : List GivenRow) (ms : List ℤ) (i : ℕ) (d : GivenRow) (t : Term) → i < length rows → i < length ms
-    → total (weighed (take (i + 1) rows) (take (i + 1) ms)) t ≡ total (weighed (take i rows) (take i ms)) t +ℤ get_or ms i (pos 0) *ℤ coefficient (get_or rows i d).form t
-total_more rows ms i d t h k = ap (λ n. total (weighed (take n rows) (take n ms)) t) (one_more i) ∙ go rows ms i h k
+    → total (with_multipliers (take (i + 1) rows) (take (i + 1) ms)) t ≡ total (with_multipliers (take i rows) (take i ms)) t +ℤ get_or ms i (pos 0) *ℤ coefficient (get_or rows i d).form t
+total_more rows ms i d t h k = ap (λ n. total (with_multipliers (take n rows) (take n ms)) t) (one_more i) ∙ go rows ms i h k
   where
     one_more : (n : ℕ) → n + 1 ≡ suc n
     one_more n = omega arith
 
     go : (rows : List GivenRow) (ms : List ℤ) (i : ℕ) → i < length rows → i < length ms
-        → total (weighed (take (suc i) rows) (take (suc i) ms)) t ≡ total (weighed (take i rows) (take i ms)) t +ℤ get_or ms i (pos 0) *ℤ coefficient (get_or rows i d).form t
+        → total (with_multipliers (take (suc i) rows) (take (suc i) ms)) t ≡ total (with_multipliers (take i rows) (take i ms)) t +ℤ get_or ms i (pos 0) *ℤ coefficient (get_or rows i d).form t
     go [] ms i h k = absurd (omega (arith, h))
     go (r ∷ rs) [] i h k = absurd (omega (arith, k))
     go (r ∷ rs) (m ∷ ms) zero h k = omega (arith, sums)
@@ -111,7 +111,7 @@ total_more rows ms i d t h k = ap (λ n. total (weighed (take n rows) (take n ms
 
 -- ---- all rows
 
-pub weighed_rows : (rows : List GivenRow) (ms : List ℤ) → length ms ≡ length rows → map (λ (w : Weighed). w.row) (weighed rows ms) ≡ views_of_rows rows
+pub weighed_rows : (rows : List GivenRow) (ms : List ℤ) → length ms ≡ length rows → map (λ (w : Weighed). w.row) (with_multipliers rows ms) ≡ views_of_rows rows
 weighed_rows [] ms e = refl
 weighed_rows (r ∷ rs) [] e = absurd (omega (arith, e))
 weighed_rows (r ∷ rs) (m ∷ ms) e = ap (λ xs. view_of_row r ∷ xs) (weighed_rows rs ms (omega (arith, e)))
@@ -136,26 +136,26 @@ strict_signs (x ∷ xs) = ap (λ b. is_strict (sense_of x.0.sense) x.1 || b) (st
 
 pub absurd_is : (rows : List GivenRow) (ms : List ℤ) (signs cancels : Bool) → length ms ≡ length rows
     → signs ≡ (list_all (λ (x : GivenRow × ℤ). allows_multiplier (sense_of x.0.sense) x.1) (zip rows ms) && list_any (λ (x : GivenRow × ℤ). is_strict (sense_of x.0.sense) x.1) (zip rows ms))
-    → cancels ≡ list_all (λ r. list_all (λ p. int_eq (total (weighed rows ms) p.1) (pos 0)) r.form) rows
-    → (signs && cancels) ≡ is_absurd (weighed rows ms)
+    → cancels ≡ list_all (λ r. list_all (λ p. int_eq (total (with_multipliers rows ms) p.1) (pos 0)) r.form) rows
+    → (signs && cancels) ≡ is_absurd (with_multipliers rows ms)
 absurd_is rows ms signs cancels e s c =
     and_comm signs cancels
-    ∙ ap (λ b. b && signs) (c ∙ sym (cancels_rows (total (weighed rows ms)) rows) ∙ ap (λ rs. list_all (λ t. int_eq (total (weighed rows ms) t) (pos 0)) (terms_of_rows rs)) (sym (weighed_rows rows ms e)))
-    ∙ ap (λ b. list_all (λ t. int_eq (total (weighed rows ms) t) (pos 0)) (terms_of_rows (map (λ (w : Weighed). w.row) (weighed rows ms))) && b)
+    ∙ ap (λ b. b && signs) (c ∙ sym (cancels_rows (total (with_multipliers rows ms)) rows) ∙ ap (λ rs. list_all (λ t. int_eq (total (with_multipliers rows ms) t) (pos 0)) (terms_of_rows rs)) (sym (weighed_rows rows ms e)))
+    ∙ ap (λ b. list_all (λ t. int_eq (total (with_multipliers rows ms) t) (pos 0)) (terms_of_rows (map (λ (w : Weighed). w.row) (with_multipliers rows ms))) && b)
     (s ∙ ap (λ b. b && list_any (λ (x : GivenRow × ℤ). is_strict (sense_of x.0.sense) x.1) (zip rows ms)) (sym (good_signs (zip rows ms)))
-    ∙ ap (λ b. list_all (λ (w : Weighed). allows_multiplier w.row.sense w.multiplier) (weighed rows ms) && b) (sym (strict_signs (zip rows ms))))
+    ∙ ap (λ b. list_all (λ (w : Weighed). allows_multiplier w.row.sense w.multiplier) (with_multipliers rows ms) && b) (sym (strict_signs (zip rows ms))))
 
 pub absurd_not : (rows : List GivenRow) (ms : List ℤ) (signs : Bool) → length ms ≡ length rows
     → signs ≡ (list_all (λ (x : GivenRow × ℤ). allows_multiplier (sense_of x.0.sense) x.1) (zip rows ms) && list_any (λ (x : GivenRow × ℤ). is_strict (sense_of x.0.sense) x.1) (zip rows ms))
-    → signs ≡ false → signs ≡ is_absurd (weighed rows ms)
+    → signs ≡ false → signs ≡ is_absurd (with_multipliers rows ms)
 absurd_not rows ms signs e s n =
-    let cancels = list_all (λ (r : GivenRow). list_all (λ (p : ℤ × Term). int_eq (total (weighed rows ms) p.1) (pos 0)) r.form) rows in
+    let cancels = list_all (λ (r : GivenRow). list_all (λ (p : ℤ × Term). int_eq (total (with_multipliers rows ms) p.1) (pos 0)) r.form) rows in
     n ∙ sym (ap (λ b. b && cancels) n) ∙ absurd_is rows ms signs cancels e s refl
 
 pub sum_size : (a b : ℤ) (i : ℕ) → unsigned_abs a ≤ i * 2 ^ 110 → unsigned_abs b ≤ 2 ^ 110 → unsigned_abs (a +ℤ b) ≤ (i + 1) * 2 ^ 110
 sum_size a b i h k = omega (arith, sums, abs_is a, abs_is b, abs_is (a +ℤ b), h, k)
 
 pub total_step : (rows : List GivenRow) (ms : List ℤ) (i : ℕ) (d : GivenRow) (t : Term) (a b : ℤ) → i < length rows → i < length ms
-    → a ≡ total (weighed (take i rows) (take i ms)) t → b ≡ get_or ms i (pos 0) *ℤ coefficient (get_or rows i d).form t
-    → a +ℤ b ≡ total (weighed (take (i + 1) rows) (take (i + 1) ms)) t
+    → a ≡ total (with_multipliers (take i rows) (take i ms)) t → b ≡ get_or ms i (pos 0) *ℤ coefficient (get_or rows i d).form t
+    → a +ℤ b ≡ total (with_multipliers (take (i + 1) rows) (take (i + 1) ms)) t
 total_step rows ms i d t a b h k e f = omega (arith, sums, e, f, total_more rows ms i d t h k)

@@ -22,6 +22,6 @@ abbrev pub views_of_rows : List GivenRow → List Row
 views_of_rows rows = map view_of_row rows
 
 -- each row with its multiplier
-abbrev pub weighed : List GivenRow → List ℤ → List Weighed
-weighed rows multipliers =
+abbrev pub with_multipliers : List GivenRow → List ℤ → List Weighed
+with_multipliers rows multipliers =
     map (λ x. record { multiplier = x.1; row = view_of_row x.0 }) (zip rows multipliers)

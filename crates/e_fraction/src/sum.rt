@@ -8,7 +8,7 @@ ghost use Rattle.e_literal.specs.Rows.{Summands, coefficient};
 ghost use Rattle.e_literal.specs.Absurd.{total, allows_multiplier, is_strict, is_absurd};
 ghost use Rattle.e_fraction.specs.Limits.{has_small_coefficients, all_small, small_multipliers};
 ghost use Rattle.e_fraction.specs.Limits.{most_rows_of_system};
-ghost use Rattle.e_fraction.specs.Views.{sense_of, weighed, views_of_rows};
+ghost use Rattle.e_fraction.specs.Views.{sense_of, with_multipliers, views_of_rows};
 ghost use Rattle.e_literal.specs.Solution.{HasSolution};
 
 use crate::row::{Row, RowSense};
@@ -25,7 +25,7 @@ pub fn check_sum(rows: &[Row], multipliers: &[i128]) -> bool
     requires few { length rows.now ≤ most_rows_of_system }
     requires coefficients { IsTrue (all_small rows.now) }
     requires multipliers { IsTrue (small_multipliers multipliers.now) }
-    ensures value { result ≡ is_absurd (weighed rows.now multipliers.now) }
+    ensures value { result ≡ is_absurd (with_multipliers rows.now multipliers.now) }
     ensures refutes { IsTrue result → ¬ HasSolution (views_of_rows rows.now) }
 {
     have_absurd_signs(rows, multipliers) && cancels(rows, multipliers)
@@ -47,7 +47,7 @@ fn cancels(rows: &[Row], multipliers: &[i128]) -> bool
     requires coefficients { IsTrue (all_small rows.now) }
     requires multipliers { IsTrue (small_multipliers multipliers.now) }
     ensures { result ≡ list_all (λ r. list_all (λ p.
-        int_eq (total (weighed rows.now multipliers.now) p.1) (pos 0)) r.form) rows.now }
+        int_eq (total (with_multipliers rows.now multipliers.now) p.1) (pos 0)) r.form) rows.now }
 {
     rows.iter()
         .all(|row| cancels_in(row.form.summands(), rows, multipliers))
@@ -59,7 +59,7 @@ fn cancels_in(form: &[(i64, Term)], rows: &[Row], multipliers: &[i128]) -> bool
     requires coefficients { IsTrue (all_small rows.now) }
     requires multipliers { IsTrue (small_multipliers multipliers.now) }
     ensures { result ≡ list_all (λ p.
-        int_eq (total (weighed rows.now multipliers.now) p.1) (pos 0)) form.now }
+        int_eq (total (with_multipliers rows.now multipliers.now) p.1) (pos 0)) form.now }
 {
     form.iter().all(|p| total(rows, multipliers, p.1) == 0)
 }
@@ -73,7 +73,7 @@ pub fn total(rows: &[Row], multipliers: &[i128], term: Term) -> i128
     requires few { length rows.now ≤ most_rows_of_system }
     requires coefficients { IsTrue (all_small rows.now) }
     requires multipliers { IsTrue (small_multipliers multipliers.now) }
-    ensures { result ≡ Rattle.e_literal.specs.Absurd.total (weighed rows.now multipliers.now) term }
+    ensures { result ≡ Rattle.e_literal.specs.Absurd.total (with_multipliers rows.now multipliers.now) term }
 {
     let mut sum: i128 = 0;
     for (row, multiplier) in rows.iter().zip(multipliers) {

@@ -86,8 +86,8 @@ statement k m =
 
 abbrev pub proof : ℕ → ℕ → List ℕ
 proof k m =
-    codes "proof\n" ++ (line_before k m ++ (codes "by b1b p1 p2 p3 : p1 != p2\n" ++ (turned_line 0 1 2
-    ++ (flat_map cites (numbers 2 (m - 2))
+    codes "proof\n" ++ (line_before k m ++ (codes "by b1b p1 p2 p3 : p1 != p2\n"
+    ++ (turned_line 0 1 2 ++ (flat_map cites (numbers 2 (m - 2))
     ++ (flat_map hence_line (numbers 1 (m - 1)) ++ codes "qed\nend\n")))))
 
 abbrev pub generated_theorem_text : ℕ → List ℕ

@@ -19,8 +19,8 @@ abbrev pub fails : Store → Bool
 fails s = list_any (λ n. n == s.call) s.fail || length s.written == s.room
 
 -- how many bytes a call takes that does not fail, by how many are offered
-abbrev pub taken : Store → ℕ → ℕ
-taken s offered = min (min s.piece offered) (s.room - length s.written)
+abbrev pub bytes_taken : Store → ℕ → ℕ
+bytes_taken s offered = min (min s.piece offered) (s.room - length s.written)
 
 -- the sink after a call
 abbrev pub after_write : Store → List ℕ → Store
@@ -28,6 +28,6 @@ after_write s from =
     if fails s
     then record s { call = one_more s.call; faults = one_more s.faults }
     else record s {
-      written = s.written ++ take (taken s (length from)) from;
+      written = s.written ++ take (bytes_taken s (length from)) from;
       call = one_more s.call;
     }

@@ -17,17 +17,17 @@ abbrev pub fails : Supply → Bool
 fails s = list_any (λ n. n == s.call) s.fail
 
 -- how many bytes a call gives that does not fail, by the room of its buffer
-abbrev pub given : Supply → ℕ → ℕ
-given s room = min (min s.piece room) (length s.left)
+abbrev pub bytes_given : Supply → ℕ → ℕ
+bytes_given s room = min (min s.piece room) (length s.left)
 
 -- the source after a call
 abbrev pub after_read : Supply → ℕ → Supply
 after_read s room =
     if fails s
     then record s { call = one_more s.call; faults = one_more s.faults }
-    else record s { left = drop (given s room) s.left; call = one_more s.call }
+    else record s { left = drop (bytes_given s room) s.left; call = one_more s.call }
 
 -- the buffer after a call: what was given is at its front
 abbrev pub buffer_after : Supply → List ℕ → List ℕ
 buffer_after s to =
-    if fails s then to else take (given s (length to)) s.left ++ drop (given s (length to)) to
+    if fails s then to else take (bytes_given s (length to)) s.left ++ drop (bytes_given s (length to)) to

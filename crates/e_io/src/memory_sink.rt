@@ -2,7 +2,7 @@
 ghost use Rattle.std.specs.Prelude.{◌≡◌, ◌≤◌, ◌<◌, ◌↔◌, Some, None, []};
 ghost use Rattle.std.specs.Prelude.{length, IsTrue, IsErr, IfOk, OnErr};
 ghost use Rattle.e_io.specs.Bytes.{TakesBytes, Rose};
-ghost use Rattle.e_io.specs.MemSink.{Store, fails, taken, after_write};
+ghost use Rattle.e_io.specs.MemSink.{Store, fails, bytes_taken, after_write};
 
 use crate::sink::Sink;
 use crate::source::Failed;
@@ -92,7 +92,7 @@ impl Sink for MemSink {
 
         // exactly the listed calls and those at a full store fail
         ensures fails { IsErr result ↔ IsTrue (fails self.old) }
-        ensures taken { IfOk result (λ n. n ≡ taken self.old (length from.now)) }
+        ensures taken { IfOk result (λ n. n ≡ bytes_taken self.old (length from.now)) }
         ensures after { self.new ≡ after_write self.old from.now }
     {
         let call = self.call;

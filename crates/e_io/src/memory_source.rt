@@ -2,7 +2,7 @@
 ghost use Rattle.std.specs.Prelude.{◌≡◌, ◌≤◌, ◌<◌, ◌↔◌, Some, length, drop};
 ghost use Rattle.std.specs.Prelude.{min, vec_len, IsTrue, IsErr, IfOk, OnErr};
 ghost use Rattle.e_io.specs.Bytes.{ReadsBytes, Rose};
-ghost use Rattle.e_io.specs.MemSource.{Supply, fails, given, after_read, buffer_after};
+ghost use Rattle.e_io.specs.MemSource.{Supply, fails, bytes_given, after_read, buffer_after};
 
 use crate::source::{Failed, Source};
 use std::marker::Model;
@@ -74,7 +74,7 @@ impl Source for MemSource {
 
         // exactly the listed calls fail
         ensures fails { IsErr result ↔ IsTrue (fails self.old) }
-        ensures given { IfOk result (λ n. n ≡ given self.old (length to.old)) }
+        ensures given { IfOk result (λ n. n ≡ bytes_given self.old (length to.old)) }
         ensures after { self.new ≡ after_read self.old (length to.old) }
         ensures buffer { to.new ≡ buffer_after self.old to.old }
     {

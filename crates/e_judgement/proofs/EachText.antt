@@ -2,7 +2,7 @@
 use Rattle.std.proofs.Common.{◌≡◌, inl, inr, ℕ, zero, suc, ◌+◌, ◌<◌, ◌≤◌, List, [], ◌∷◌, length, Option, Some, None, Result, Ok, Err, refl, ap, arith}
 use Rattle.std.specs.Prelude.{option_and_then}
 use Rattle.e_clause.specs.declared.cert.Version.{Version}
-use Rattle.e_theorem.specs.Statements.{stated}
+use Rattle.e_theorem.specs.Statements.{as_view}
 use Rattle.e_deriv.specs.Certified.{is_certified, derivation_steps, verdict}
 use Rattle.e_line.specs.Reading.{◌>>=◌}
 use Rattle.e_names.specs.TitledStatements.{TitledStatement, stated_by}
@@ -63,11 +63,11 @@ module _ (v : Version) where
   goes_on : (last : ℕ) (known : List TitledStatement) (lines after : Rest) (t : TheoremView) → ReadsNext v last known lines t after → IsCertified known t → Runs last (with_theorem known t) after → Runs last known lines
   goes_on last known lines after t reads certified r = (r.0, t ∷ r.1, r.2, r.3, (after, reads, certified, r.4), r.5)
 
-  by_verdict : (last : ℕ) (known : List TitledStatement) (lines after : Rest) (t : TheoremView) → ReadsNext v last known lines t after → (a : Result ℕ ℕ) → verdict (stated_by known) (stated t.statement) t.script ≡ a
+  by_verdict : (last : ℕ) (known : List TitledStatement) (lines after : Rest) (t : TheoremView) → ReadsNext v last known lines t after → (a : Result ℕ ℕ) → verdict (stated_by known) (as_view t.statement) t.script ≡ a
       → Runs last (with_theorem known t) after → Runs last known lines
   by_verdict last known lines after t reads (Ok n) is more =
       let before = stated_by known in
-      goes_on last known lines after t reads (all_pass (is_certified before) (derivation_steps before (stated t.statement) t.script) 1 n is) more
+      goes_on last known lines after t reads (all_pass (is_certified before) (derivation_steps before (as_view t.statement) t.script) 1 n is) more
   by_verdict last known lines after t reads (Err step) is more = ends_here last known lines (Bad t.title step) (inr (inr (t, after, step, reads, is, refl)))
 
   by_piece : (last : ℕ) (known : List TitledStatement) (lines : Rest) (a : Result Found ℕ) → piece_from known last (at_start v) lines ≡ a
@@ -75,7 +75,7 @@ module _ (v : Version) where
   by_piece last known lines (Err line) e more = ends_here last known lines (Garbled line) (inr (inl (line, e, refl)))
   by_piece last known lines (Ok (Last, rest)) e more = ends_here last known lines (JudgedAfter (length known) rest) (inl (rest, e, refl))
   by_piece last known lines (Ok (Derived t, after)) e more =
-      by_verdict last known lines after t e (verdict (stated_by known) (stated t.statement) t.script) refl (more t after e)
+      by_verdict last known lines after t e (verdict (stated_by known) (as_view t.statement) t.script) refl (more t after e)
 
   by_size : (size last : ℕ) (known : List TitledStatement) (lines : Rest) → length lines ≤ size → Runs last known lines
   by_size zero last known lines le =

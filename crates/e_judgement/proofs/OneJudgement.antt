@@ -3,7 +3,7 @@ use Rattle.std.proofs.Common.{◌≡◌, inl, inr, ℕ, ◌+◌, Bool, true, fal
 use Rattle.std.specs.Prelude.{Option, Some, None}
 use Rattle.std.specs.List.{list_all}
 use Rattle.e_clause.specs.declared.cert.Version.{Version}
-use Rattle.e_theorem.specs.Statements.{stated}
+use Rattle.e_theorem.specs.Statements.{as_view}
 use Rattle.e_deriv.specs.PlacedSteps.{PlacedStep, first_failure}
 use Rattle.e_deriv.specs.Certified.{is_certified, derivation_steps, verdict}
 use Rattle.e_names.specs.TitledStatements.{TitledStatement, stated_by}
@@ -74,13 +74,13 @@ no_failure p (x ∷ xs) n k h e = by (p x) (λ good later. no_failure p xs (n + 
     by true more h e = more h e
     by false more h e = true≢false (sym h)
 
-pub certified_no_failure : (known : List TitledStatement) (t : TheoremView) (step : ℕ) → IsCertified known t → verdict (stated_by known) (stated t.statement) t.script ≡ Err step → ⊥
+pub certified_no_failure : (known : List TitledStatement) (t : TheoremView) (step : ℕ) → IsCertified known t → verdict (stated_by known) (as_view t.statement) t.script ≡ Err step → ⊥
 certified_no_failure known t step c e =
-    no_failure (is_certified (stated_by known)) (derivation_steps (stated_by known) (stated t.statement) t.script) 1 step c e
+    no_failure (is_certified (stated_by known)) (derivation_steps (stated_by known) (as_view t.statement) t.script) 1 step c e
 
-same_bad : (known : List TitledStatement) (t u : TheoremView) (n m : ℕ) → t ≡ u → verdict (stated_by known) (stated t.statement) t.script ≡ Err n → verdict (stated_by known) (stated u.statement) u.script ≡ Err m → Bad t.title n ≡ Bad u.title m
+same_bad : (known : List TitledStatement) (t u : TheoremView) (n m : ℕ) → t ≡ u → verdict (stated_by known) (as_view t.statement) t.script ≡ Err n → verdict (stated_by known) (as_view u.statement) u.script ≡ Err m → Bad t.title n ≡ Bad u.title m
 same_bad known t u n m e h k =
-    let v = ap (λ (x : TheoremView). verdict (stated_by known) (stated x.statement) x.script) e in
+    let v = ap (λ (x : TheoremView). verdict (stated_by known) (as_view x.statement) x.script) e in
     let s = same_step n m (sym h ∙ v ∙ k) in
     ap (λ (x : TheoremView). Bad x.title n) e ∙ ap (Bad u.title) s
 
@@ -104,7 +104,7 @@ module _ (v : Version) where
   no_close last known lines t after a r c (inr (inl h)) = found_not_broken t after h.0 (sym r ∙ h.1)
   no_close last known lines t after a r c (inr (inr h)) =
       certified_no_failure known t h.2 c
-      (ap (λ (x : TheoremView). verdict (stated_by known) (stated x.statement) x.script) (same_entry t h.0 after h.1 (sym r ∙ h.3)) ∙ h.4)
+      (ap (λ (x : TheoremView). verdict (stated_by known) (as_view x.statement) x.script) (same_entry t h.0 after h.1 (sym r ∙ h.3)) ∙ h.4)
 
   closes_at : (last : ℕ) (known now : List TitledStatement) (lines rest : Rest) (a : Judgement) → known ≡ now → lines ≡ rest → Closes v last now rest a → Closes v last known lines a
   closes_at last known now lines rest a e f h =

@@ -4,7 +4,7 @@ use Rattle.std.specs.Prelude.{IsTrue, IfOk, Option, Some, None}
 use Rattle.std.specs.List.{list_all}
 use Rattle.e_text.specs.Lines.{LineView, Ahead}
 use Rattle.e_clause.specs.declared.cert.Version.{Version}
-use Rattle.e_theorem.specs.Statements.{stated}
+use Rattle.e_theorem.specs.Statements.{as_view}
 use Rattle.e_deriv.specs.Fitting.{is_small_statement}
 use Rattle.e_names.specs.TitledStatements.{TitledStatement, stated_by}
 use Rattle.e_book.specs.TheoremViews.{TheoremView}
@@ -91,5 +91,5 @@ begins_then text lines after found v (Ok j) is h e k =
 begins_then text lines after found v (Err x) is h e k = tt
 
 -- each known theorem is a statement, and so is one more
-pub small_more : (known : List TitledStatement) (t : TheoremView) → IsTrue (list_all is_small_statement (stated_by known)) → IsTrue (is_small_statement (stated t.statement)) → IsTrue (list_all is_small_statement (stated_by (with_theorem known t)))
+pub small_more : (known : List TitledStatement) (t : TheoremView) → IsTrue (list_all is_small_statement (stated_by known)) → IsTrue (is_small_statement (as_view t.statement)) → IsTrue (list_all is_small_statement (stated_by (with_theorem known t)))
 small_more known t h k = one_more_stated known t.title t.statement h k

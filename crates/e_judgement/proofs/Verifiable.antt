@@ -5,7 +5,7 @@ use Rattle.e_text.specs.Lines.{LineView}
 use Rattle.e_text.specs.declared.line.LineFault.{LineFault}
 use Rattle.e_literal.specs.Use.{scope_of}
 use Rattle.e_clause.specs.declared.cert.Version.{Version}
-use Rattle.e_theorem.specs.Statements.{stated}
+use Rattle.e_theorem.specs.Statements.{as_view}
 use Rattle.e_deriv.specs.Script.{bare_script}
 use Rattle.e_deriv.specs.Goal.{facts_of_statement, goal_of_statement}
 use Rattle.e_deriv.specs.Fitting.{is_small_statement, IsFitting}
@@ -20,11 +20,11 @@ use Rattle.e_read.proofs.Bridge.{derives}
 use Rattle.e_read.proofs.ReadCertificates.{good_certs_read}
 use Rattle.e_judgement.proofs.WithCertificates.{size_erased, small_with}
 
-pub verifiable : (v : Version) (known : List TitledStatement) (last : ℕ) (lines rest : List (Result LineView LineFault)) (t : TheoremView) → list_all is_small_statement (stated_by known) ≡ true → is_small_statement (stated t.statement) ≡ true → HasSpelling known (without_certs t)
-    → piece_from known last (at_start v) lines ≡ derives t rest → IsVerifiable (stated_by known) (stated t.statement) t.script
+pub verifiable : (v : Version) (known : List TitledStatement) (last : ℕ) (lines rest : List (Result LineView LineFault)) (t : TheoremView) → list_all is_small_statement (stated_by known) ≡ true → is_small_statement (as_view t.statement) ≡ true → HasSpelling known (without_certs t)
+    → piece_from known last (at_start v) lines ≡ derives t rest → IsVerifiable (stated_by known) (as_view t.statement) t.script
 verifiable v known last lines rest t states small spelled e =
     let bs = stated_by known in
-    let st = stated t.statement in
+    let st = as_view t.statement in
     let fit : IsFitting bs st (bare_script t.script) = fitting known (without_certs t) states spelled.fits in
     record {
       statements = states;

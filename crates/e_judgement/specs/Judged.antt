@@ -7,7 +7,7 @@ use Rattle.e_text.specs.Lines.{LineView, lines_of, line_of_fault}
 use Rattle.e_text.specs.declared.line.LineFault.{LineFault}
 use Rattle.e_clause.specs.declared.cert.Version.{Version}
 use Rattle.e_clause.specs.declared.cert.Version.TheVariants.{One, Two}
-use Rattle.e_theorem.specs.Statements.{stated}
+use Rattle.e_theorem.specs.Statements.{as_view}
 use Rattle.e_deriv.specs.Certified.{Certified, verdict}
 use Rattle.e_names.specs.TitledStatements.{TitledStatement, titled_statement, stated_by}
 use Rattle.e_book.specs.TheoremViews.{TheoremView}
@@ -28,7 +28,7 @@ ReadsNext v last known lines t after =
 
 -- with this known, each certificate of the theorem's derivation certifies at its own step
 abbrev pub IsCertified : List TitledStatement → TheoremView → Type 0
-IsCertified known t = Certified (stated_by known) (stated t.statement) t.script
+IsCertified known t = Certified (stated_by known) (as_view t.statement) t.script
 
 -- these theorems are read one after another, and each is certified by those before it; then this is
 -- known, and these lines are left
@@ -64,7 +64,7 @@ BreaksThere v last known lines j =
 abbrev pub FailsThere : Version → ℕ → List TitledStatement → Rest → Judgement → Type 0
 FailsThere v last known lines j =
     (t : TheoremView) × (after : Rest) × (step : ℕ) × ReadsNext v last known lines t after
-    × (verdict (stated_by known) (stated t.statement) t.script ≡ Err step) × (j ≡ Bad t.title step)
+    × (verdict (stated_by known) (as_view t.statement) t.script ≡ Err step) × (j ≡ Bad t.title step)
 
 -- after the theorems `known`, these lines have this judgement
 abbrev pub Closes : Version → ℕ → List TitledStatement → Rest → Judgement → Type 0

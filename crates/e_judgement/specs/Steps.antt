@@ -3,7 +3,7 @@ use Rattle.std.specs.Prelude.{◌≡◌, ℕ, ◌<◌, List, [], ◌∷◌, leng
 use Rattle.std.specs.Prelude.{IsTrue}
 use Rattle.e_text.specs.Lines.{LineView, Ahead}
 use Rattle.e_clause.specs.declared.cert.Version.{Version}
-use Rattle.e_theorem.specs.Statements.{stated}
+use Rattle.e_theorem.specs.Statements.{as_view}
 use Rattle.e_deriv.specs.Fitting.{is_small_statement}
 use Rattle.e_deriv.specs.Versions.{has_certs_of}
 use Rattle.e_book.specs.Grammar.{last_line, Rest}
@@ -22,10 +22,10 @@ pub record IsNextCertified (v : Version) (known : List TitledStatement) (last : 
     (t : TheoremView) (after : Rest) : Type 0 where
   pub read : ReadsNext v last known lines t after
   pub certified : IsCertified known t
-  pub verifiable : IsVerifiable (stated_by known) (stated t.statement) t.script
+  pub verifiable : IsVerifiable (stated_by known) (as_view t.statement) t.script
   pub version : IsTrue (has_certs_of v t.script)
   pub spelled : HasSpelling known (without_certs t)
-  pub states : IsTrue (is_small_statement (stated t.statement))
+  pub states : IsTrue (is_small_statement (as_view t.statement))
 
 -- with this known, this is next
 abbrev pub NextCertified : Version → List TitledStatement → ℕ → Rest → Rest → NextItem → Type 0

@@ -1,7 +1,7 @@
 //! The next theorem of a derivation text, checked.
 ghost use Rattle.std.specs.Prelude.{◌≡◌, ◌≤◌, ◌<◌, length, IfOk, IfErr, OnOk, IsTrue};
 ghost use Rattle.std.specs.List.{list_all};
-ghost use Rattle.e_theorem.specs.Statements.{stated};
+ghost use Rattle.e_theorem.specs.Statements.{as_view};
 ghost use Rattle.e_deriv.specs.Script.{script_of};
 ghost use Rattle.e_deriv.specs.Certified.{Certified, verdict};
 ghost use Rattle.e_deriv.specs.Fitting.{is_small_statement};
@@ -47,12 +47,12 @@ fn after_last_line(lines: &mut Lines, theorems: u32) -> Judgement
 
 /// Checks a theorem that is read by those that are known.
 fn check(alloc: Global, known: &Theorems, theorem: &Theorem) -> Result<(), Reject>
-    requires { IsVerifiable (stated_by known.now) (stated theorem.now.statement)
+    requires { IsVerifiable (stated_by known.now) (as_view theorem.now.statement)
         (script_of theorem.now.block) }
-    ensures certified { OnOk result (Certified (stated_by known.now) (stated theorem.now.statement)
+    ensures certified { OnOk result (Certified (stated_by known.now) (as_view theorem.now.statement)
         (script_of theorem.now.block)) }
     ensures bad { IfErr result (RejectIs (verdict (stated_by known.now)
-        (stated theorem.now.statement) (script_of theorem.now.block))) }
+        (as_view theorem.now.statement) (script_of theorem.now.block))) }
 {
     verify(
         alloc,

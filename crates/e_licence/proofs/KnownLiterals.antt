@@ -3,7 +3,7 @@ use Rattle.std.proofs.Common.{◌≡◌, ℕ, zero, suc, ◌+◌, ◌-◌, ◌<�
 use Rattle.std.specs.Prelude.{IfOk, Contains, slice_index_or}
 use Rattle.std.specs.Prelude.{length as length_of}
 use Rattle.std.specs.Option.{option_map_or}
-use Rattle.std.proofs.lemmas.Bool.{ltb-true, cases_Bool}
+use Rattle.std.proofs.lemmas.Bool.{ltb-true}
 use Rattle.std.proofs.lemmas.List.{drop_more}
 use Rattle.e_literal.specs.declared.object.Obj.{Obj}
 use Rattle.e_literal.specs.declared.object.Scope.{Scope}
@@ -12,7 +12,6 @@ use Rattle.e_literal.specs.declared.literal.Lit.{Lit}
 use Rattle.e_literal.specs.declared.map.Entry.{Entry}
 use Rattle.e_literal.specs.Literal.{obj, count_of, all_in_scope}
 use Rattle.e_literal.specs.WellFormed.{is_well_formed}
-use Rattle.e_literal.specs.Facts.{is_metric}
 use Rattle.e_literal.specs.Rename.{same_obj, image_in, pairs_of, with_images}
 use Rattle.e_literal.specs.Scopes.{same_sort, nothing, with_one, next_objects}
 use Rattle.e_clause.specs.Allowed.{Allowed, AllAllowed}
@@ -28,7 +27,7 @@ use Rattle.e_transfer.specs.declared.walk.Verdict.{Verdict}
 use Rattle.e_transfer.specs.declared.walk.Verdict.TheVariants as verdict
 use Rattle.e_licence.specs.Contexts.{Basis}
 use Rattle.e_licence.specs.Verdicts.{JudgedIs}
-use Rattle.e_licence.specs.inner.BlankChoices.{filled_arguments, spans_of, images_of_choice, AllBound, AllBoundOf, IsKeptChoice, IsWanted, IsRefusedAt, SomeIsWideAt, KnownIs, OneIs, AreIs, AllIs}
+use Rattle.e_licence.specs.inner.BlankChoices.{filled_arguments, spans_of, images_of_choice, AllBound, IsKeptChoice, IsWanted, IsRefusedAt, SomeIsWideAt, KnownIs, OneIs, AllIs}
 
 -- ---- one object
 
@@ -125,47 +124,15 @@ contains_at f ls l (k, less, is) = let h = contains_map f ls l k less is in (k, 
 -- ---- the literals one after the other
 
 -- where those from here on are allowed, all are
-abbrev pub Left : Basis → List Entry → Bool → Bool → List Lit → ℕ → Type 0
-Left b now metric all ls i = all ≡ true → AllBoundOf b now metric (drop i ls) → AllBoundOf b now metric ls
-
-left_more : (b : Basis) (now : List Entry) (metric all : Bool) (ls : List Lit) (i : ℕ) (d : Lit) → i < length ls
-    → (all ≡ true → is_metric (get_or ls i d) ≡ metric → is_well_formed_in b.scope (at now (get_or ls i d)) ≡ true → Allowed b.scope b.facts (at now (get_or ls i d)))
-    → Left b now metric all ls i → Left b now metric all ls (i + 1)
-left_more b now metric all ls i d less here left whole rest =
-    left whole (subst (λ x. AllBoundOf b now metric x) (sym (drop_more ls i d less)) (here whole, rest))
+abbrev pub Left : Basis → List Entry → List Lit → ℕ → Type 0
+Left b now ls i = AllBound b now (drop i ls) → AllBound b now ls
 
 -- one that is allowed
-pub kept_more : (b : Basis) (now : List Entry) (metric all : Bool) (ls : List Lit) (i : ℕ) (d l : Lit) (o : Verdict (Unit {0})) (p : Unit {0}) → i < length ls
-    → l ≡ get_or ls i d → o ≡ verdict.Yes p → OneIs b now l o → Left b now metric all ls i → Left b now metric all ls (i + 1)
-kept_more b now metric all ls i d l o p less is keep claim =
-    left_more b now metric all ls i d less
-    (λ whole kind. subst (λ x. is_well_formed_in b.scope (at now x) ≡ true → Allowed b.scope b.facts (at now x)) is (subst (λ x. OneIs b now l x) keep claim))
-
--- one that is not asked
-pub unasked_more : (b : Basis) (now : List Entry) (metric all : Bool) (ls : List Lit) (i : ℕ) (d l : Lit) → i < length ls
-    → l ≡ get_or ls i d → (all ≡ true → is_metric l ≡ metric → ⊥) → Left b now metric all ls i → Left b now metric all ls (i + 1)
-unasked_more b now metric all ls i d l less is none =
-    left_more b now metric all ls i d less (λ whole kind good. absurd (none whole (ap is_metric is ∙ kind)))
-
--- ---- diagram literals and metric ones
-
-both_bound : (b : Basis) (now : List Entry) (ls : List Lit) → AllBoundOf b now false ls → AllBoundOf b now true ls → AllBound b now ls
-both_bound b now [] diagrams metrics = tt
-both_bound b now (l ∷ ls) (here, diagrams) (there, metrics) = (
-  λ good. elim (cases_Bool (is_metric l)) [ inl is ↦ there is good | inr not ↦ here not good ],
-  both_bound b now ls diagrams metrics,
-)
-
-all_of_both : (b : Basis) (now : List Entry) (all : Bool) (ls : List Lit) (o v : Verdict (Unit {0})) (p : Unit {0}) → o ≡ verdict.Yes p → AreIs b now false all ls o → AreIs b now true all ls v → AllIs b now all ls v
-all_of_both b now all ls o (verdict.Yes q) p keep diagrams metrics =
-    λ whole. both_bound b now ls (subst (λ x. AreIs b now false all ls x) keep diagrams whole) (metrics whole)
-all_of_both b now all ls o verdict.No p keep diagrams metrics = metrics
-all_of_both b now all ls o (verdict.TooWide w) p keep diagrams metrics = metrics
-
-pub if_both : {E : Type 0} (r : Result (Verdict (Unit {0})) E) (b : Basis) (now : List Entry) (all : Bool) (ls : List Lit) (o : Verdict (Unit {0})) (p : Unit {0}) → o ≡ verdict.Yes p → AreIs b now false all ls o
-    → IfOk r (AreIs b now true all ls) → IfOk r (AllIs b now all ls)
-if_both (Ok v) b now all ls o p keep diagrams metrics = all_of_both b now all ls o v p keep diagrams metrics
-if_both (Err e) b now all ls o p keep diagrams metrics = metrics
+pub kept_more : (b : Basis) (now : List Entry) (ls : List Lit) (i : ℕ) (d l : Lit) (o : Verdict (Unit {0})) (p : Unit {0}) → i < length ls
+    → l ≡ get_or ls i d → o ≡ verdict.Yes p → OneIs b now l o → Left b now ls i → Left b now ls (i + 1)
+kept_more b now ls i d l o p less is keep claim left rest =
+    left (subst (λ x. AllBound b now x) (sym (drop_more ls i d less))
+    (subst (λ x. is_well_formed_in b.scope (at now x) ≡ true → Allowed b.scope b.facts (at now x)) is (subst (λ x. OneIs b now l x) keep claim), rest))
 
 -- ---- what is answered where the objects are in scope
 

@@ -1,27 +1,27 @@
 //! The blanks of an application, filled by the least good choice.
 
 ghost use Rattle.std.specs.Prelude.{◌≡◌, ◌<◌, ◌^◌, ◌==◌, IsTrue, IfOk, OnOk};
-ghost use Rattle.std.specs.Prelude.{length, true, false};
+ghost use Rattle.std.specs.Prelude.{length, true, false, Contains, IfSome, option_copied};
 ghost use Rattle.std.specs.List.{list_any};
-ghost use Rattle.e_literal.specs.Facts.{is_metric};
 ghost use Rattle.e_literal.specs.Scopes.{nothing, next_objects as declared_objects};
 ghost use Rattle.e_literal.specs.Use.{is_statement};
 ghost use Rattle.e_clause.specs.LimitedFacts;
 ghost use Rattle.e_metric.specs.Fronts.{AreFronts};
 ghost use Rattle.e_theorem.specs.Pattern.{is_pattern};
-ghost use Rattle.e_theorem.specs.Statements.{stated};
+ghost use Rattle.e_theorem.specs.Statements.{as_view};
 ghost use Rattle.e_transfer.specs.Prepared.{IsPrepared};
 ghost use Rattle.e_licence.specs.inner.BlankChoices;
-ghost use Rattle.e_licence.specs.inner.BlankChoices.{IsKeptChoice, IsWanted, asks_all, are_metric};
-ghost use Rattle.e_licence.specs.inner.BlankChoices.{KnownIs, OneIs, AreIs, AllIs, SomeIsWideAt};
+ghost use Rattle.e_licence.specs.inner.BlankChoices.{IsKeptChoice, IsWanted};
+ghost use Rattle.e_licence.specs.inner.BlankChoices.{KnownIs, OneIs, AllIs, SomeIsWideAt};
+ghost use Rattle.e_licence.specs.inner.BlankChoices.{IsRefusedAt, SomeIsRefusedAt};
 ghost use Rattle.e_licence.specs.Verdicts.{AreRight};
 ghost use Rattle.e_licence.specs.FilledBlanks.{FilledIs};
 
 use crate::context::Context;
 use crate::licensing::Question;
-use crate::ready::{Ready, ready_places};
+use crate::ready::{Ready, places_by_cost, ready_places};
 use crate::verdicts::Verdicts;
-use e_literal::{Items, Lit, Map, NOTHING, Obj, Scope, count, kind, next_objects, with_images};
+use e_literal::{Items, Lit, Map, NOTHING, Obj, Scope, count, next_objects, with_images};
 use e_metric::{MetricFacts, StepFacts};
 use e_theorem::Statement;
 use e_transfer::{Prepared, Span, Task, Verdict, is_well_formed_in, prepare, search};
@@ -40,22 +40,6 @@ pub enum Filled {
     TooWide(u128),
 }
 
-/// Which given literals are asked.
-#[derive(Clone, Copy)]
-pub enum Asked {
-    /// All.
-    All,
-    /// Those that are known with this many numbers.
-    KnownWith(usize),
-}
-
-/// Of which relations the literals are that are asked.
-#[derive(Clone, Copy)]
-pub enum Relations {
-    Diagram,
-    Metric,
-}
-
 /// The choices for the blanks of an application, as a task of a search.
 #[derive(Drop)]
 pub struct Blanks<'a> {
@@ -67,12 +51,14 @@ pub struct Blanks<'a> {
     pub declared: Vec<Obj>,
     /// On which blanks each given literal depends. It is a matter of speed alone.
     pub ready: Vec<Ready>,
+    /// The places of the given literals in the order in which they are asked, of speed alone too.
+    pub order: Vec<usize>,
     /// How many numbers a whole choice has.
     pub whole: usize,
     ghost fronts: { step_facts.now ≡ context.now.facts },
     ghost prepares: { IsPrepared context.now.facts prepared.now },
     ghost declares: { declared.items ≡ declared_objects nothing statement.now.declared },
-    ghost fits: { IsTrue (is_pattern (stated statement.now) context.now.scope pattern.now) },
+    ghost fits: { IsTrue (is_pattern (as_view statement.now) context.now.scope pattern.now) },
     ghost counted: { whole
         ≡ length (BlankChoices.spans_of context.now.scope declared.items pattern.now) },
 }
@@ -94,10 +80,10 @@ pub fn match_blanks(
     statement: &Statement,
     pattern: &[Option<Obj>],
 ) -> Result<Filled, AllocError>
-    requires states { IsTrue (is_statement (stated statement.now)) }
-    requires fits { IsTrue (is_pattern (stated statement.now) context.now.scope pattern.now) }
+    requires states { IsTrue (is_statement (as_view statement.now)) }
+    requires fits { IsTrue (is_pattern (as_view statement.now) context.now.scope pattern.now) }
     requires few { length statement.now.declared < 2 ^ 16 }
-    ensures { IfOk result (FilledIs (stated statement.now) context.now pattern.now) }
+    ensures { IfOk result (FilledIs (as_view statement.now) context.now pattern.now) }
 {
     if let Some(metric_facts) = context.metric_facts() {
         return match_solved(alloc, context, metric_facts, statement, pattern);
@@ -119,10 +105,10 @@ fn match_solved(
     pattern: &[Option<Obj>],
 ) -> Result<Filled, AllocError>
     requires metric_facts { AreFronts context.now.facts metric_facts.now }
-    requires states { IsTrue (is_statement (stated statement.now)) }
-    requires fits { IsTrue (is_pattern (stated statement.now) context.now.scope pattern.now) }
+    requires states { IsTrue (is_statement (as_view statement.now)) }
+    requires fits { IsTrue (is_pattern (as_view statement.now) context.now.scope pattern.now) }
     requires few { length statement.now.declared < 2 ^ 16 }
-    ensures { IfOk result (FilledIs (stated statement.now) context.now pattern.now) }
+    ensures { IfOk result (FilledIs (as_view statement.now) context.now pattern.now) }
 {
     let facts = context.facts();
     let prepared = prepare(alloc, facts, metric_facts)?;
@@ -142,10 +128,10 @@ fn match_prepared(
 ) -> Result<Filled, AllocError>
     requires metric_facts { AreFronts context.now.facts metric_facts.now }
     requires prepared { IsPrepared context.now.facts prepared.now }
-    requires states { IsTrue (is_statement (stated statement.now)) }
-    requires fits { IsTrue (is_pattern (stated statement.now) context.now.scope pattern.now) }
+    requires states { IsTrue (is_statement (as_view statement.now)) }
+    requires fits { IsTrue (is_pattern (as_view statement.now) context.now.scope pattern.now) }
     requires few { length statement.now.declared < 2 ^ 16 }
-    ensures { IfOk result (FilledIs (stated statement.now) context.now pattern.now) }
+    ensures { IfOk result (FilledIs (as_view statement.now) context.now pattern.now) }
 {
     let declared = next_objects(alloc, NOTHING, statement.declared.items())?;
     let spans = spans(alloc, context.scope(), &declared, pattern)?;
@@ -155,6 +141,7 @@ fn match_prepared(
     let scope = context.scope();
     let whole = spans.len();
     let ready = ready_places(alloc, scope, statement, &declared, pattern, &spans)?;
+    let order = places_by_cost(alloc, statement.given.items())?;
     let step_facts = StepFacts::new(context.facts(), metric_facts);
     let blanks = Blanks {
         context,
@@ -164,6 +151,7 @@ fn match_prepared(
         pattern,
         declared,
         ready,
+        order,
         whole,
     };
     let mut memory = Verdicts::new(alloc);
@@ -267,7 +255,7 @@ pub fn images(
     part: &[u16],
 ) -> Result<Map, AllocError>
     requires declares { declared.now ≡ declared_objects nothing statement.now.declared }
-    requires fits { IsTrue (is_pattern (stated statement.now) scope pattern.now) }
+    requires fits { IsTrue (is_pattern (as_view statement.now) scope pattern.now) }
     ensures { IfOk result
         (λ map. map ≡ BlankChoices.images_of_choice scope declared.now pattern.now part.now) }
 {
@@ -346,41 +334,76 @@ impl<'a> Blanks<'a> {
         self.license_image(alloc, memory, image)
     }
 
-    /// Whether the given literal at a place is of these relations, and one that is asked.
-    fn is_asked(&self, at: usize, lit: &Lit, relations: Relations, asked: Asked) -> bool
-        ensures { result ≡ false → asks_all asked ≡ true → is_metric lit.now ≡ are_metric relations
-            → ⊥ }
+    /// Whether a given literal, by the images of its objects, is known to be refused.
+    fn is_known_refused(
+        &self,
+        alloc: Global,
+        memory: &Verdicts,
+        lit: &Lit,
+        images: &Map,
+    ) -> Result<bool, AllocError>
+        requires { AreRight self.now.context.now memory.now }
+        ensures { IfOk result
+            (λ b. b ≡ true → IsRefusedAt self.now.context.now images.now lit.now) }
     {
-        let metric = match relations {
-            Relations::Diagram => false,
-            Relations::Metric => true,
-        };
-        if kind(lit).is_some() != metric {
-            return false;
-        }
-        match asked {
-            Asked::All => true,
-            Asked::KnownWith(length) => at < self.ready.len() && self.ready[at].known == length,
-        }
+        let image = with_images(alloc, lit, images)?;
+        let refused = memory.refused.has(&image) && is_well_formed_in(self.context.scope(), &image);
+        mem::drop(image);
+        Ok(refused)
     }
 
-    /// Licenses the given literals of these relations that are asked, up to the first that is not
+    /// The given literal at a place, if this many numbers complete it.
+    fn completed(&self, at: usize, length: usize) -> Option<&Lit>
+        ensures { IfSome (option_copied result) (Contains self.now.statement.now.given) }
+    {
+        let ready = self.ready.get(at)?;
+        if ready.known != length {
+            return None;
+        }
+        self.statement.given.items().get(at)
+    }
+
+    /// Whether one of the given literals that this many numbers complete is known to be refused.
+    fn some_known_refused(
+        &self,
+        alloc: Global,
+        memory: &Verdicts,
+        images: &Map,
+        length: usize,
+    ) -> Result<bool, AllocError>
+        requires { AreRight self.now.context.now memory.now }
+        ensures { IfOk result (λ b. b ≡ true → SomeIsRefusedAt self.now.context.now images.now
+            self.now.statement.now.given) }
+    {
+        for at in &self.order {
+            if let Some(lit) = self.completed(*at, length) {
+                if self.is_known_refused(alloc, memory, lit, images)? {
+                    return Ok(true);
+                }
+            }
+        }
+        Ok(false)
+    }
+
+    /// Licenses the given literals that this many numbers complete, up to the first that is not
     /// allowed.
-    fn license_those(
+    fn license_completed(
         &self,
         alloc: Global,
         memory: &mut Verdicts,
         images: &Map,
-        relations: Relations,
-        asked: Asked,
+        length: usize,
     ) -> Result<Verdict<()>, AllocError>
         requires { AreRight self.now.context.now memory.old }
-        ensures verdict { IfOk result (AreIs self.now.context.now images.now
-            (are_metric relations) (asks_all asked) self.now.statement.now.given) }
+        ensures verdict { IfOk result (AllIs self.now.context.now images.now false
+            self.now.statement.now.given) }
         ensures memory { OnOk result (AreRight self.now.context.now memory.new) }
     {
-        for (at, lit) in self.statement.given.items().iter().enumerate() {
-            if self.is_asked(at, lit, relations, asked) {
+        if self.some_known_refused(alloc, memory, images, length)? {
+            return Ok(Verdict::No);
+        }
+        for at in &self.order {
+            if let Some(lit) = self.completed(*at, length) {
                 match self.license_one(alloc, memory, lit, images)? {
                     Verdict::Yes(()) => {}
                     Verdict::No => return Ok(Verdict::No),
@@ -391,27 +414,26 @@ impl<'a> Blanks<'a> {
         Ok(Verdict::Yes(()))
     }
 
-    /// Licenses the given literals that are asked, up to the first that is not allowed. What is
-    /// asked of diagrams is kept, and so comes first.
+    /// Licenses all given literals, up to the first that is not allowed.
     fn license_all(
         &self,
         alloc: Global,
         memory: &mut Verdicts,
         images: &Map,
-        asked: Asked,
     ) -> Result<Verdict<()>, AllocError>
         requires { AreRight self.now.context.now memory.old }
-        ensures verdict { IfOk result (AllIs self.now.context.now images.now (asks_all asked)
+        ensures verdict { IfOk result (AllIs self.now.context.now images.now true
             self.now.statement.now.given) }
         ensures memory { OnOk result (AreRight self.now.context.now memory.new) }
     {
-        match self.license_those(alloc, memory, images, Relations::Diagram, asked)? {
-            Verdict::Yes(()) => {
-                self.license_those(alloc, memory, images, Relations::Metric, asked)
+        for lit in self.statement.given.items() {
+            match self.license_one(alloc, memory, lit, images)? {
+                Verdict::Yes(()) => {}
+                Verdict::No => return Ok(Verdict::No),
+                Verdict::TooWide(width) => return Ok(Verdict::TooWide(width)),
             }
-            Verdict::No => Ok(Verdict::No),
-            Verdict::TooWide(width) => Ok(Verdict::TooWide(width)),
         }
+        Ok(Verdict::Yes(()))
     }
 
     /// Licenses all given literals of a whole choice, whenever they were known.
@@ -428,7 +450,7 @@ impl<'a> Blanks<'a> {
         ensures memory { OnOk result (AreRight self.now.context.now memory.new) }
     {
         if length == self.whole {
-            self.license_all(alloc, memory, images, Asked::All)
+            self.license_all(alloc, memory, images)
         } else {
             Ok(Verdict::Yes(()))
         }
@@ -461,6 +483,9 @@ impl<'a> Task for Blanks<'a> {
     ) -> Result<Verdict<()>, AllocError> {
         let scope = self.context.scope();
         let length = part.len();
+        if length != self.whole && !self.ready.iter().any(|one| one.known == length) {
+            return Ok(Verdict::Yes(()));
+        }
         let images = images(
             alloc,
             scope,
@@ -469,7 +494,7 @@ impl<'a> Task for Blanks<'a> {
             self.pattern,
             part,
         )?;
-        match self.license_all(alloc, memory, &images, Asked::KnownWith(length))? {
+        match self.license_completed(alloc, memory, &images, length)? {
             Verdict::Yes(()) => self.license_whole(alloc, memory, &images, length),
             Verdict::No => Ok(Verdict::No),
             Verdict::TooWide(width) => Ok(Verdict::TooWide(width)),

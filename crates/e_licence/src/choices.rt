@@ -4,7 +4,7 @@ ghost use Rattle.std.specs.Prelude.{◌≡◌, ◌<◌, ◌^◌, IsTrue, IfOk, O
 ghost use Rattle.e_literal.specs.Use.{is_statement};
 ghost use Rattle.e_metric.specs.Fronts.{AreFronts};
 ghost use Rattle.e_theorem.specs.Pattern.{is_pattern};
-ghost use Rattle.e_theorem.specs.Statements.{stated};
+ghost use Rattle.e_theorem.specs.Statements.{as_view};
 ghost use Rattle.e_transfer.specs.Prepared.{IsPrepared};
 ghost use Rattle.e_licence.specs.ChoicesInOrder.{FirstAre};
 ghost use Rattle.e_licence.specs.declared.choices.FirstChoices.TheVariants.{Found};
@@ -13,7 +13,7 @@ ghost use Rattle.e_licence.specs.inner.BlankChoices.{filled_arguments};
 
 use crate::blanks::{Blanks, arguments, has_empty, spans};
 use crate::context::Context;
-use crate::ready::ready_places;
+use crate::ready::{places_by_cost, ready_places};
 use crate::restricted::BlankSearch;
 use crate::sweep::{Swept, sweep};
 use crate::verdicts::Verdicts;
@@ -52,10 +52,10 @@ pub fn first_choices(
     most: usize,
 ) -> Result<FirstChoices, AllocError>
     requires memory { AreRight context.now memory.old }
-    requires states { IsTrue (is_statement (stated statement.now)) }
-    requires fits { IsTrue (is_pattern (stated statement.now) context.now.scope pattern.now) }
+    requires states { IsTrue (is_statement (as_view statement.now)) }
+    requires fits { IsTrue (is_pattern (as_view statement.now) context.now.scope pattern.now) }
     requires few { length statement.now.declared < 2 ^ 16 }
-    ensures choices { IfOk result (FirstAre (stated statement.now) context.now pattern.now most) }
+    ensures choices { IfOk result (FirstAre (as_view statement.now) context.now pattern.now most) }
     ensures memory { OnOk result (AreRight context.now memory.new) }
 {
     if let Some(metric_facts) = context.metric_facts() {
@@ -97,10 +97,10 @@ fn choices_of_solved(
 ) -> Result<FirstChoices, AllocError>
     requires metric_facts { AreFronts context.now.facts metric_facts.now }
     requires memory { AreRight context.now memory.old }
-    requires states { IsTrue (is_statement (stated statement.now)) }
-    requires fits { IsTrue (is_pattern (stated statement.now) context.now.scope pattern.now) }
+    requires states { IsTrue (is_statement (as_view statement.now)) }
+    requires fits { IsTrue (is_pattern (as_view statement.now) context.now.scope pattern.now) }
     requires few { length statement.now.declared < 2 ^ 16 }
-    ensures choices { IfOk result (FirstAre (stated statement.now) context.now pattern.now most) }
+    ensures choices { IfOk result (FirstAre (as_view statement.now) context.now pattern.now most) }
     ensures memory { OnOk result (AreRight context.now memory.new) }
 {
     let facts = context.facts();
@@ -133,10 +133,10 @@ fn choices_of_prepared(
     requires metric_facts { AreFronts context.now.facts metric_facts.now }
     requires memory { AreRight context.now memory.old }
     requires prepared { IsPrepared context.now.facts prepared.now }
-    requires states { IsTrue (is_statement (stated statement.now)) }
-    requires fits { IsTrue (is_pattern (stated statement.now) context.now.scope pattern.now) }
+    requires states { IsTrue (is_statement (as_view statement.now)) }
+    requires fits { IsTrue (is_pattern (as_view statement.now) context.now.scope pattern.now) }
     requires few { length statement.now.declared < 2 ^ 16 }
-    ensures choices { IfOk result (FirstAre (stated statement.now) context.now pattern.now most) }
+    ensures choices { IfOk result (FirstAre (as_view statement.now) context.now pattern.now most) }
     ensures memory { OnOk result (AreRight context.now memory.new) }
 {
     let declared = next_objects(alloc, NOTHING, statement.declared.items())?;
@@ -150,6 +150,7 @@ fn choices_of_prepared(
     let scope = context.scope();
     let whole = spans.len();
     let ready = ready_places(alloc, scope, statement, &declared, pattern, &spans)?;
+    let order = places_by_cost(alloc, statement.given.items())?;
     let step_facts = StepFacts::new(context.facts(), metric_facts);
     let blanks = Blanks {
         context,
@@ -159,6 +160,7 @@ fn choices_of_prepared(
         pattern,
         declared,
         ready,
+        order,
         whole,
     };
     let task = BlankSearch {

@@ -5,7 +5,7 @@ ghost use Rattle.std.specs.List.{list_all};
 ghost use Rattle.e_literal.specs.Literal.{all_in_scope};
 ghost use Rattle.e_literal.specs.Use;
 ghost use Rattle.e_literal.specs.WellFormed;
-ghost use Rattle.e_theorem.specs.Statements.{stated};
+ghost use Rattle.e_theorem.specs.Statements.{as_view};
 
 use e_literal::{Lit, NOTHING, Scope, in_scope, with_sorts};
 use e_metric::is_well_formed;
@@ -15,7 +15,7 @@ use e_theorem::Statement;
 /// and all are well formed.
 pub fn is_statement(statement: &Statement) -> bool
     requires { length statement.now.declared + length statement.now.made < 2 ^ 16 }
-    ensures { result ≡ Use.is_statement (stated statement.now) }
+    ensures { result ≡ Use.is_statement (as_view statement.now) }
 {
     let declared = with_sorts(NOTHING, statement.declared.items());
     let all = with_sorts(declared, statement.made.items());

@@ -4,10 +4,10 @@
 ghost use Rattle.std.specs.Prelude.{◌≡◌, IsTrue};
 ghost use Rattle.e_literal.specs.Scopes.{nothing, next_objects as declared_objects};
 ghost use Rattle.e_theorem.specs.Pattern.{is_pattern};
-ghost use Rattle.e_theorem.specs.Statements.{stated};
+ghost use Rattle.e_theorem.specs.Statements.{as_view};
 
 use crate::blanks::images;
-use e_literal::{Lit, Map, Obj, Scope, kind, with_images};
+use e_literal::{Atom, Lit, Map, Obj, Scope, kind, with_images};
 use e_theorem::Statement;
 use e_transfer::{Span, is_well_formed_in};
 use std::alloc::{AllocError, Global};
@@ -26,6 +26,36 @@ pub struct Ready {
     pub metric: bool,
 }
 
+/// The places of the given literals, those that are cheap to ask first: by the median of what a
+/// search for one takes that is not allowed.
+pub fn places_by_cost(alloc: Global, given: &[Lit]) -> Result<Vec<usize>, AllocError> {
+    let mut places = Vec::with_capacity(alloc, given.len())?;
+    for cost in 0..COSTS {
+        for (at, lit) in given.iter().enumerate() {
+            if cost_of(lit) == cost {
+                places.push(at)?;
+            }
+        }
+    }
+    Ok(places)
+}
+
+// How many costs there are.
+const COSTS: usize = 7;
+
+fn cost_of(lit: &Lit) -> usize {
+    match lit.atom {
+        Atom::Between(_, _, _) => 0,
+        Atom::EqL(_, _) | Atom::EqC(_, _) => 1,
+        Atom::OnC(_, _) | Atom::Inside(_, _) | Atom::Center(_, _) => 2,
+        Atom::MeetLC(_, _) | Atom::MeetCC(_, _) => 2,
+        Atom::MagLt(_, _) => 3,
+        Atom::MagEq(_, _) => 4,
+        Atom::MeetLL(_, _) | Atom::Same(_, _, _) | Atom::EqP(_, _) => 5,
+        Atom::On(_, _) => 6,
+    }
+}
+
 /// For each given literal on which blanks it depends: it does on one where it is out of scope by
 /// an object that is out of scope there, and by no other.
 pub fn ready_places(
@@ -37,7 +67,7 @@ pub fn ready_places(
     spans: &[Span],
 ) -> Result<Vec<Ready>, AllocError>
     requires declares { declared.now ≡ declared_objects nothing statement.now.declared }
-    requires fits { IsTrue (is_pattern (stated statement.now) scope pattern.now) }
+    requires fits { IsTrue (is_pattern (as_view statement.now) scope pattern.now) }
 {
     let given = statement.given.items();
     let mut ready = Vec::with_capacity(alloc, given.len())?;

@@ -13,9 +13,12 @@ use Rattle.e_clause.specs.System.{rows_of_system, metric_systems}
 use Rattle.e_clause.specs.MetricCertificate.{sums_refute, are_sums_in}
 use Rattle.e_clause.specs.Wide.{HasWidth}
 use Rattle.e_clause.specs.Counterexample.{ListsCounterexample}
-use Rattle.e_simplex.specs.Answer.{assigned}
+use Rattle.e_simplex.specs.Answer.{assigned_value}
 use Rattle.e_clause.specs.declared.cert.Version.TheVariants as version
 use Rattle.e_clause.specs.Versions.{are_sums_of}
+use Rattle.e_clause.specs.Metric.{MetricConsequence}
+use Rattle.e_metric.specs.declared.consequence.Consequence.{Consequence}
+use Rattle.e_metric.specs.declared.consequence.Consequence.TheVariants as consequence
 use Rattle.e_metric.specs.declared.consequence.Metric.{Metric}
 use Rattle.e_metric.specs.declared.consequence.Metric.TheVariants.{Yes, No, TooWide}
 
@@ -57,14 +60,32 @@ IsMetricAnswer facts wanted (TooWide w) = IsTooWideSystem facts wanted w
 abbrev pub IsKindAnswer : Kind → List Lit → Option Lit → Metric → Type 0
 IsKindAnswer which facts wanted (Yes m) = IsMetricCertificate facts wanted m
 IsKindAnswer which facts wanted (No values) =
-    Satisfy (assigned values) (rows_of_system which facts wanted)
+    Satisfy (assigned_value values) (rows_of_system which facts wanted)
 IsKindAnswer which facts wanted (TooWide w) = HasWidth (rows_of_system which facts wanted) w
 
 -- the second, if it is a certificate, or else the first
-abbrev pub preferred : Metric → Metric → Metric
-preferred first (Yes m) = Yes m
-preferred first (No values) = first
-preferred first (TooWide w) = first
+abbrev pub preferred_answer : Metric → Metric → Metric
+preferred_answer first (Yes m) = Yes m
+preferred_answer first (No values) = first
+preferred_answer first (TooWide w) = first
+
+-- the answer of two kinds, where the values of one tell of both that they have some
+abbrev pub joined : Metric → Metric → Metric
+joined (No values) second = second
+joined (Yes m) second = preferred_answer (Yes m) second
+joined (TooWide w) second = preferred_answer (TooWide w) second
+
+-- the answer without its values
+abbrev pub consequence_of : Metric → Consequence
+consequence_of (Yes m) = consequence.Yes m
+consequence_of (No values) = consequence.No
+consequence_of (TooWide w) = consequence.TooWide w
+
+-- a certificate, or the literal does not follow, or a system is too wide
+abbrev pub IsConsequence : List Lit → Lit → Consequence → Type 0
+IsConsequence facts l (consequence.Yes m) = IsMetricCertificate facts (Some l) m
+IsConsequence facts l consequence.No = ¬ MetricConsequence facts l
+IsConsequence facts l (consequence.TooWide w) = IsTooWideSystem facts (Some l) w
 
 abbrev pub IfYes : Metric → Type 0 → Type 0
 IfYes (Yes m) P = P

@@ -95,7 +95,7 @@ fn step_terms(alloc: Global, facts: &Facts, wanted: Option<&Lit>) -> Result<Vec<
 
 /// The number of the term in a list of pairs, or 0.
 pub fn assigned_value(pairs: &[(Term, u128)], term: Term) -> u128
-    ensures { result ≡ Answer.assigned pairs.now term }
+    ensures { result ≡ Answer.assigned_value pairs.now term }
 {
     for pair in pairs {
         if term == pair.0 {

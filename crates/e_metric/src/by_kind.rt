@@ -1,7 +1,7 @@
 //! One thing for each kind of magnitude.
 
 ghost use Rattle.std.specs.Prelude.{◌≡◌};
-ghost use Rattle.e_metric.specs.inner.ByKind.{arranged, at_kind, other_two};
+ghost use Rattle.e_metric.specs.inner.ByKind.{in_kind_order, at_kind, other_two};
 
 use e_literal::Kind;
 
@@ -27,7 +27,7 @@ pub fn other_kinds(which: Kind) -> (Kind, Kind)
 impl<T> ByKind<T> {
     /// One for the kind, and those for the [`other_kinds`] in their order.
     pub fn arrange(which: Kind, own: T, first: T, second: T) -> ByKind<T>
-        ensures { result ≡ arranged which own first second }
+        ensures { result ≡ in_kind_order which own first second }
     {
         match which {
             Kind::Segment => ByKind {

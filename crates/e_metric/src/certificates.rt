@@ -4,7 +4,7 @@ ghost use Rattle.std.specs.Prelude.{◌≡◌, ℕ, ◌+◌, ◌<◌, ◌≤◌,
 ghost use Rattle.std.specs.Prelude.{get_or, set, pos, unsigned_abs, IfOk, OnOk, IsTrue};
 ghost use Rattle.e_literal.specs.Absurd;
 ghost use Rattle.e_fraction.specs.Limits.{most_rows_of_system, all_small};
-ghost use Rattle.e_fraction.specs.Views.{weighed, views_of_rows};
+ghost use Rattle.e_fraction.specs.Views.{with_multipliers, views_of_rows};
 ghost use Rattle.e_simplex.specs.Answer.{IsAbsurdity};
 ghost use Rattle.e_clause.specs.declared.cert.RowName.TheVariants as name;
 ghost use Rattle.e_clause.specs.declared.cert.Sums.TheVariants.{Two as TwoSums};
@@ -108,7 +108,7 @@ fn add_leasts(
 ) -> Result<(), AllocError>
     requires { IsWeighable rows.now weights.now }
     ensures { OnOk result (sum.new.items ≡ sum.old.items
-        ++ leasts (Absurd.total (weighed rows.now weights.now)) terms.now) }
+        ++ leasts (Absurd.total (with_multipliers rows.now weights.now)) terms.now) }
 {
     let totals = totals_of(alloc, rows, weights)?;
     add_leasts_of(sum, &totals, terms)

@@ -15,7 +15,8 @@ ghost use Rattle.e_simplex.specs.Answer.{IsAbsurdity};
 ghost use Rattle.e_metric.specs.inner.Certificate;
 ghost use Rattle.e_metric.specs.ListedTerms.{distinct_terms, with_listed};
 ghost use Rattle.e_metric.specs.MetricAnswers.{IsMetricAnswer, IsKindAnswer};
-ghost use Rattle.e_metric.specs.MetricAnswers.{preferred, IfYes, IfNo};
+ghost use Rattle.e_metric.specs.MetricAnswers.{preferred_answer, joined, consequence_of};
+ghost use Rattle.e_metric.specs.MetricAnswers.{IfYes, IfNo};
 
 use crate::assigning::counterexample;
 use crate::by_kind::ByKind;
@@ -40,6 +41,17 @@ pub enum Metric {
     /// It does not: with these values of the terms of the step the facts are true, and the literal
     /// is false.
     No(Values),
+    /// One of the systems is wide, and has this width.
+    TooWide(u128),
+}
+
+/// The answer on a metric literal, without values where it does not follow.
+#[derive(Drop)]
+pub enum Consequence {
+    /// The literal follows from the facts, or the facts contradict each other, by this certificate.
+    Yes(MetricCert),
+    /// It does not.
+    No,
     /// One of the systems is wide, and has this width.
     TooWide(u128),
 }
@@ -130,7 +142,7 @@ pub fn answer_of_kind(
 
 // The second, if it is a certificate, or else the first.
 fn prefer_certificate(first: Metric, second: Metric) -> Metric
-    ensures { result ≡ preferred first second }
+    ensures { result ≡ preferred_answer first second }
 {
     match second {
         Metric::Yes(cert) => {
@@ -139,6 +151,46 @@ fn prefer_certificate(first: Metric, second: Metric) -> Metric
         }
         Metric::No(_) | Metric::TooWide(_) => first,
     }
+}
+
+// The answer of two kinds, where the values of one of them tell of both that they have some.
+fn join(first: Metric, second: Metric) -> Metric
+    ensures { result ≡ joined first second }
+{
+    match first {
+        Metric::No(values) => {
+            mem::drop(values);
+            second
+        }
+        other => prefer_certificate(other, second),
+    }
+}
+
+// The answer without its values.
+fn without_values(answer: Metric) -> Consequence
+    ensures { result ≡ consequence_of answer }
+{
+    match answer {
+        Metric::Yes(cert) => Consequence::Yes(cert),
+        Metric::No(values) => {
+            mem::drop(values);
+            Consequence::No
+        }
+        Metric::TooWide(width) => Consequence::TooWide(width),
+    }
+}
+
+/// The answer of the systems of all kinds together, without values.
+pub fn joined_consequence(answer: ByKind<Metric>) -> Consequence
+    ensures { result ≡ consequence_of
+        (joined (joined answer.segments answer.angles) answer.areas) }
+{
+    let ByKind {
+        segments,
+        angles,
+        areas,
+    } = answer;
+    without_values(join(join(segments, angles), areas))
 }
 
 /// The answer of the systems of all kinds together.

@@ -15,7 +15,7 @@ use std::alloc::{AllocError, Global};
 
 // The value of a form, unless a number is too large.
 fn form_value(values: &[(Term, u128)], form: &[(i64, Term)]) -> Option<i128>
-    ensures { IfSome result (λ n. n ≡ Solution.form_value form.now (Answer.assigned values.now)) }
+    ensures { IfSome result (λ n. n ≡ Solution.form_value form.now (Answer.assigned_value values.now)) }
 {
     match form {
         [] => Some(0),
@@ -31,7 +31,7 @@ fn form_value(values: &[(Term, u128)], form: &[(i64, Term)]) -> Option<i128>
 // Whether a row is seen to be so.
 fn is_so(values: &[(Term, u128)], row: &Row) -> bool
     ensures { result ≡ true → IsSo (sense_of row.now.sense)
-        (Solution.form_value row.now.form (Answer.assigned values.now)) }
+        (Solution.form_value row.now.form (Answer.assigned_value values.now)) }
 {
     match form_value(values, row.form.summands()) {
         None => false,
@@ -46,7 +46,7 @@ fn is_so(values: &[(Term, u128)], row: &Row) -> bool
 
 /// Whether each row is seen to be so with these values.
 pub fn are_so(values: &[(Term, u128)], rows: &[Row]) -> bool
-    ensures { result ≡ true → Satisfy (Answer.assigned values.now) (views_of_rows rows.now) }
+    ensures { result ≡ true → Satisfy (Answer.assigned_value values.now) (views_of_rows rows.now) }
 {
     for row in rows {
         if !is_so(values, row) {

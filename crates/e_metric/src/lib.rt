@@ -19,7 +19,7 @@ mod step_facts;
 mod systems;
 mod totals;
 
-pub use consequence::{Metric, absurd, follows};
+pub use consequence::{Consequence, Metric, absurd, follows};
 pub use limits::{are_few_facts, is_metric_goal, is_well_formed};
 pub use metric_facts::MetricFacts;
 pub use step_facts::StepFacts;

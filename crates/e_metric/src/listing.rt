@@ -10,7 +10,7 @@ ghost use Rattle.e_metric.specs.ListedTerms.{distinct_terms, with_listed};
 ghost use Rattle.e_metric.specs.inner.FurtherRows;
 
 use e_facts::Facts;
-use e_literal::{Atom, Kind, Lit, Mono, Term, canonical, kind};
+use e_literal::{Atom, Kind, Lit, Mono, Term, is_one_term, kind};
 use std::alloc::{AllocError, Global};
 
 /// Whether the literal is metric, and of this kind.
@@ -24,8 +24,7 @@ pub fn is_of_kind(which: Kind, lit: &Lit) -> bool
 pub fn has_term(terms: &[Term], term: Term) -> bool
     ensures { result ≡ Rows.has_term terms.now term }
 {
-    let wanted = canonical(term);
-    terms.iter().any(|t| wanted == canonical(*t))
+    terms.iter().any(|t| is_one_term(term, *t))
 }
 
 // Puts the terms of a sum last that are none of those before.

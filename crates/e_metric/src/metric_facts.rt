@@ -15,10 +15,10 @@ ghost use Rattle.e_clause.specs.System.{of_kind, against_goal};
 ghost use Rattle.e_metric.specs.Fronts.{IsFrontSystem, IsFrontAs, AreFronts};
 ghost use Rattle.e_metric.specs.SolvedSystems.{IsKindSystem};
 ghost use Rattle.e_metric.specs.MetricAnswers.{IsMetricCertificate, IsMetricAnswer};
-ghost use Rattle.e_metric.specs.MetricAnswers.{IsKindAnswer, IfYes, IfNo};
+ghost use Rattle.e_metric.specs.MetricAnswers.{IsKindAnswer, IsConsequence, IfYes, IfNo};
 
 use crate::by_kind::{ByKind, other_kinds};
-use crate::consequence::{Metric, answer_of_kind, joined_answer};
+use crate::consequence::{Consequence, Metric, answer_of_kind, joined_answer, joined_consequence};
 use crate::kind_system::{KindSystem, system_of_all_facts};
 use e_clause::MetricCert;
 use e_facts::Facts;
@@ -439,6 +439,32 @@ impl MetricFacts {
         ensures no { IfOk result (λ m. IfNo m (¬ MetricConsequence facts.now goal.now)) }
     {
         self.follows_of(alloc, kind_of_goal(goal), facts, goal)
+    }
+
+    /// Whether the metric literal follows from the facts: the answers are those of [`follows`], but
+    /// no values are made where it does not.
+    ///
+    /// [`follows`]: MetricFacts::follows
+    pub fn consequence(
+        &self,
+        alloc: Global,
+        facts: &Facts,
+        goal: &Lit,
+    ) -> Result<Consequence, AllocError>
+        requires fronts { AreFronts facts.now self.now }
+        requires facts { IsTrue (list_all is_well_formed facts.now) }
+        requires few { length (terms_of_lits facts.now) ≤ most_terms_of_step }
+        requires goal { IsTrue (is_well_formed_metric (Some goal.now)) }
+        ensures { IfOk result (IsConsequence facts.now goal.now) }
+    {
+        let which = kind_of_goal(goal);
+        match self.answer_for_kind(alloc, which, facts, goal)? {
+            Metric::Yes(cert) => Ok(Consequence::Yes(cert)),
+            own_answer => {
+                let answer = self.answers_by_kind(alloc, which, own_answer, facts, goal)?;
+                Ok(joined_consequence(answer))
+            }
+        }
     }
 
     /// A certificate of the goal by the facts of its own kind, where they give it. That kind is

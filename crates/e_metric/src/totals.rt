@@ -7,7 +7,7 @@ ghost use Rattle.e_literal.specs.declared.object.Term.{Term as ATerm};
 ghost use Rattle.e_literal.specs.Rows.{coefficient};
 ghost use Rattle.e_fraction.specs.Distinct.{have_distinct_terms};
 ghost use Rattle.e_fraction.specs.Limits.{has_small_coefficients};
-ghost use Rattle.e_fraction.specs.Views.{weighed};
+ghost use Rattle.e_fraction.specs.Views.{with_multipliers};
 ghost use Rattle.e_metric.specs.inner.Certificate.{IsWeighable};
 ghost use Rattle.e_metric.specs.inner.TermTotals.{kept_total};
 
@@ -85,7 +85,7 @@ pub fn totals_of(
 ) -> Result<BTreeMap<Term, i128>, AllocError>
     requires { IsWeighable rows.now weights.now }
     ensures { IfOk result (λ m. (t : ATerm)
-        → kept_total m.entries t ≡ Absurd.total (weighed rows.now weights.now) t) }
+        → kept_total m.entries t ≡ Absurd.total (with_multipliers rows.now weights.now) t) }
 {
     let mut totals = BTreeMap::new(alloc);
     for (i, weight) in weights.iter().enumerate() {

@@ -4,7 +4,7 @@ use Rattle.std.specs.List.{list_any, position}
 use Rattle.std.specs.Str.{bytes_eq}
 use Rattle.e_literal.specs.Use.{StatementView}
 use Rattle.e_theorem.specs.declared.statement.Statement.{Statement}
-use Rattle.e_theorem.specs.Statements.{all_stated}
+use Rattle.e_theorem.specs.Statements.{as_views}
 use Rattle.e_deriv.specs.PlacedSteps.{theorem_at}
 
 -- a statement under its title
@@ -29,7 +29,7 @@ statements known = map (λ h. h.statement) known
 
 -- what they state
 abbrev pub stated_by : List TitledStatement → List StatementView
-stated_by known = all_stated (statements known)
+stated_by known = as_views (statements known)
 
 -- what the theorem at a place states; past the end one that says nothing
 abbrev pub theorem_of : List TitledStatement → ℕ → StatementView

@@ -1,6 +1,6 @@
 //! Names looked up among the objects in scope.
 ghost use Rattle.std.specs.Prelude.{◌≡◌, ◌≤◌, ◌<◌, ◌^◌, ◌+◌, List, [], length, OnOk};
-ghost use Rattle.e_deriv.specs.Naming.{named};
+ghost use Rattle.e_deriv.specs.Naming.{with_new_names};
 ghost use Rattle.e_clause.specs.Instance;
 ghost use Rattle.e_clause.specs.Sigs.{sig_of};
 ghost use Rattle.std.specs.List.{list_any};
@@ -36,7 +36,7 @@ pub fn scope_of_names(names: &Names) -> Scope
 
 /// New names, each after those of its sort.
 pub fn put_names(names: &mut Names, sorts: &[Sort], new: &[Name]) -> Result<(), AllocError>
-    ensures { OnOk result (names.new ≡ named names.old sorts.now new.now) }
+    ensures { OnOk result (names.new ≡ with_new_names names.old sorts.now new.now) }
 {
     for (sort, name) in sorts.iter().zip(new) {
         names.push(*sort, *name)?;

@@ -8,15 +8,20 @@ use crate::scope::number_of;
 use e_deriv::Names;
 use e_line::{FaultKind, LineError, RawMono, RawTerm};
 use e_literal::{Form, Kind as Magnitude, Mono, Sort, Term};
-use e_text::Name;
+use e_text::{Name, place_of};
 use std::alloc::Global;
 
+/// The number of a point, looked for among the points before all else.
+#[tactic(auto, unfolding(crate::specs::Scope::number_of_name))]
 fn point(names: &Names, name: Name) -> Result<u16, LineError>
     requires { FewNames names.now }
     ensures { Gives (λ n. n) result
         (Rattle.e_names.specs.Scope.number_of_name names.now Sort.Point name) }
 {
-    number_of(names, Sort::Point, name)
+    match place_of(names.points.items(), name) {
+        Some(place) => Ok(place as u16),
+        None => number_of(names, Sort::Point, name),
+    }
 }
 
 /// A term with the points of its names; the leftmost fault.

@@ -3,7 +3,7 @@ ghost use Rattle.std.specs.Prelude.{◌≡◌, ◌++◌, ◌∷◌, [], ◌<◌,
 ghost use Rattle.std.specs.Prelude.{OnErr, length, slice_get, Some, false};
 ghost use Rattle.e_names.specs.TitledStatements.{titled_statement, titles, statements};
 ghost use Rattle.e_names.specs.TitledStatements.{is_known, place_in, theorem_of};
-ghost use Rattle.e_theorem.specs.Statements.{stated};
+ghost use Rattle.e_theorem.specs.Statements.{as_view};
 
 use e_text::Title;
 use e_theorem::Statement;
@@ -92,7 +92,7 @@ impl Theorems {
     #[tactic(auto, using(crate::proofs::titles::SideBySide::statement_at))]
     pub fn statement(&self, place: usize) -> &Statement
         requires { place < length self.now }
-        ensures { stated result.now ≡ theorem_of self.now place }
+        ensures { as_view result.now ≡ theorem_of self.now place }
     {
         &self.statements[place]
     }

@@ -6,7 +6,7 @@ ghost use Rattle.std.specs.Option.{option_map};
 ghost use Rattle.e_literal.specs.Facts.{with_fact};
 ghost use Rattle.e_literal.specs.Use.{StatementView};
 ghost use Rattle.e_construct.specs.Superposing as superposing;
-ghost use Rattle.e_theorem.specs.Statements.{stated, all_stated};
+ghost use Rattle.e_theorem.specs.Statements.{as_view, as_views};
 ghost use Rattle.e_clause.specs.declared.cert.Version.TheVariants as version;
 ghost use Rattle.e_deriv.specs.Certified.{Certified};
 ghost use Rattle.e_deriv.specs.Fitting.{is_small, is_small_statement};
@@ -32,11 +32,13 @@ use crate::ending::{Head, end_claim, end_superposition};
 use crate::places::{placed_against, placed_cert, placed_certs};
 use e_clause::{Against, By, Cert};
 use e_construct::{Construction, Superpose};
-use e_deriv::{Block, Close, Goal, Step, cases, copy_by, copy_construction};
+use e_deriv::{
+    Block, Close, Goal, Step, cases, copy_by, copy_construction, goal_with, written_args,
+};
 use e_literal::{Items, Lit, NOTHING, Obj, Scope, copy, next_objects, with_sorts};
 use e_text::Name;
 use e_theorem::{Applied, Statement, UseFault, use_of};
-use e_verify::{Facts, StepState, goal_with, state_at_start, written_args};
+use e_verify::{Facts, StepState, state_at_start};
 use std::alloc::{AllocError, Global};
 use std::mem;
 
@@ -54,16 +56,16 @@ pub fn numbered(
     statement: &Statement,
     deriv: &Block,
 ) -> Result<Block, AllocError>
-    requires verifiable { IsVerifiable (all_stated before.now) (stated statement.now)
+    requires verifiable { IsVerifiable (as_views before.now) (as_view statement.now)
         (script_of deriv.now) }
-    requires certified { Certified (all_stated before.now) (stated statement.now)
+    requires certified { Certified (as_views before.now) (as_view statement.now)
         (script_of deriv.now) }
     ensures numbered { IfOk result (λ d. script_of d ≡ derivation_with_places
-        (all_stated before.now) (stated statement.now) (script_of deriv.now)) }
+        (as_views before.now) (as_view statement.now) (script_of deriv.now)) }
     ensures script { IfOk result
         (λ d. bare_script (script_of d) ≡ bare_script (script_of deriv.now)) }
     ensures certified { IfOk result
-        (λ d. Certified (all_stated before.now) (stated statement.now) (script_of d)) }
+        (λ d. Certified (as_views before.now) (as_view statement.now) (script_of d)) }
     ensures version { IfOk result (λ d. IsTrue (has_certs_of version.Two (script_of d))) }
 {
     let scope = with_sorts(NOTHING, statement.declared.items());
@@ -85,13 +87,13 @@ fn number_block(
     goal: &Goal,
     state: &mut StepState,
 ) -> Result<Block, AllocError>
-    requires ready { IsReady (all_stated before.now) (script_of block.now) state.old
+    requires ready { IsReady (as_views before.now) (script_of block.now) state.old
         (goal_view goal.now) }
-    requires statements { IsTrue (list_all is_small_statement (all_stated before.now)) }
+    requires statements { IsTrue (list_all is_small_statement (as_views before.now)) }
     ensures same { IfOk result (λ b. script_of b
-        ≡ places_at (all_stated before.now) (script_of block.now) state.old (goal_view goal.now)) }
+        ≡ places_at (as_views before.now) (script_of block.now) state.old (goal_view goal.now)) }
     ensures few { OnOk result
-        (HaveFew (all_stated before.now) (script_of block.now) state.old (goal_view goal.now)) }
+        (HaveFew (as_views before.now) (script_of block.now) state.old (goal_view goal.now)) }
     ensures kept { OnOk result (KeepsFirstFacts state.old state.new) }
 {
     let mut steps = Vec::new(alloc);
@@ -121,9 +123,9 @@ fn number_step(
     step: &Step,
     state: &mut StepState,
 ) -> Result<Step, AllocError>
-    requires ready { AreReady (all_stated before.now) (step_script step.now) state.old }
-    requires statements { IsTrue (list_all is_small_statement (all_stated before.now)) }
-    ensures step { IfOk result (λ s. IsNumberedStep (all_stated before.now) (step_script step.now)
+    requires ready { AreReady (as_views before.now) (step_script step.now) state.old }
+    requires statements { IsTrue (list_all is_small_statement (as_views before.now)) }
+    ensures step { IfOk result (λ s. IsNumberedStep (as_views before.now) (step_script step.now)
         state.old (step_script s) state.new) }
     ensures few { OnOk result (length state.old.facts < 2 ^ 32) }
 {
@@ -180,10 +182,10 @@ fn number_claim(
     inner: &Block,
     state: &mut StepState,
 ) -> Result<Step, AllocError>
-    requires ready { AreReady (all_stated before.now) (Claim shown.now (script_of inner.now))
+    requires ready { AreReady (as_views before.now) (Claim shown.now (script_of inner.now))
         state.old }
-    requires statements { IsTrue (list_all is_small_statement (all_stated before.now)) }
-    ensures { IfOk result (λ s. IsNumberedStep (all_stated before.now)
+    requires statements { IsTrue (list_all is_small_statement (as_views before.now)) }
+    ensures { IfOk result (λ s. IsNumberedStep (as_views before.now)
         (Claim shown.now (script_of inner.now)) state.old (step_script s) state.new) }
 {
     let outer = state.checkpoint();
@@ -212,13 +214,13 @@ fn number_superposed(
     inner: &Block,
     state: &mut StepState,
 ) -> Result<Step, AllocError>
-    requires ready { AreReady (all_stated before.now) (Superposed parts.now.superposition.now
+    requires ready { AreReady (as_views before.now) (Superposed parts.now.superposition.now
         parts.now.names.now parts.now.shown.now parts.now.certs.now (script_of inner.now))
         state.old }
     requires few { length state.old.facts < 2 ^ 32 }
-    requires statements { IsTrue (list_all is_small_statement (all_stated before.now)) }
+    requires statements { IsTrue (list_all is_small_statement (as_views before.now)) }
     ensures { IfOk result (λ s. IsNumberedStep
-        (all_stated before.now) (Superposed parts.now.superposition.now parts.now.names.now
+        (as_views before.now) (Superposed parts.now.superposition.now parts.now.names.now
         parts.now.shown.now parts.now.certs.now (script_of inner.now)) state.old
         (step_script s) state.new) }
 {
@@ -259,13 +261,13 @@ fn number_close(
     goal: &Goal,
     state: &mut StepState,
 ) -> Result<Close, AllocError>
-    requires ready { IsReady (all_stated before.now) (close_script close.now) state.old
+    requires ready { IsReady (as_views before.now) (close_script close.now) state.old
         (goal_view goal.now) }
-    requires statements { IsTrue (list_all is_small_statement (all_stated before.now)) }
-    ensures same { IfOk result (λ c. close_script c ≡ places_at (all_stated before.now)
+    requires statements { IsTrue (list_all is_small_statement (as_views before.now)) }
+    ensures same { IfOk result (λ c. close_script c ≡ places_at (as_views before.now)
         (close_script close.now) state.old (goal_view goal.now)) }
     ensures few { OnOk result
-        (HaveFew (all_stated before.now) (close_script close.now) state.old (goal_view goal.now)) }
+        (HaveFew (as_views before.now) (close_script close.now) state.old (goal_view goal.now)) }
     ensures kept { OnOk result (KeepsFirstFacts state.old state.new) }
 {
     if state.facts.len() >= PLACES {
@@ -423,10 +425,10 @@ fn apply(
 ) -> Result<Step, AllocError>
     requires few { length state.old.facts < 2 ^ 32 }
     requires scope { IsTrue (is_small state.old.scope) }
-    requires statements { IsTrue (list_all is_small_statement (all_stated before.now)) }
-    requires applied { IsApplied (all_stated before.now) application.now.theorem
+    requires statements { IsTrue (list_all is_small_statement (as_views before.now)) }
+    requires applied { IsApplied (as_views before.now) application.now.theorem
         application.now.args.now state.old }
-    ensures { IfOk result (λ s. IsNumberedStep (all_stated before.now)
+    ensures { IfOk result (λ s. IsNumberedStep (as_views before.now)
         (Apply application.now.theorem application.now.args.now application.now.names.now
         application.now.certs.now) state.old (step_script s) state.new) }
 {
@@ -456,14 +458,14 @@ fn take_use(
     applied: &Applied,
     state: &mut StepState,
 ) -> Result<Step, AllocError>
-    requires statement { IsTrue (is_small_statement (stated statement.now)) }
+    requires statement { IsTrue (is_small_statement (as_view statement.now)) }
     requires scope { IsTrue (is_small state.old.scope) }
     requires few { length state.old.facts < 2 ^ 32 }
     ensures step { IfOk result (λ s. s ≡ ApplyStep application.now.theorem application.now.args.now
         application.now.names.now (Numbered.certs_with_places state.old.facts applied.now.needs
         application.now.certs.now)) }
     ensures after { OnOk result
-        (state.new ≡ state_after_use (stated statement.now) applied.now.gives state.old) }
+        (state.new ≡ state_after_use (as_view statement.now) applied.now.gives state.old) }
 {
     let args = Items::new(Vec::from_slice(alloc, application.args)?);
     let names = Items::new(Vec::from_slice(alloc, application.names)?);

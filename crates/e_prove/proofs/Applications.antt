@@ -1,6 +1,7 @@
 -- What an application is licensed as.
 use Rattle.std.proofs.Common.{◌≡◌, ℕ, ◌+◌, ◌<◌, ◌^◌, List, [], ◌∷◌, ◌++◌, length, take, get_or, map, refl, sym, ap, ap₂, ◌∙◌, subst, Bool, true, false, ◌&&◌, true≢false, ltb, Option, Some, None, arith}
-use Rattle.std.specs.Prelude.{IsTrue, IsFalse, IfOk, MatchBool, MatchOption, Result, Ok, Err, unwrap_or}
+use Rattle.std.specs.Prelude.{IsTrue, IsFalse, IfOk, MatchBool, MatchOption, Result, Ok, Err, unwrap_or, if◌then◌else◌}
+use Rattle.std.proofs.lemmas.Option.{same_Some, none-some}
 use Rattle.std.specs.List.{list_all}
 use Rattle.std.proofs.lemmas.Bool.{and_from}
 use Rattle.std.proofs.lemmas.List.{map_more}
@@ -23,7 +24,7 @@ use Rattle.e_theorem.specs.Pattern.{is_pattern, are_entries}
 use Rattle.e_deriv.specs.declared.block.Step.TheVariants.{Apply as ApplyStep}
 use Rattle.e_deriv.specs.declared.stop.Wanted.TheVariants.{Literal, Match, Contradiction}
 use Rattle.e_deriv.specs.Script.{Apply, step_script, bare_script}
-use Rattle.e_deriv.specs.Parts.{written, has_no_blank, filled_in, filled_by}
+use Rattle.e_deriv.specs.Parts.{args_written, has_no_blank, filled_in, filled_by}
 use Rattle.e_deriv.specs.PlacedSteps.{placed_steps, theorem_at}
 use Rattle.e_deriv.specs.Naming.{names_of_steps}
 use Rattle.e_deriv.specs.Fitting.{is_small, is_small_statement}
@@ -46,8 +47,8 @@ use Rattle.e_deriv.proofs.Smallness.{few_of_small, few_objects}
 -- ---- arguments without blanks
 
 record Chosen (s : Scope) (sorts : List Sort) (pattern : List (Option Obj)) : Type 0 where
-  fill : fills pattern (written pattern) ≡ true
-  fit : are_of_sorts s sorts (written pattern) ≡ true
+  fill : fills pattern (args_written pattern) ≡ true
+  fit : are_of_sorts s sorts (args_written pattern) ≡ true
 
 chosen_more : (s : Scope) (sort : Sort) (sorts : List Sort) (o : Obj) (entries : List (Option Obj)) → (same_sort sort o.sort && (is_in_scope s o && are_entries s sorts entries)) ≡ true →
     Chosen s sorts entries → Chosen s (sort ∷ sorts) (Some o ∷ entries)
@@ -56,8 +57,8 @@ chosen_more s sort sorts o entries h r =
     let b = is_in_scope s o in
     let c = are_entries s sorts entries in
     record {
-      fill = and_from (same_obj o o) (fills entries (written entries)) (same_obj_self o) r.fill;
-      fit = and_from a (b && are_of_sorts s sorts (written entries)) (and_left a (b && c) h) (and_from b (are_of_sorts s sorts (written entries)) (and_left b c (and_right a (b && c) h)) r.fit);
+      fill = and_from (same_obj o o) (fills entries (args_written entries)) (same_obj_self o) r.fill;
+      fit = and_from a (b && are_of_sorts s sorts (args_written entries)) (and_left a (b && c) h) (and_from b (are_of_sorts s sorts (args_written entries)) (and_left b c (and_right a (b && c) h)) r.fit);
     }
 
 chosen : (s : Scope) (sorts : List Sort) (pattern : List (Option Obj)) → has_no_blank pattern ≡ true → are_entries s sorts pattern ≡ true → Chosen s sorts pattern
@@ -72,19 +73,19 @@ chosen s (sort ∷ sorts) (Some o ∷ entries) n h =
     chosen_more s sort sorts o entries h (chosen s sorts entries n (and_right b c (and_right a (b && c) h)))
 
 -- where no argument is a blank those that are written are a choice
-pub written_choice : (t : StatementView) (s : Scope) (pattern : List (Option Obj)) → has_no_blank pattern ≡ true → is_pattern t s pattern ≡ true → is_choice t s pattern (written pattern) ≡ true
+pub written_choice : (t : StatementView) (s : Scope) (pattern : List (Option Obj)) → has_no_blank pattern ≡ true → is_pattern t s pattern ≡ true → is_choice t s pattern (args_written pattern) ≡ true
 written_choice t s pattern n h =
     let c = chosen s t.declared pattern n h in
-    and_from (fills pattern (written pattern)) (are_arguments t s (written pattern)) c.fill c.fit
+    and_from (fills pattern (args_written pattern)) (are_arguments t s (args_written pattern)) c.fill c.fit
 
 pub choice_fits : (t : StatementView) (s : Scope) (pattern : List (Option Obj)) (args : List Obj) → is_choice t s pattern args ≡ true → are_arguments t s args ≡ true
 choice_fits t s pattern args h = and_right (fills pattern args) (are_arguments t s args) h
 
 -- what is used at the written arguments is used as the least good choice
-pub use_written : (t : StatementView) (pattern : List (Option Obj)) (x : Basis) (u : Use) (args : List Obj) → has_no_blank pattern ≡ true → is_pattern t x.scope pattern ≡ true → args ≡ written pattern → u.args ≡ args →
+pub use_written : (t : StatementView) (pattern : List (Option Obj)) (x : Basis) (u : Use) (args : List Obj) → has_no_blank pattern ≡ true → is_pattern t x.scope pattern ≡ true → args ≡ args_written pattern → u.args ≡ args →
     certify_all x.scope x.facts (needs_of_use t args x.scope) u.certs.items ≡ true → list_all (is_cert_of version.One) u.certs.items ≡ true → u.gives ≡ gives_of_use t args x.scope → IsUse t pattern x u
 use_written t pattern x u args n h is same c good g =
-    let here : u.args ≡ written pattern = same ∙ is in
+    let here : u.args ≡ args_written pattern = same ∙ is in
     let certs : certify_all x.scope x.facts (needs_of_use t u.args x.scope) u.certs.items ≡ true = subst (λ os. certify_all x.scope x.facts (needs_of_use t os x.scope) u.certs.items ≡ true) (sym same) c in
     record {
       least =
@@ -101,20 +102,20 @@ use_written t pattern x u args n h is same c good g =
 
 -- the entries are the least good choice, none of them a blank; the certificates name literals that are well formed
 record Filled (t : StatementView) (pattern entries : List (Option Obj)) (x : Basis) (certs : List Cert) : Type 0 where
-  least : IsLeastChoice t x.scope x.facts pattern (written entries)
-  certified : certify_all x.scope x.facts (needs_of_use t (written entries) x.scope) certs ≡ true
+  least : IsLeastChoice t x.scope x.facts pattern (args_written entries)
+  certified : certify_all x.scope x.facts (needs_of_use t (args_written entries) x.scope) certs ≡ true
   good_certs : list_all (is_cert_of version.One) certs ≡ true
   no_blank : has_no_blank entries ≡ true
-  fill : fills entries (written entries) ≡ true
-  again : filled_in (written entries) ≡ entries
+  fill : fills entries (args_written entries) ≡ true
+  again : filled_in (args_written entries) ≡ entries
 
 licensed_by_choice : (before : List StatementView) (theorem : ℕ) (pattern entries : List (Option Obj)) (names : List (List ℕ)) (old certs : List Cert) (x : Place) → Filled (theorem_at before theorem) pattern entries x.context certs →
-    IsLicensedStep before (ApplyStep theorem pattern names old) x (ApplyStep theorem entries names certs) (after_apply (theorem_at before theorem) (written entries) names x)
+    IsLicensedStep before (ApplyStep theorem pattern names old) x (ApplyStep theorem entries names certs) (after_apply (theorem_at before theorem) (args_written entries) names x)
 unfolding placed_steps bare_script filled_by names_of_steps step_script has_certs_of
 licensed_by_choice before theorem pattern entries names old certs x h =
     let t = theorem_at before theorem in
     let s = x.context.scope in
-    let args = written entries in
+    let args = args_written entries in
     let low = ltb theorem (length before) in
     record {
       licensed = λ rest more goal form.
@@ -138,7 +139,7 @@ licensed_by_choice before theorem pattern entries names old certs x h =
 
 filled_of_use : (t : StatementView) (pattern : List (Option Obj)) (x : Basis) (u : Use) → IsUse t pattern x u → Filled t pattern (filled_in u.args) x u.certs.items
 filled_of_use t pattern x u h =
-    let same : written (filled_in u.args) ≡ u.args = written_again u.args in
+    let same : args_written (filled_in u.args) ≡ u.args = written_again u.args in
     record {
       least = subst (IsLeastChoice t x.scope x.facts pattern) (sym same) h.least;
       certified = subst (λ os. certify_all x.scope x.facts (needs_of_use t os x.scope) u.certs.items ≡ true) (sym same) h.certified;
@@ -176,7 +177,7 @@ entries_next args i d entries after lt so_far is = is ∙ ap (λ es. es ++ Some 
 
 -- without blanks: at a given literal
 stops_written : (before : List StatementView) (theorem : ℕ) (pattern : List (Option Obj)) (names : List (List ℕ)) (old : List Cert) (x : Place) (h : StepStop) → has_no_blank pattern ≡ true →
-    StepStopsAmong x.context (needs_of_use (theorem_at before theorem) (written pattern) x.context.scope) h → IsStopOfStep before (ApplyStep theorem pattern names old) x h
+    StepStopsAmong x.context (needs_of_use (theorem_at before theorem) (args_written pattern) x.context.scope) h → IsStopOfStep before (ApplyStep theorem pattern names old) x h
 unfolding step_script
 stops_written before theorem pattern names old x (step_stop.Lacks (Literal l) values) n k rest filled goal = ((n, k.0), k.1)
 stops_written before theorem pattern names old x (step_stop.Lacks Match values) n k rest filled goal = absurd k
@@ -199,7 +200,7 @@ stops_filling before theorem pattern names old x (step_stop.TooWide Contradictio
 stops_filling before theorem pattern names old x step_stop.NoMemory n k rest filled goal = tt
 
 stops_by : (before : List StatementView) (theorem : ℕ) (pattern : List (Option Obj)) (names : List (List ℕ)) (old : List Cert) (x : Place) (h : StepStop) (b : Bool) → has_no_blank pattern ≡ b →
-    MatchBool b (StepStopsAmong x.context (needs_of_use (theorem_at before theorem) (written pattern) x.context.scope) h) (StepStopsFilling (theorem_at before theorem) x.context pattern h) →
+    MatchBool b (StepStopsAmong x.context (needs_of_use (theorem_at before theorem) (args_written pattern) x.context.scope) h) (StepStopsFilling (theorem_at before theorem) x.context pattern h) →
     IsStopOfStep before (ApplyStep theorem pattern names old) x h
 stops_by before theorem pattern names old x h true n k = stops_written before theorem pattern names old x h n k
 stops_by before theorem pattern names old x h false n k = stops_filling before theorem pattern names old x h n k
@@ -210,9 +211,9 @@ apply_stops before theorem pattern names old t x h e k =
     stops_by before theorem pattern names old x h (has_no_blank pattern) refl (subst (λ w. StepStopsApplying w x.context pattern h) (sym e) k)
 
 -- without blanks what stops there stops at the application
-pub stops_without : (t : StatementView) (x : Basis) (pattern : List (Option Obj)) (args : List Obj) (h : StepStop) → has_no_blank pattern ≡ true → args ≡ written pattern → StepStopsAmong x (needs_of_use t args x.scope) h → StepStopsApplying t x pattern h
+pub stops_without : (t : StatementView) (x : Basis) (pattern : List (Option Obj)) (args : List Obj) (h : StepStop) → has_no_blank pattern ≡ true → args ≡ args_written pattern → StepStopsAmong x (needs_of_use t args x.scope) h → StepStopsApplying t x pattern h
 stops_without t x pattern args h n is k =
-    subst (λ b. MatchBool b (StepStopsAmong x (needs_of_use t (written pattern) x.scope) h) (StepStopsFilling t x pattern h)) (sym n) (subst (λ os. StepStopsAmong x (needs_of_use t os x.scope) h) is k)
+    subst (λ b. MatchBool b (StepStopsAmong x (needs_of_use t (args_written pattern) x.scope) h) (StepStopsFilling t x pattern h)) (sym n) (subst (λ os. StepStopsAmong x (needs_of_use t os x.scope) h) is k)
 
 -- at the least good choice no given literal is refused, and one that is too wide is a match that is
 match_stops : (t : StatementView) (x : Basis) (pattern : List (Option Obj)) (args : List Obj) (h : StepStop) → IsLeastChoice t x.scope x.facts pattern args → StepStopsAmong x (needs_of_use t args x.scope) h → StepStopsFilling t x pattern (match_stop h)
@@ -230,7 +231,7 @@ match_stops_so t x pattern args h k least stops_at is = subst (StepStopsFilling 
 
 -- ---- what the code says
 
-pub used_is_written : (t : StatementView) (pattern : List (Option Obj)) (x : Basis) (args : List Obj) (r : Result Use StepStop) → has_no_blank pattern ≡ true → is_pattern t x.scope pattern ≡ true → args ≡ written pattern →
+pub used_is_written : (t : StatementView) (pattern : List (Option Obj)) (x : Basis) (args : List Obj) (r : Result Use StepStop) → has_no_blank pattern ≡ true → is_pattern t x.scope pattern ≡ true → args ≡ args_written pattern →
     IfOk r (λ u. u.args ≡ args) → IfOk r (λ u. certify_all x.scope x.facts (needs_of_use t args x.scope) u.certs.items ≡ true) → IfOk r (λ u. list_all (is_cert_of version.One) u.certs.items ≡ true) →
     IfOk r (λ u. u.gives ≡ gives_of_use t args x.scope) → IfOk r (IsUse t pattern x)
 used_is_written t pattern x args (Err h) n f is a b g c = tt
@@ -253,21 +254,21 @@ room_for t s kept h k same =
 -- the arguments are all written
 pub record WrittenIs (pattern : List (Option Obj)) (args : List Obj) : Type 0 where
   pub no_blank : has_no_blank pattern ≡ true
-  pub is : args ≡ written pattern
+  pub is : args ≡ args_written pattern
 
-pub written_is : (pattern : List (Option Obj)) (o : Option (List Obj)) (args : List Obj) → MatchOption o (IsFalse (has_no_blank pattern)) (λ os. IsTrue (has_no_blank pattern) × (os ≡ written pattern)) → o ≡ Some args → WrittenIs pattern args
-written_is pattern None args h e = absurd (nothing args e)
-  where
-    nothing : (xs : List Obj) → None ≡ Some xs → ⊥
-    nothing xs e = cc
-written_is pattern (Some os) args h e =
-    let same : os ≡ args = ap (λ k. unwrap_or k os) e in
-    record { no_blank = h.0; is = sym same ∙ h.1 }
+written_of : (v w : List Obj) (b : Bool) → Some v ≡ (if b then Some w else None) → (b ≡ true) × (v ≡ w)
+written_of v w true e = (refl, same_Some v w e)
+written_of v w false e = absurd (none-some v (sym e))
+
+pub written_is : (pattern : List (Option Obj)) (items args : List Obj) → Some items ≡ (if has_no_blank pattern then Some (args_written pattern) else None) → args ≡ items → WrittenIs pattern args
+written_is pattern items args e same =
+    let w = written_of items (args_written pattern) (has_no_blank pattern) e in
+    record { no_blank = w.0; is = same ∙ w.1 }
 
 pub written_fits : (t : StatementView) (x : Basis) (pattern : List (Option Obj)) (args : List Obj) → WrittenIs pattern args → CanApply t pattern x → are_arguments t x.scope args ≡ true
 written_fits t x pattern args w can =
-    subst (λ os. are_arguments t x.scope os ≡ true) (sym w.is) (choice_fits t x.scope pattern (written pattern) (written_choice t x.scope pattern w.no_blank can.fits))
+    subst (λ os. are_arguments t x.scope os ≡ true) (sym w.is) (choice_fits t x.scope pattern (args_written pattern) (written_choice t x.scope pattern w.no_blank can.fits))
 
 pub written_needs : (t : StatementView) (x : Basis) (pattern : List (Option Obj)) (args : List Obj) → WrittenIs pattern args → CanApply t pattern x → are_well_formed_in x.scope (needs_of_use t args x.scope) ≡ true
 written_needs t x pattern args w can =
-    subst (λ os. are_well_formed_in x.scope (needs_of_use t os x.scope) ≡ true) (sym w.is) (can.lits (written pattern) (written_choice t x.scope pattern w.no_blank can.fits)).needs
+    subst (λ os. are_well_formed_in x.scope (needs_of_use t os x.scope) ≡ true) (sym w.is) (can.lits (args_written pattern) (written_choice t x.scope pattern w.no_blank can.fits)).needs

@@ -23,7 +23,7 @@ use Rattle.e_deriv.specs.Script.{Script, Claim, Superposed, Cases, size, bare_sc
 use Rattle.e_deriv.specs.Goal.{Goal, goal_of}
 use Rattle.e_deriv.specs.PlacedSteps.{PlacedStep, placed_steps}
 use Rattle.e_deriv.specs.Steps.{are_over}
-use Rattle.e_deriv.specs.Naming.{named, names_of_steps}
+use Rattle.e_deriv.specs.Naming.{with_new_names, names_of_steps}
 use Rattle.e_deriv.specs.Licensed.{Licensed}
 use Rattle.e_deriv.specs.Certified.{is_certified}
 use Rattle.e_deriv.specs.Parts.{filled_by}
@@ -270,7 +270,7 @@ superposed_reaches before superposition names shown written certs inner rest x g
     let given = with_facts facts (superposing.gives_of_superposition superposition s) in
     let one = placed_steps before inner k.filled t given (goal_of shown) in
     let other = placed_steps before rest rest s (with_facts facts shown) goal in
-    let ns = names_of_steps before (named x.names superposing.sorts_copied names) inner in
+    let ns = names_of_steps before (with_new_names x.names superposing.sorts_copied names) inner in
     let ms = names_of_steps before x.names rest in
     let f = Superposed superposition names shown certs k.filled rest in
     record {
@@ -297,7 +297,7 @@ superposed_reaches_later before superposition names shown written certs inner de
     let given = with_facts facts (superposing.gives_of_superposition superposition s) in
     let one = placed_steps before inner derived t given (goal_of shown) in
     let other = placed_steps before rest k.filled s (with_facts facts shown) goal in
-    let inside = named x.names superposing.sorts_copied names in
+    let inside = with_new_names x.names superposing.sorts_copied names in
     let ns = names_of_steps before inside inner in
     let ms = names_of_steps before x.names rest in
     let f = Superposed superposition names shown certs derived k.filled in

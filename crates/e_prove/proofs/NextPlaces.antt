@@ -22,24 +22,24 @@ use Rattle.e_construct.specs.declared.construction.Construction.{Construction}
 use Rattle.e_construct.specs.Construct.{sorts_made, gives_of_construction}
 use Rattle.e_construct.specs.declared.superpose.Superpose.{Superpose}
 use Rattle.e_construct.specs.Superposing as superposing
-use Rattle.e_deriv.specs.Naming.{named}
+use Rattle.e_deriv.specs.Naming.{with_new_names}
 use Rattle.e_licence.specs.Contexts.{Basis, IsWithin}
 use Rattle.e_prove.specs.declared.place.Place.{Place}
 use Rattle.e_prove.specs.inner.NextPlaces.{after_make, after_apply, after_superposed}
 
 -- new objects come into scope, and then what is given joins the facts
 pub made_after : (construction : Construction) (names : List (List ℕ)) (x mid after : Place) (sorts : List Sort) (given : List Lit) → sorts ≡ sorts_made construction →
-    given ≡ gives_of_construction construction x.context.scope → mid.context ≡ record x.context { scope = with_sorts x.context.scope sorts } → mid.names ≡ named x.names sorts names →
+    given ≡ gives_of_construction construction x.context.scope → mid.context ≡ record x.context { scope = with_sorts x.context.scope sorts } → mid.names ≡ with_new_names x.names sorts names →
     after ≡ record mid { context = record mid.context { facts = with_facts mid.context.facts given } } → after ≡ after_make construction names x
 made_after construction names x mid after sorts given a b c d e = rw (e, c, d, b, a) refl
 
 pub superposed_after : (superposition : Superpose) (names : List (List ℕ)) (x mid after : Place) (sorts : List Sort) (given : List Lit) → sorts ≡ superposing.sorts_copied →
-    given ≡ superposing.gives_of_superposition superposition x.context.scope → mid.context ≡ record x.context { scope = with_sorts x.context.scope sorts } → mid.names ≡ named x.names sorts names →
+    given ≡ superposing.gives_of_superposition superposition x.context.scope → mid.context ≡ record x.context { scope = with_sorts x.context.scope sorts } → mid.names ≡ with_new_names x.names sorts names →
     after ≡ record mid { context = record mid.context { facts = with_facts mid.context.facts given } } → after ≡ after_superposed superposition names x
 superposed_after superposition names x mid after sorts given a b c d e = rw (e, c, d, b, a) refl
 
 pub applied_after : (t : StatementView) (args : List Obj) (names : List (List ℕ)) (x mid after : Place) (sorts : List Sort) (given : List Lit) → sorts ≡ t.made →
-    given ≡ gives_of_use t args x.context.scope → mid.context ≡ record x.context { scope = with_sorts x.context.scope sorts } → mid.names ≡ named x.names sorts names →
+    given ≡ gives_of_use t args x.context.scope → mid.context ≡ record x.context { scope = with_sorts x.context.scope sorts } → mid.names ≡ with_new_names x.names sorts names →
     after ≡ record mid { context = record mid.context { facts = with_facts mid.context.facts given } } → after ≡ after_apply t args names x
 applied_after t args names x mid after sorts given a b c d e = rw (e, c, d, b, a) refl
 

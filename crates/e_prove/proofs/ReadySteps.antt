@@ -13,7 +13,7 @@ use Rattle.e_literal.proofs.Booleans.{and_left, and_right}
 use Rattle.e_theorem.specs.Choice.{is_choice}
 use Rattle.e_theorem.specs.Pattern.{is_pattern}
 use Rattle.e_theorem.specs.declared.statement.Statement.{Statement}
-use Rattle.e_theorem.specs.Statements.{stated, all_stated}
+use Rattle.e_theorem.specs.Statements.{as_view, as_views}
 use Rattle.e_clause.specs.declared.cert.By.{By}
 use Rattle.e_clause.specs.declared.cert.Cert.{Cert}
 use Rattle.e_clause.specs.LimitedFacts.{is_well_formed_in, are_well_formed_in, are_limited_facts}
@@ -24,7 +24,7 @@ use Rattle.e_deriv.specs.declared.block.Block.{Block}
 use Rattle.e_deriv.specs.declared.block.Step.TheVariants.{Cite as CiteStep, Hence as HenceStep, Make as MakeStep, Apply as ApplyStep, Claim as ClaimStep, Superposed as SuperposedStep}
 use Rattle.e_deriv.specs.Script.{Script, Cite, Hence, Make, Apply, Claim, Superposed, script_of, step_script, size}
 use Rattle.e_deriv.specs.Goal.{Goal}
-use Rattle.e_deriv.specs.Parts.{written, filled_in}
+use Rattle.e_deriv.specs.Parts.{args_written, filled_in}
 use Rattle.e_deriv.specs.PlacedSteps.{placed_steps, theorem_at}
 use Rattle.e_deriv.specs.Fitting.{LitsFit, is_small, is_small_statement}
 use Rattle.e_deriv.proofs.Choices.{written_again}
@@ -122,13 +122,13 @@ pub record ApplyReady (before : List StatementView) (theorem : ℕ) (pattern : L
 
 apply_lits : (before : List StatementView) (theorem : ℕ) (pattern : List (Option Obj)) (names : List (List ℕ)) (certs : List Cert) (rest : Script) (x : Place) (goal : Goal) →
     IsReadyFor before (Apply theorem pattern names certs rest) x goal → theorem < length before → (args : List Obj) →
-    is_choice (theorem_at before theorem) x.context.scope pattern (written (filled_in args)) ≡ true → LitsFitAt (theorem_at before theorem) (written (filled_in args)) x.context
+    is_choice (theorem_at before theorem) x.context.scope pattern (args_written (filled_in args)) ≡ true → LitsFitAt (theorem_at before theorem) (args_written (filled_in args)) x.context
 unfolding placed_steps
 apply_lits before theorem pattern names certs rest x goal r lt args h =
     let t = theorem_at before theorem in
     let s = x.context.scope in
     let f = Apply theorem (filled_in args) names certs rest in
-    let os = written (filled_in args) in
+    let os = args_written (filled_in args) in
     let low : ltb theorem (length before) ≡ true = and_left (ltb theorem (length before)) (is_pattern t s pattern) (fits_first before (Apply theorem pattern names certs rest) x goal r) in
     let both = (r.lits f).1 (and_from (ltb theorem (length before)) (is_choice t s pattern os) low h) in
     record { needs = both.0; after = first_facts before rest rest (with_sorts s t.made) (with_facts x.context.facts (gives_of_use t os s)) goal both.1 }
@@ -159,13 +159,13 @@ unfolding step_script
 apply_good before theorem pattern names certs x n r = apply_can before theorem pattern names certs r.rest x r.goal r.ready
 
 -- the statement at a place
-pub as_many : (statements : List Statement) → length (all_stated statements) ≡ length statements
+pub as_many : (statements : List Statement) → length (as_views statements) ≡ length statements
 as_many [] = refl
 as_many (t ∷ ts) = ap suc (as_many ts)
 
-pub theorem_is : (statements : List Statement) (k : ℕ) (t : Statement) → k < length statements → t ≡ get_or statements k t → theorem_at (all_stated statements) k ≡ stated t
+pub theorem_is : (statements : List Statement) (k : ℕ) (t : Statement) → k < length statements → t ≡ get_or statements k t → theorem_at (as_views statements) k ≡ as_view t
 theorem_is [] k t lt e = absurd (omega (arith, lt))
-theorem_is (s ∷ ss) zero t lt e = ap stated (sym e)
+theorem_is (s ∷ ss) zero t lt e = ap as_view (sym e)
 theorem_is (s ∷ ss) (suc k) t lt e = theorem_is ss k t (omega (arith, lt)) e
 
 -- ---- steps with a block inside

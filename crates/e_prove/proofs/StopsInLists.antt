@@ -20,7 +20,7 @@ use Rattle.e_deriv.specs.Script.{Script, Cite, Hence, Make, Apply, Claim, Superp
 use Rattle.e_deriv.specs.Goal.{Goal, goal_of}
 use Rattle.e_deriv.specs.Parts.{rest_of, inner_of, args_of}
 use Rattle.e_deriv.specs.PlacedSteps.{PlacedStep, placed_step, placed_steps, theorem_at}
-use Rattle.e_deriv.specs.Naming.{named, names_of_steps}
+use Rattle.e_deriv.specs.Naming.{with_new_names, names_of_steps}
 use Rattle.e_deriv.specs.Licensed.{Licensed, AllLicensed}
 use Rattle.e_deriv.specs.Fitting.{LitsFit, is_small}
 use Rattle.e_deriv.proofs.Agreement.{both_licensed}
@@ -156,14 +156,14 @@ pub names_length : (before : List StatementView) (ns : Names) (d : Script) → l
 unfolding names_of_steps size
 names_length before ns (Cite by rest) = let h = names_length before ns rest in omega (arith, h)
 names_length before ns (Hence lit cert rest) = let h = names_length before ns rest in omega (arith, h)
-names_length before ns (Make construction names certs rest) = let h = names_length before (named ns (sorts_made construction) names) rest in omega (arith, h)
-names_length before ns (Apply theorem args names certs rest) = let h = names_length before (named ns (theorem_at before theorem).made names) rest in omega (arith, h)
+names_length before ns (Make construction names certs rest) = let h = names_length before (with_new_names ns (sorts_made construction) names) rest in omega (arith, h)
+names_length before ns (Apply theorem args names certs rest) = let h = names_length before (with_new_names ns (theorem_at before theorem).made names) rest in omega (arith, h)
 names_length before ns (Claim shown inner rest) =
     let h = names_length before ns inner in
     let k = names_length before ns rest in
     omega (arith, h, k, length-append (names_of_steps before ns inner) (names_of_steps before ns rest))
 names_length before ns (Superposed superposition names shown certs inner rest) =
-    let ms = named ns superposing.sorts_copied names in
+    let ms = with_new_names ns superposing.sorts_copied names in
     let h = names_length before ms inner in
     let k = names_length before ns rest in
     omega (arith, h, k, length-append (names_of_steps before ms inner) (names_of_steps before ns rest))

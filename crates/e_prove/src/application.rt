@@ -1,17 +1,15 @@
 //! Licensing an application of an earlier theorem.
 ghost use Rattle.std.specs.Prelude.{◌≡◌, List, IfOk, IfErr, OnOk, IsTrue};
-ghost use Rattle.std.specs.Prelude.{IsFalse, MatchOption, Some, map};
+ghost use Rattle.std.specs.Prelude.{Some, map};
 ghost use Rattle.std.specs.List.{list_all};
 ghost use Rattle.e_literal.specs.Use.{StatementView, are_arguments, needs_of_use, gives_of_use};
 ghost use Rattle.e_clause.specs.declared.cert.Cert.{Cert as Certificate};
 ghost use Rattle.e_clause.specs.Certify.{certify_all};
 ghost use Rattle.e_clause.specs.LimitedFacts.{are_well_formed_in};
-ghost use Rattle.e_theorem.specs.Statements.{stated};
+ghost use Rattle.e_theorem.specs.Statements.{as_view};
 ghost use Rattle.e_deriv.specs.declared.block.Step.TheVariants.{Apply};
 ghost use Rattle.e_deriv.specs.Fitting.{is_small, is_small_statement};
 ghost use Rattle.e_deriv.specs.PlacedSteps.{theorem_at};
-ghost use Rattle.e_deriv.specs.Parts;
-ghost use Rattle.e_deriv.specs.Parts.{has_no_blank};
 ghost use Rattle.e_clause.specs.declared.cert.Version.TheVariants as version;
 ghost use Rattle.e_clause.specs.Versions.{is_cert_of};
 ghost use Rattle.e_prove.specs.inner.Applications.{CanApply, IsUse};
@@ -25,7 +23,7 @@ use crate::licence::licences;
 use crate::place::Place;
 use crate::step_stop::StepStop;
 use e_clause::Cert;
-use e_deriv::{Step, Wanted};
+use e_deriv::{Step, Wanted, written_args};
 use e_licence::{Context, Filled, match_blanks};
 use e_literal::{Items, Lit, Obj};
 use e_text::Name;
@@ -61,13 +59,13 @@ pub fn apply(
     statement: &Statement,
     state: &mut Place,
 ) -> Result<Step, StepStop>
-    requires { CanApply (stated statement.now) application.now.args.now state.old.context }
+    requires { CanApply (as_view statement.now) application.now.args.now state.old.context }
     ensures ok { IfOk result (λ d. (before : List StatementView) (certs : List Certificate)
-        → theorem_at before application.now.theorem ≡ stated statement.now → IsLicensedStep before
+        → theorem_at before application.now.theorem ≡ as_view statement.now → IsLicensedStep before
         (Apply application.now.theorem application.now.args.now application.now.names.now certs)
         state.old d state.new) }
     ensures err { IfErr result (λ h. (before : List StatementView) (certs : List Certificate)
-        → theorem_at before application.now.theorem ≡ stated statement.now → IsStopOfStep before
+        → theorem_at before application.now.theorem ≡ as_view statement.now → IsStopOfStep before
         (Apply application.now.theorem application.now.args.now application.now.names.now certs)
         state.old h) }
     ensures kept { IfErr result (UnlessNoMemory (state.new ≡ state.old)) }
@@ -97,12 +95,12 @@ fn take_use(
     used: &Use,
     state: &mut Place,
 ) -> Result<Items<Option<Obj>>, AllocError>
-    requires apply { CanApply (stated statement.now) application.now.args.now state.old.context }
-    requires used { IsUse (stated statement.now) application.now.args.now state.old.context
+    requires apply { CanApply (as_view statement.now) application.now.args.now state.old.context }
+    requires used { IsUse (as_view statement.now) application.now.args.now state.old.context
         used.now }
     ensures args { IfOk result (λ entries. entries ≡ map Some used.now.args) }
     ensures after { OnOk result (state.new
-        ≡ after_apply (stated statement.now) used.now.args application.now.names.now state.old) }
+        ≡ after_apply (as_view statement.now) used.now.args application.now.names.now state.old) }
 {
     state.grow(statement.made.items(), application.names)?;
     state.join_equal(alloc, used.gives.items())?;
@@ -118,13 +116,13 @@ fn use_with(
     pattern: &[Option<Obj>],
     context: &mut Context,
 ) -> Result<Use, StepStop>
-    requires { CanApply (stated statement.now) pattern.now context.old }
-    ensures ok { IfOk result (IsUse (stated statement.now) pattern.now context.old) }
-    ensures err { IfErr result (StepStopsApplying (stated statement.now) context.old pattern.now) }
+    requires { CanApply (as_view statement.now) pattern.now context.old }
+    ensures ok { IfOk result (IsUse (as_view statement.now) pattern.now context.old) }
+    ensures err { IfErr result (StepStopsApplying (as_view statement.now) context.old pattern.now) }
     ensures kept { context.new ≡ context.old }
 {
-    match all_objects(alloc, pattern)? {
-        Some(args) => use_at(alloc, statement, args, context),
+    match written_args(alloc, pattern)? {
+        Some(args) => use_at(alloc, statement, Items::new(args), context),
         None => fill_blanks(alloc, statement, pattern, context),
     }
 }
@@ -137,9 +135,9 @@ fn fill_blanks(
     pattern: &[Option<Obj>],
     context: &mut Context,
 ) -> Result<Use, StepStop>
-    requires { CanApply (stated statement.now) pattern.now context.old }
-    ensures ok { IfOk result (IsUse (stated statement.now) pattern.now context.old) }
-    ensures err { IfErr result (StepStopsFilling (stated statement.now) context.old pattern.now) }
+    requires { CanApply (as_view statement.now) pattern.now context.old }
+    ensures ok { IfOk result (IsUse (as_view statement.now) pattern.now context.old) }
+    ensures err { IfErr result (StepStopsFilling (as_view statement.now) context.old pattern.now) }
     ensures kept { context.new ≡ context.old }
 {
     context.solve(alloc)?;
@@ -183,19 +181,19 @@ fn use_at(
     args: Items<Obj>,
     context: &mut Context,
 ) -> Result<Use, StepStop>
-    requires statement { IsTrue (is_small_statement (stated statement.now)) }
+    requires statement { IsTrue (is_small_statement (as_view statement.now)) }
     requires scope { IsTrue (is_small context.old.scope) }
-    requires fit { IsTrue (are_arguments (stated statement.now) context.old.scope args) }
+    requires fit { IsTrue (are_arguments (as_view statement.now) context.old.scope args) }
     requires needs { IsTrue (are_well_formed_in context.old.scope
-        (needs_of_use (stated statement.now) args context.old.scope)) }
+        (needs_of_use (as_view statement.now) args context.old.scope)) }
     ensures args { IfOk result (λ u. u.args ≡ args) }
     ensures certified { IfOk result (λ u. IsTrue (certify_all context.old.scope context.old.facts
-        (needs_of_use (stated statement.now) args context.old.scope) u.certs.items)) }
+        (needs_of_use (as_view statement.now) args context.old.scope) u.certs.items)) }
     ensures written { IfOk result (λ u. IsTrue (list_all (is_cert_of version.One) u.certs.items)) }
     ensures gives { IfOk result
-        (λ u. u.gives ≡ gives_of_use (stated statement.now) args context.old.scope) }
+        (λ u. u.gives ≡ gives_of_use (as_view statement.now) args context.old.scope) }
     ensures err { IfErr result
-        (StepStopsAmong context.old (needs_of_use (stated statement.now) args context.old.scope)) }
+        (StepStopsAmong context.old (needs_of_use (as_view statement.now) args context.old.scope)) }
     ensures kept { context.new ≡ context.old }
 {
     match use_of(alloc, statement, args.items(), context.scope()) {
@@ -213,21 +211,6 @@ fn use_at(
         Err(UseFault::BadArgs) => unreachable!(),
         Err(UseFault::NoMemory) => Err(StepStop::NoMemory),
     }
-}
-
-/// The arguments, where none is a blank.
-fn all_objects(alloc: Global, pattern: &[Option<Obj>]) -> Result<Option<Items<Obj>>, AllocError>
-    ensures { IfOk result (λ o. MatchOption o (IsFalse (has_no_blank pattern.now))
-        (λ args. IsTrue (has_no_blank pattern.now) × (args ≡ Parts.written pattern.now))) }
-{
-    let mut args = Items::empty(alloc);
-    for entry in pattern {
-        match entry {
-            Some(object) => args.push(*object)?,
-            None => return Ok(None),
-        }
-    }
-    Ok(Some(args))
 }
 
 /// The arguments as entries, none of them a blank.

@@ -1,6 +1,6 @@
 //! What holds before a step of a theorem's script.
 ghost use Rattle.std.specs.Prelude.{◌≤◌, IfOk, IfErr};
-ghost use Rattle.e_theorem.specs.Statements.{stated, all_stated};
+ghost use Rattle.e_theorem.specs.Statements.{as_view, as_views};
 ghost use Rattle.e_deriv.specs.Script.{script_of, size};
 ghost use Rattle.e_deriv.specs.Fitting.{IsFitting};
 ghost use Rattle.e_prove.specs.Places.{IsStepPlace};
@@ -27,15 +27,15 @@ pub fn context_at(
     theorem: &Theorem,
     step: u32,
 ) -> Result<Place, Stop>
-    requires fitting { IsFitting (all_stated before.now) (stated theorem.now.statement)
+    requires fitting { IsFitting (as_views before.now) (as_view theorem.now.statement)
         (script_of theorem.now.block) }
     requires first { 1 ≤ step }
     requires last { step ≤ size (script_of theorem.now.block) }
-    ensures place { IfOk result (IsStepPlace (all_stated before.now) (stated theorem.now.statement)
+    ensures place { IfOk result (IsStepPlace (as_views before.now) (as_view theorem.now.statement)
         theorem.now.names (script_of theorem.now.block) step) }
-    ensures stop { IfErr result (StopIs (all_stated before.now) (stated theorem.now.statement)
+    ensures stop { IfErr result (StopIs (as_views before.now) (as_view theorem.now.statement)
         (script_of theorem.now.block)) }
-    ensures names { IfErr result (HasNames (all_stated before.now) (stated theorem.now.statement)
+    ensures names { IfErr result (HasNames (as_views before.now) (as_view theorem.now.statement)
         theorem.now.names (script_of theorem.now.block)) }
     ensures earlier { IfErr result (IsStopBefore step) }
 {

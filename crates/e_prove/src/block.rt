@@ -1,7 +1,7 @@
 //! Licensing a block step by step, with the blocks inside it.
 ghost use Rattle.std.specs.Prelude.{◌≡◌, ◌+◌, ◌<◌, ◌^◌, List, IfOk, IfErr, OnOk};
 ghost use Rattle.e_clause.specs.declared.cert.Cert.{Cert as Certificate};
-ghost use Rattle.e_theorem.specs.Statements.{all_stated};
+ghost use Rattle.e_theorem.specs.Statements.{as_views};
 ghost use Rattle.e_deriv.specs.Script.{Claim, Superposed, script_of};
 ghost use Rattle.e_deriv.specs.Script.{step_script, close_script, size};
 ghost use Rattle.e_deriv.specs.Goal.{goal_view};
@@ -32,14 +32,14 @@ pub fn prove_block(
     state: &mut Place,
     number: &mut u32,
 ) -> Result<Block, Stop>
-    requires ready { IsReadyFor (all_stated before.now) (script_of block.now) state.old
+    requires ready { IsReadyFor (as_views before.now) (script_of block.now) state.old
         (goal_view goal.now) }
     requires few { number.old + size (script_of block.now) < 2 ^ 32 }
-    ensures derived { IfOk result (λ d. IsDerivedFrom (all_stated before.now) (script_of block.now)
+    ensures derived { IfOk result (λ d. IsDerivedFrom (as_views before.now) (script_of block.now)
         state.old (goal_view goal.now) (script_of d)) }
     ensures next { OnOk result (number.new ≡ number.old + size (script_of block.now)) }
     ensures kept { OnOk result (KeepsHeld state.old state.new) }
-    ensures err { IfErr result (StopsWithin (all_stated before.now) (script_of block.now) state.old
+    ensures err { IfErr result (StopsWithin (as_views before.now) (script_of block.now) state.old
         (goal_view goal.now) number.old) }
 {
     let mut steps = Vec::new(alloc);
@@ -70,10 +70,10 @@ pub fn prove_step(
     state: &mut Place,
     number: &mut u32,
 ) -> Result<Step, Stop>
-    requires { IsReadyStep (all_stated before.now) step.now state.old number.old }
-    ensures ok { IfOk result (λ d. IsPassed (all_stated before.now) (step_script step.now) state.old
+    requires { IsReadyStep (as_views before.now) step.now state.old number.old }
+    ensures ok { IfOk result (λ d. IsPassed (as_views before.now) (step_script step.now) state.old
         number.old (step_script d) state.new number.new) }
-    ensures err { IfErr result (StopsInStep (all_stated before.now) step.now state.old number.old) }
+    ensures err { IfErr result (StopsInStep (as_views before.now) step.now state.old number.old) }
 {
     match step {
         Step::Cite(by) => {
@@ -137,12 +137,12 @@ fn prove_claim(
     state: &mut Place,
     number: &mut u32,
 ) -> Result<Step, Stop>
-    requires { AreReadySteps (all_stated before.now) (Claim shown.now (script_of inner.now))
+    requires { AreReadySteps (as_views before.now) (Claim shown.now (script_of inner.now))
         state.old number.old }
     ensures ok { IfOk result
-        (λ d. IsPassed (all_stated before.now) (Claim shown.now (script_of inner.now)) state.old
+        (λ d. IsPassed (as_views before.now) (Claim shown.now (script_of inner.now)) state.old
         number.old (step_script d) state.new number.new) }
-    ensures err { IfErr result (StopsInSteps (all_stated before.now)
+    ensures err { IfErr result (StopsInSteps (as_views before.now)
         (Claim shown.now (script_of inner.now)) state.old number.old) }
 {
     let outer = state.enter_block(alloc)?;
@@ -168,14 +168,14 @@ fn prove_superposed(
     number: &mut u32,
 ) -> Result<Step, Stop>
     requires { (certs : List Certificate) × AreReadySteps
-        (all_stated before.now) (Superposed parts.now.superposition.now parts.now.names.now
+        (as_views before.now) (Superposed parts.now.superposition.now parts.now.names.now
         parts.now.shown.now certs (script_of inner.now)) state.old number.old }
     ensures ok { IfOk result (λ d. (certs : List Certificate)
-        → IsPassed (all_stated before.now) (Superposed parts.now.superposition.now
+        → IsPassed (as_views before.now) (Superposed parts.now.superposition.now
         parts.now.names.now parts.now.shown.now certs (script_of inner.now))
         state.old number.old (step_script d) state.new number.new) }
     ensures err { IfErr result (λ s. (certs : List Certificate) → StopsInSteps
-        (all_stated before.now) (Superposed parts.now.superposition.now parts.now.names.now
+        (as_views before.now) (Superposed parts.now.superposition.now parts.now.names.now
         parts.now.shown.now certs (script_of inner.now)) state.old number.old s) }
 {
     let SuperposedParts {
@@ -213,14 +213,14 @@ fn prove_close(
     state: &mut Place,
     number: &mut u32,
 ) -> Result<Close, Stop>
-    requires ready { IsReadyFor (all_stated before.now) (close_script close.now) state.old
+    requires ready { IsReadyFor (as_views before.now) (close_script close.now) state.old
         (goal_view goal.now) }
     requires few { number.old + size (close_script close.now) < 2 ^ 32 }
-    ensures derived { IfOk result (λ d. IsDerivedFrom (all_stated before.now)
+    ensures derived { IfOk result (λ d. IsDerivedFrom (as_views before.now)
         (close_script close.now) state.old (goal_view goal.now) (close_script d)) }
     ensures next { OnOk result (number.new ≡ number.old + size (close_script close.now)) }
     ensures kept { OnOk result (KeepsHeld state.old state.new) }
-    ensures err { IfErr result (StopsWithin (all_stated before.now) (close_script close.now)
+    ensures err { IfErr result (StopsWithin (as_views before.now) (close_script close.now)
         state.old (goal_view goal.now) number.old) }
 {
     match close {

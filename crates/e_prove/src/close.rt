@@ -1,21 +1,20 @@
 //! Licensing a close without blocks.
-ghost use Rattle.std.specs.Prelude.{◌≡◌, List, Option, IfOk, IfErr, IsTrue, map};
+ghost use Rattle.std.specs.Prelude.{◌≡◌, List, Option, IfOk, IfErr, IsTrue};
 ghost use Rattle.e_literal.specs.Use.{StatementView};
 ghost use Rattle.e_clause.specs.declared.cert.Against.{Against};
 ghost use Rattle.e_clause.specs.declared.cert.Cert.{Cert};
 ghost use Rattle.e_clause.specs.LimitedFacts.{are_well_formed_in};
 ghost use Rattle.e_deriv.specs.declared.block.Close.TheVariants.{Qed, Contradiction};
-ghost use Rattle.e_deriv.specs.Goal.{Goal as BlockGoal, are_for, goal_with as goal_at, goal_view};
+ghost use Rattle.e_deriv.specs.Goal.{Goal as BlockGoal, are_for, goal_with, goal_view};
 ghost use Rattle.e_prove.specs.inner.StopsOfSteps.{contradiction_by};
 ghost use Rattle.e_prove.specs.inner.LicensedSteps.{IsLicensedClose, IsStopOfClose};
 
 use crate::licence::licences;
 use crate::step_stop::StepStop;
-use e_deriv::{Close, Goal, Wanted};
+use e_deriv::{Close, Goal, Wanted, goal_with};
 use e_licence::{Context, Refuted};
-use e_literal::{Items, Lit, Map, Obj};
-use e_theorem::all_renamed;
-use std::alloc::{AllocError, Global};
+use e_literal::{Items, Obj};
+use std::alloc::Global;
 
 /// A qed: each literal of the goal is allowed, with these objects for its made ones.
 #[tactic(auto, unfolding(e_deriv::specs::Script::close_script))]
@@ -27,7 +26,7 @@ pub fn qed(
 ) -> Result<Close, StepStop>
     requires form { IsTrue (are_for (goal_view goal.now) context.old.scope objects.now) }
     requires lits { IsTrue
-        (are_well_formed_in context.old.scope (goal_at (goal_view goal.now) objects.now)) }
+        (are_well_formed_in context.old.scope (goal_with (goal_view goal.now) objects.now)) }
     ensures ok { IfOk result (λ d. (before : List StatementView) (certs : List Cert)
         → IsLicensedClose before (Qed objects.now certs) context.old (goal_view goal.now) d) }
     ensures err { IfErr result (λ h. (before : List StatementView) (certs : List Cert)
@@ -76,13 +75,4 @@ fn close_by(answer: Refuted) -> Result<Close, StepStop>
             Err(StepStop::TooWide { wanted, width })
         }
     }
-}
-
-/// The literals of the goal with these objects for its made ones.
-fn goal_with(alloc: Global, goal: &Goal, objects: &[Obj]) -> Result<Vec<Lit>, AllocError>
-    requires one_sort { map (λ o. o.sort) goal.now.made.now ≡ map (λ o. o.sort) objects.now }
-    ensures { IfOk result (λ lits. lits.items ≡ goal_at (goal_view goal.now) objects.now) }
-{
-    let images = Map::of_pairs(alloc, goal.made, objects)?;
-    all_renamed(alloc, goal.shown, &images)
 }

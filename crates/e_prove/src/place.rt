@@ -5,9 +5,9 @@ ghost use Rattle.e_literal.specs.Facts.{with_fact, with_facts};
 ghost use Rattle.e_literal.specs.Scopes;
 ghost use Rattle.e_literal.specs.Use.{scope_of};
 ghost use Rattle.e_clause.specs.LimitedFacts.{are_limited_facts};
-ghost use Rattle.e_theorem.specs.Statements.{stated};
+ghost use Rattle.e_theorem.specs.Statements.{as_view};
 ghost use Rattle.e_deriv.specs.Goal.{facts_of_statement};
-ghost use Rattle.e_deriv.specs.Naming.{named};
+ghost use Rattle.e_deriv.specs.Naming.{with_new_names};
 ghost use Rattle.e_prove.specs.inner.NextPlaces.{start_with_names, entered_at, IsOutsideAgain, IsOutsideWith};
 ghost use Rattle.e_prove.specs.inner.NextPlaces.{CanJoinLast, HasRoomForMore};
 ghost use Rattle.e_prove.specs.inner.NextPlaces.{after_literal, after_make, after_superposed};
@@ -40,9 +40,9 @@ impl Place {
         names: &Names,
     ) -> Result<Place, AllocError>
         requires few { length statement.now.declared < 2 ^ 16 }
-        requires good { IsTrue (are_limited_facts (scope_of (stated statement.now))
-            (facts_of_statement (stated statement.now))) }
-        ensures { IfOk result (λ x. x ≡ start_with_names (stated statement.now) names.now) }
+        requires good { IsTrue (are_limited_facts (scope_of (as_view statement.now))
+            (facts_of_statement (as_view statement.now))) }
+        ensures { IfOk result (λ x. x ≡ start_with_names (as_view statement.now) names.now) }
     {
         let scope = with_sorts(NOTHING, statement.declared.items());
         let names = names.first(alloc, scope)?;
@@ -128,7 +128,7 @@ impl Place {
         requires circles { self.old.context.scope.circles + length sorts.now < 2 ^ 16 }
         ensures scope { OnOk result (self.new.context
             ≡ record self.old.context { scope = Scopes.with_sorts self.old.context.scope sorts.now }) }
-        ensures names { OnOk result (self.new.names ≡ named self.old.names sorts.now names.now) }
+        ensures names { OnOk result (self.new.names ≡ with_new_names self.old.names sorts.now names.now) }
     {
         let scope = with_sorts(self.context.scope(), sorts);
         self.context.widen(scope);

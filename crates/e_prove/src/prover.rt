@@ -1,6 +1,6 @@
 //! The derivation of a theorem from its script.
 ghost use Rattle.std.specs.Prelude.{◌≡◌, IfOk, IfErr, IsTrue};
-ghost use Rattle.e_theorem.specs.Statements.{stated, all_stated};
+ghost use Rattle.e_theorem.specs.Statements.{as_view, as_views};
 ghost use Rattle.e_deriv.specs.Script.{script_of, bare_script};
 ghost use Rattle.e_deriv.specs.Parts.{filled_by};
 ghost use Rattle.e_deriv.specs.PlacedSteps.{proof_steps};
@@ -35,22 +35,22 @@ use std::mem;
 /// `prove` requires that each step of the script fits in its place, and so do the literals: those of
 /// a theorem that is read do.
 pub fn prove(alloc: Global, before: &[Statement], theorem: &Theorem) -> Result<Block, Stop>
-    requires { IsFitting (all_stated before.now) (stated theorem.now.statement)
+    requires { IsFitting (as_views before.now) (as_view theorem.now.statement)
         (script_of theorem.now.block) }
     ensures certified { IfOk result
-        (λ d. Certified (all_stated before.now) (stated theorem.now.statement) (script_of d)) }
+        (λ d. Certified (as_views before.now) (as_view theorem.now.statement) (script_of d)) }
     ensures script { IfOk result (λ d. bare_script (script_of d)
         ≡ filled_by (bare_script (script_of theorem.now.block)) (script_of d)) }
     ensures least { IfOk
-        result (λ d. AllLicensed (all_stated before.now) (proof_steps (all_stated before.now)
-        (stated theorem.now.statement) (script_of theorem.now.block) (script_of d))) }
+        result (λ d. AllLicensed (as_views before.now) (proof_steps (as_views before.now)
+        (as_view theorem.now.statement) (script_of theorem.now.block) (script_of d))) }
     ensures written { IfOk result
         (λ d. IsTrue (has_well_formed_literals (script_of theorem.now.block))
         → IsTrue (is_written_well (script_of d))) }
     ensures version { IfOk result (λ d. IsTrue (has_certs_of version.One (script_of d))) }
-    ensures stop { IfErr result (StopIs (all_stated before.now) (stated theorem.now.statement)
+    ensures stop { IfErr result (StopIs (as_views before.now) (as_view theorem.now.statement)
         (script_of theorem.now.block)) }
-    ensures names { IfErr result (HasNames (all_stated before.now) (stated theorem.now.statement)
+    ensures names { IfErr result (HasNames (as_views before.now) (as_view theorem.now.statement)
         theorem.now.names (script_of theorem.now.block)) }
 {
     let statement = &theorem.statement;

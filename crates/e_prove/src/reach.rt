@@ -3,7 +3,7 @@ ghost use Rattle.std.specs.Prelude.{◌≡◌, ◌+◌, ◌<◌, ◌≤◌, ◌^
 ghost use Rattle.e_literal.specs.Literal.{negation};
 ghost use Rattle.e_literal.specs.Facts.{with_fact};
 ghost use Rattle.e_clause.specs.LimitedFacts.{are_limited_facts};
-ghost use Rattle.e_theorem.specs.Statements.{all_stated};
+ghost use Rattle.e_theorem.specs.Statements.{as_views};
 ghost use Rattle.e_deriv.specs.Script.{Script, script_of, step_script};
 ghost use Rattle.e_deriv.specs.Script.{close_script, size as script_size};
 ghost use Rattle.e_prove.specs.Stops.{IsStopBefore};
@@ -50,15 +50,15 @@ pub fn reach(
     first: u32,
     target: u32,
 ) -> Result<(), Stop>
-    requires ready { IsReadyFor (all_stated before.now) (script_of block.now) state.old
+    requires ready { IsReadyFor (as_views before.now) (script_of block.now) state.old
         (goal_view goal.now) }
     requires few { first + script_size (script_of block.now) < 2 ^ 32 }
     requires from { first ≤ target }
     requires within { target < first + script_size (script_of block.now) }
-    ensures reached { OnOk result (ReachesStep (all_stated before.now) (script_of block.now)
+    ensures reached { OnOk result (ReachesStep (as_views before.now) (script_of block.now)
         state.old (goal_view goal.now) first target state.new) }
     ensures kept { OnOk result (KeepsHeld state.old state.new) }
-    ensures err { IfErr result (StopsWithin (all_stated before.now) (script_of block.now) state.old
+    ensures err { IfErr result (StopsWithin (as_views before.now) (script_of block.now) state.old
         (goal_view goal.now) first) }
     ensures earlier { IfErr result (IsStopBefore target) }
 {
@@ -93,14 +93,14 @@ fn enter_step(
     number: u32,
     target: u32,
 ) -> Result<(), Stop>
-    requires ready { IsReadyStep (all_stated before.now) step.now state.old number }
+    requires ready { IsReadyStep (as_views before.now) step.now state.old number }
     requires inside { number < target }
     requires within { (rest : Script)
         → target + script_size rest < number + script_size (step_script step.now rest) }
     ensures reached { OnOk result
-        (ReachesInStep (all_stated before.now) step.now state.old number target state.new) }
+        (ReachesInStep (as_views before.now) step.now state.old number target state.new) }
     ensures kept { OnOk result (KeepsHeld state.old state.new) }
-    ensures err { IfErr result (StopsInStep (all_stated before.now) step.now state.old number) }
+    ensures err { IfErr result (StopsInStep (as_views before.now) step.now state.old number) }
     ensures earlier { IfErr result (IsStopBefore target) }
 {
     match step {
@@ -146,15 +146,15 @@ fn enter_close(
     number: u32,
     target: u32,
 ) -> Result<(), Stop>
-    requires ready { IsReadyFor (all_stated before.now) (close_script close.now) state.old
+    requires ready { IsReadyFor (as_views before.now) (close_script close.now) state.old
         (goal_view goal.now) }
     requires few { number + script_size (close_script close.now) < 2 ^ 32 }
     requires inside { number < target }
     requires within { target < number + script_size (close_script close.now) }
-    ensures reached { OnOk result (ReachesStep (all_stated before.now) (close_script close.now)
+    ensures reached { OnOk result (ReachesStep (as_views before.now) (close_script close.now)
         state.old (goal_view goal.now) number target state.new) }
     ensures kept { OnOk result (KeepsHeld state.old state.new) }
-    ensures err { IfErr result (StopsWithin (all_stated before.now) (close_script close.now)
+    ensures err { IfErr result (StopsWithin (as_views before.now) (close_script close.now)
         state.old (goal_view goal.now) number) }
     ensures earlier { IfErr result (IsStopBefore target) }
 {
@@ -186,16 +186,16 @@ fn pass_first_case(
     state: &mut Place,
     first: u32,
 ) -> Result<(), Stop>
-    requires ready { IsReadyFor (all_stated before.now) (script_of block.now)
+    requires ready { IsReadyFor (as_views before.now) (script_of block.now)
         (after_literal lit.now state.old) (goal_view goal.now) }
     requires few { first + script_size (script_of block.now) < 2 ^ 32 }
-    requires second { (derived : Script) → IsDerivedFrom (all_stated before.now)
+    requires second { (derived : Script) → IsDerivedFrom (as_views before.now)
         (script_of block.now) (after_literal lit.now state.old) (goal_view goal.now) derived
         → IsTrue (are_limited_facts state.old.context.scope
         (with_fact state.old.context.facts (negation lit.now))) }
-    ensures passed { OnOk result (IsFirstPassed (all_stated before.now) lit.now
+    ensures passed { OnOk result (IsFirstPassed (as_views before.now) lit.now
         (script_of block.now) state.old (goal_view goal.now) state.new) }
-    ensures err { IfErr result (StopsWithin (all_stated before.now) (script_of block.now)
+    ensures err { IfErr result (StopsWithin (as_views before.now) (script_of block.now)
         (after_literal lit.now state.old) (goal_view goal.now) first) }
 {
     let outer = state.enter_block(alloc)?;

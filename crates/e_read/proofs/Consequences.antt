@@ -3,7 +3,7 @@ use Rattle.std.proofs.Common.{◌≡◌, ℕ, true, List, ◌++◌, None, Ok, Er
 use Rattle.std.specs.Prelude.{IfOk, IsTrue, filter}
 use Rattle.e_text.specs.Lines.{LineView, Ahead}
 use Rattle.e_text.specs.declared.line.LineFault.{LineFault}
-use Rattle.e_theorem.specs.Statements.{stated}
+use Rattle.e_theorem.specs.Statements.{as_view}
 use Rattle.e_clause.specs.declared.cert.Version.{Version}
 use Rattle.e_deriv.specs.Script.{Script, bare_script, script_of}
 use Rattle.e_deriv.specs.Versions.{has_certs_of}
@@ -49,9 +49,9 @@ reads_as_book v known last t lines rest e =
 pub text_spelled : (v : Version) (known : List TitledStatement) (last : ℕ) (lines rest : List (Result LineView LineFault)) (t : TheoremView) → piece_from known last (at_start v) lines ≡ derives t rest → HasSpelling known (without_certs t)
 text_spelled v known last lines rest t e = let b = bare_is v known last lines rest t e in subst (λ (x : TheoremView). HasSpelling known x) (sym b.same) b.spelled
 
-pub text_states : (v : Version) (known : List TitledStatement) (last : ℕ) (lines rest : List (Result LineView LineFault)) (t : TheoremView) → piece_from known last (at_start v) lines ≡ derives t rest → is_small_statement (stated t.statement) ≡ true
+pub text_states : (v : Version) (known : List TitledStatement) (last : ℕ) (lines rest : List (Result LineView LineFault)) (t : TheoremView) → piece_from known last (at_start v) lines ≡ derives t rest → is_small_statement (as_view t.statement) ≡ true
 text_states v known last lines rest t e = let b = bare_is v known last lines rest t e in
-    subst (λ (x : TheoremView). is_small_statement (stated x.statement) ≡ true) (sym b.same) (reading_states known last (filter is_of_theorem b.plain.front ++ rest) rest b.plain.entry b.plain.read)
+    subst (λ (x : TheoremView). is_small_statement (as_view x.statement) ≡ true) (sym b.same) (reading_states known last (filter is_of_theorem b.plain.front ++ rest) rest b.plain.entry b.plain.read)
 
 pub answer_spelled : (v : Version) (known : List TitledStatement) (last : ℕ) (lines : List (Result LineView LineFault)) (result : Result Piece TextFault) (new : Ahead) → TextReads known result new (piece_from known last (at_start v) lines)
     → IfOk result (OfTheorem (λ t. HasSpelling known (without_certs (entry_of t))))
@@ -67,7 +67,7 @@ answer_version v known last lines (Ok (pieces.Last n)) new e = tt
 answer_version v known last lines (Err f) new e = tt
 
 pub answer_states : (v : Version) (known : List TitledStatement) (last : ℕ) (lines : List (Result LineView LineFault)) (result : Result Piece TextFault) (new : Ahead) → TextReads known result new (piece_from known last (at_start v) lines)
-    → IfOk result (OfTheorem (λ t. IsTrue (is_small_statement (stated t.statement))))
+    → IfOk result (OfTheorem (λ t. IsTrue (is_small_statement (as_view t.statement))))
 answer_states v known last lines (Ok (pieces.Theorem t)) new e = text_states v known last lines new.lines (entry_of t) e
 answer_states v known last lines (Ok (pieces.Last n)) new e = tt
 answer_states v known last lines (Err f) new e = tt

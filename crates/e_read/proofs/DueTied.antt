@@ -5,7 +5,7 @@ use Rattle.e_literal.specs.declared.object.Obj.{Obj}
 use Rattle.e_literal.specs.declared.literal.Lit.{Lit}
 use Rattle.e_construct.specs.Construct.{needs_of_construction}
 use Rattle.e_construct.specs.Superposing as superposing
-use Rattle.e_theorem.specs.Statements.{stated}
+use Rattle.e_theorem.specs.Statements.{as_view}
 use Rattle.e_deriv.specs.declared.names.Names.{Names}
 use Rattle.e_deriv.specs.Goal.{Goal, goal_of_statement, goal_with}
 use Rattle.e_line.specs.declared.fault.FaultKind.{FaultKind}
@@ -63,10 +63,10 @@ same_due (Ok x) f g h = h x
 same_due (Err e) f g h = tt
 
 qed_same : (d : TheoremParser) (q r : Result (List Obj) FaultKind) → q ≡ r → SameDue ((q >>= λ objects. Ok (goal_with (open_goal d) objects)) >>= λ ls. Ok (one_each ls))
-    (r >>= λ objects. Ok (Certificates (goal_with (goal_inside (around_of d.blocks) (goal_of_statement (stated (statement_of_parser d)))) objects)))
-qed_same d (Ok x) r e = subst (λ (z : Result (List Obj) FaultKind). SameDue (Ok (one_each (goal_with (open_goal d) x))) (z >>= λ objects. Ok (Certificates (goal_with (goal_inside (around_of d.blocks) (goal_of_statement (stated (statement_of_parser d)))) objects)))) e
-    (ap (λ (g : Goal). one_each (goal_with g x)) (goal_alike d.blocks (goal_of_statement (stated (statement_of_parser d)))))
-qed_same d (Err k) r e = subst (λ (z : Result (List Obj) FaultKind). SameDue (Err k) (z >>= λ objects. Ok (Certificates (goal_with (goal_inside (around_of d.blocks) (goal_of_statement (stated (statement_of_parser d)))) objects)))) e tt
+    (r >>= λ objects. Ok (Certificates (goal_with (goal_inside (around_of d.blocks) (goal_of_statement (as_view (statement_of_parser d)))) objects)))
+qed_same d (Ok x) r e = subst (λ (z : Result (List Obj) FaultKind). SameDue (Ok (one_each (goal_with (open_goal d) x))) (z >>= λ objects. Ok (Certificates (goal_with (goal_inside (around_of d.blocks) (goal_of_statement (as_view (statement_of_parser d)))) objects)))) e
+    (ap (λ (g : Goal). one_each (goal_with g x)) (goal_alike d.blocks (goal_of_statement (as_view (statement_of_parser d)))))
+qed_same d (Err k) r e = subst (λ (z : Result (List Obj) FaultKind). SameDue (Err k) (z >>= λ objects. Ok (Certificates (goal_with (goal_inside (around_of d.blocks) (goal_of_statement (as_view (statement_of_parser d)))) objects)))) e tt
 
 in_block : (known : List TitledStatement) (d : TheoremParser) (f : RawLine) → SameDue (due_of known d f) (due_in_block known d.in_scope (head_of d) (around_of d.blocks) f)
 unfolding due_of due_in_block needs_at_qed needs.needs_of_raw_apply owing.needs_of_raw_apply

@@ -8,7 +8,7 @@ use Rattle.e_literal.specs.Scopes.{same_sort}
 use Rattle.e_literal.specs.Use.{StatementView, use_of}
 use Rattle.e_construct.specs.Construct.{needs_of_construction}
 use Rattle.e_construct.specs.Superposing as superposing
-use Rattle.e_theorem.specs.Statements.{stated}
+use Rattle.e_theorem.specs.Statements.{as_view}
 use Rattle.e_deriv.specs.declared.names.Names.{Names}
 use Rattle.e_deriv.specs.Goal.{Goal, goal_of, goal_of_statement, goal_with}
 use Rattle.e_line.specs.declared.fault.FaultKind.{FaultKind}
@@ -62,7 +62,7 @@ due_in_block known ns h around (rawlines.Superpose raw) =
     superpose_in ns raw >>= λ p. Ok (Certificates (superposing.needs_of_superposition p.0))
 due_in_block known ns h around (rawlines.Qed names) =
     qed_in ns (made_inside around h.statement.made) names >>= λ objects. Ok (Certificates
-    (goal_with (goal_inside around (goal_of_statement (stated h.statement))) objects))
+    (goal_with (goal_inside around (goal_of_statement (as_view h.statement))) objects))
 due_in_block known ns h around rawlines.Contradiction = Ok OfContradiction
 due_in_block known ns h around f = Ok Nothing
 

@@ -5,7 +5,7 @@ ghost use Rattle.std.specs.Option.{option_map};
 ghost use Rattle.std.specs.List.{list_all};
 ghost use Rattle.e_literal.specs.Rename;
 ghost use Rattle.e_literal.specs.Rename.{image_in, pairs_of};
-ghost use Rattle.e_theorem.specs.Statements.{stated};
+ghost use Rattle.e_theorem.specs.Statements.{as_view};
 ghost use Rattle.e_deriv.specs.Fitting.{is_small_statement};
 ghost use Rattle.e_deriv.specs.Goal;
 ghost use Rattle.e_deriv.specs.Goal.{goal_of_statement};
@@ -73,7 +73,7 @@ fn needs_in(
     requires points { scope.points < 2 ^ 15 }
     requires lines { scope.lines < 2 ^ 15 }
     requires circles { scope.circles < 2 ^ 15 }
-    ensures { Gives (λ l. l) result (needs_in scope (stated statement.now) pattern.now) }
+    ensures { Gives (λ l. l) result (needs_in scope (as_view statement.now) pattern.now) }
 {
     let args = args_without_blank(alloc, pattern)?;
     match use_of(alloc, statement, args.items(), scope) {
@@ -146,7 +146,7 @@ fn whole_goal_with(
     requires parser { FitsParser parser.now }
     requires sorts { map (λ o. o.sort) objects.now ≡ parser.now.made }
     ensures { IfOk result (λ ls. ls ≡ Goal.goal_with
-        (goal_of_statement (stated (statement_of_parser parser.now))) objects.now) }
+        (goal_of_statement (as_view (statement_of_parser parser.now))) objects.now) }
 {
     let declared = with_sorts(NOTHING, parser.declared.items());
     let made = next_objects(alloc, declared, parser.made.items())?;

@@ -2,7 +2,7 @@
 ghost use Rattle.std.specs.Prelude.{◌≡◌, ◌≤◌, ◌<◌, ◌-◌, ◌^◌, length, IfOk, OnOk, OnSome, IsTrue};
 ghost use Rattle.std.specs.List.{list_all};
 ghost use Rattle.e_text.specs.Lines.{view_of_line};
-ghost use Rattle.e_theorem.specs.Statements.{stated};
+ghost use Rattle.e_theorem.specs.Statements.{as_view};
 ghost use Rattle.e_deriv.specs.Script.{script_of};
 ghost use Rattle.e_deriv.specs.Fitting.{is_small_statement};
 ghost use Rattle.e_deriv.specs.Versions.{has_certs_of};
@@ -200,7 +200,7 @@ pub fn read(
         (OfTheorem (λ t. IsTrue (has_certs_of version (script_of t.block)))) }
     // its literals speak of its own objects
     ensures states { IfOk result
-        (OfTheorem (λ t. IsTrue (is_small_statement (stated t.statement)))) }
+        (OfTheorem (λ t. IsTrue (is_small_statement (as_view t.statement)))) }
 {
     read_piece(alloc, lines, known, version)
 }

@@ -11,7 +11,7 @@ use Rattle.e_clause.specs.declared.cert.Version.{Version}
 use Rattle.e_clause.specs.declared.cert.Version.TheVariants.{One}
 use Rattle.e_theorem.specs.declared.notion.Notion.{Notion}
 use Rattle.e_theorem.specs.Notions.{literals_of_notion}
-use Rattle.e_theorem.specs.Statements.{stated}
+use Rattle.e_theorem.specs.Statements.{as_view}
 use Rattle.e_deriv.specs.Script.{Script, bare_script}
 use Rattle.e_deriv.specs.Parts.{filled_by}
 use Rattle.e_deriv.specs.Certified.{Certified}
@@ -119,7 +119,7 @@ abbrev pub FilledHasSpelling : Type 0
 FilledHasSpelling =
     (known : List TitledStatement) (t : TheoremView) (d : Script) → HasSpelling known t
     → bare_script d ≡ filled_by (bare_script t.script) d
-    → Certified (stated_by known) (stated t.statement) d
+    → Certified (stated_by known) (as_view t.statement) d
     → HasSpelling known (record t { script = bare_script d })
 
 -- and so it still can when the idle steps of a certified derivation of the first version are left
@@ -129,9 +129,9 @@ TrimmedHasSpelling =
     (known : List TitledStatement) (t : TheoremView)
     → IsTrue (list_all is_small_statement (stated_by known))
     → HasSpelling known (record t { script = bare_script t.script }) → IsTrue (has_certs_of One t.script)
-    → Certified (stated_by known) (stated t.statement) t.script → HasSpelling known
+    → Certified (stated_by known) (as_view t.statement) t.script → HasSpelling known
     (record t {
-      script = bare_script (trimmed_script (stated_by known) (stated t.statement) t.script);
+      script = bare_script (trimmed_script (stated_by known) (as_view t.statement) t.script);
     })
 
 -- ---- what is written is judged

@@ -4,7 +4,7 @@ use Rattle.e_text.specs.Lines.{LineView}
 use Rattle.e_text.specs.declared.line.LineEnd.TheVariants.{Lf}
 use Rattle.e_text.specs.declared.line.LineFault.{LineFault}
 use Rattle.e_clause.specs.declared.cert.Version.{Version}
-use Rattle.e_theorem.specs.Statements.{stated}
+use Rattle.e_theorem.specs.Statements.{as_view}
 use Rattle.e_deriv.specs.Script.{Script, bare_script}
 use Rattle.e_deriv.specs.Versions.{has_certs_of}
 use Rattle.e_names.specs.TitledStatements.{TitledStatement, stated_by}
@@ -29,6 +29,6 @@ pub record CanBeSpelled (v : Version) (known : List TitledStatement) (t : Theore
   -- the theorem has a spelling, with the derivation's script for its own
   pub plain : HasSpelling known (record t { script = bare_script d })
   -- each line has as many certificates as it owes, each of the form that lines can have
-  pub formed : Formed (stated_by known) (stated t.statement) d
+  pub formed : Formed (stated_by known) (as_view t.statement) d
   -- its certificates are of the version
   pub version : IsTrue (has_certs_of v d)

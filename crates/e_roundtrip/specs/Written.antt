@@ -1,7 +1,7 @@
 -- The text of derivations that follow one another.
 use Rattle.std.specs.Prelude.{◌≡◌, ℕ, List, [], ◌∷◌, ◌++◌, length, codes, decimal, Result, Ok, Err}
 use Rattle.e_clause.specs.declared.cert.Version.{Version}
-use Rattle.e_theorem.specs.Statements.{stated}
+use Rattle.e_theorem.specs.Statements.{as_view}
 use Rattle.e_deriv.specs.Script.{Script}
 use Rattle.e_deriv.specs.Proves.{IsProof}
 use Rattle.e_deriv.specs.Certified.{Certified, verdict}
@@ -24,7 +24,7 @@ AllCanBeSpelled v known (p ∷ ps) =
 pub record CanBeVerified (v : Version) (known : List TitledStatement) (t : TheoremView)
     (d : Script) : Type 0 where
   pub spelled : CanBeSpelled v known t d
-  pub certified : Certified (stated_by known) (stated t.statement) d
+  pub certified : Certified (stated_by known) (as_view t.statement) d
 
 -- theorems, each with a derivation of it: each where those before it are known
 abbrev pub AllCanBeVerified : Version → List TitledStatement → List (TheoremView × Script) → Type 0
@@ -42,7 +42,7 @@ judged_after title (Err step) after = Bad title step
 abbrev pub judgement_of : List TitledStatement → List (TheoremView × Script) → Judgement
 judgement_of known [] = Verified (length known)
 judgement_of known (p ∷ ps) =
-    judged_after p.0.title (verdict (stated_by known) (stated p.0.statement) p.1)
+    judged_after p.0.title (verdict (stated_by known) (as_view p.0.statement) p.1)
     (judgement_of (with_theorem known p.0) ps)
 
 -- the blocks of derivations, one after the other
@@ -70,7 +70,7 @@ entry_with p = record p.0 { script = p.1 }
 abbrev pub AllProved : List TitledStatement → List (TheoremView × Script) → Type 0
 AllProved known [] = Unit {0}
 AllProved known (p ∷ ps) =
-    IsProof (stated_by known) (stated p.0.statement) p.1 × AllProved (with_theorem known p.0) ps
+    IsProof (stated_by known) (as_view p.0.statement) p.1 × AllProved (with_theorem known p.0) ps
 
 -- the text is the head line of its version, the spellings of this many theorems, each with a
 -- derivation that proves it, and the line with their number

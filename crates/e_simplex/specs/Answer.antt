@@ -81,15 +81,15 @@ IsAbsurdity rows (Two row above below) = RefutesBoth rows row above.items below.
 -- ---- values
 
 -- the number of the term in a list of pairs, or 0
-abbrev pub assigned : List (Term × ℕ) → Term → ℕ
-assigned [] t = 0
-assigned (p ∷ ps) t = cond (term_eq t p.0) p.1 (assigned ps t)
+abbrev pub assigned_value : List (Term × ℕ) → Term → ℕ
+assigned_value [] t = 0
+assigned_value (p ∷ ps) t = cond (term_eq t p.0) p.1 (assigned_value ps t)
 
 -- values for the terms of the rows, each once, that satisfy every row
 pub record AreValuesOf (rows : List Row) (pairs : List (Term × ℕ)) : Type 0 where
   pub once : AreOnce (map (λ p. p.0) pairs)
   pub all : AllNamed (map (λ p. p.0) pairs) rows
-  pub satisfy : Satisfy (assigned pairs) rows
+  pub satisfy : Satisfy (assigned_value pairs) rows
 
 -- multipliers that refute the rows, which have no solution
 pub record IsRefuted (rows : List Row) (absurdity : Absurdity) : Type 0 where

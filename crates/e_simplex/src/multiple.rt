@@ -3,7 +3,7 @@
 ghost use Rattle.std.specs.Prelude.{◌≡◌, ◌≢◌, ℕ, ◌+◌, ◌^◌, ◌<◌, ◌≤◌, ◌+ℤ◌, ◌*ℤ◌, pos, length};
 ghost use Rattle.std.specs.Prelude.{get_or, unsigned_abs, MatchOption, IfOk};
 ghost use Rattle.e_fraction.specs.Limits.{most_rows_of_system};
-ghost use Rattle.e_simplex.specs.inner.Multiple.{IsBad, NoneIsZero, added, AddedTo};
+ghost use Rattle.e_simplex.specs.inner.Multiple.{IsBad, NoneIsZero, entry_with_multiple, AddedTo};
 
 use std::alloc::{AllocError, Global};
 
@@ -24,7 +24,7 @@ fn added_at(first: &[i128], second: &[i128], t: usize, j: usize) -> i128
     requires few { t < 2 ^ 13 }
     requires small_first { unsigned_abs (get_or first.now j (pos 0)) < 2 ^ 90 }
     requires small_second { unsigned_abs (get_or second.now j (pos 0)) < 2 ^ 65 }
-    ensures { result ≡ added first.now second.now t j }
+    ensures { result ≡ entry_with_multiple first.now second.now t j }
 {
     with_multiple(first[j], second[j], t)
 }

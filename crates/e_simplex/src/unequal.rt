@@ -7,7 +7,7 @@ ghost use Rattle.e_simplex.specs.Entries.{AllSmall};
 ghost use Rattle.e_simplex.specs.Constraints.{IsSmallConstraint, AllSmallConstraints};
 ghost use Rattle.e_simplex.specs.Constraints.{AllFormsWithin};
 ghost use Rattle.e_simplex.specs.Solved.{IsSolved, IsFit, columns_of, constraints_of};
-ghost use Rattle.e_simplex.specs.inner.Tried.{negated, IsTried, AreValues, AreBelowBut};
+ghost use Rattle.e_simplex.specs.inner.Tried.{neg_form, IsTried, AreValues, AreBelowBut};
 ghost use Rattle.e_simplex.specs.inner.Tried.{IsLargeAt};
 
 use crate::constraints::{Constraint, ConstraintSense, Monomial, value_of};
@@ -41,7 +41,7 @@ fn negated_monomial(x: &Monomial) -> Monomial
 fn less_than_zero(alloc: Global, constraint: &Constraint) -> Result<Constraint, AllocError>
     requires { IsSmallConstraint constraint.now }
     ensures sense { IfOk result (λ l. l.sense ≡ More) }
-    ensures form { IfOk result (λ l. l.form ≡ negated constraint.now.form) }
+    ensures form { IfOk result (λ l. l.form ≡ neg_form constraint.now.form) }
 {
     let mut form = Vec::with_capacity(alloc, constraint.form.items().len())?;
     for x in constraint.form.items() {

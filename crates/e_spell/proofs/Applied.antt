@@ -5,9 +5,9 @@ use Rattle.std.proofs.lemmas.Grind.{common_steps}
 use Rattle.std.proofs.lemmas.List.{get_or_past, length-map}
 use Rattle.std.proofs.lemmas.Option.{get_or_from_slice_get, slice_get_past}
 use Rattle.e_literal.specs.declared.object.Sort.{Sort}
-use Rattle.e_theorem.specs.Statements.{stated}
+use Rattle.e_theorem.specs.Statements.{as_view}
 use Rattle.e_deriv.specs.declared.names.Names.{Names}
-use Rattle.e_deriv.specs.Naming.{named}
+use Rattle.e_deriv.specs.Naming.{with_new_names}
 use Rattle.e_deriv.specs.PlacedSteps.{no_statement}
 use Rattle.e_names.specs.TitledStatements.{TitledStatement, titles, statements, stated_by, title_at, theorem_of}
 
@@ -23,10 +23,10 @@ pub ruleset titles_at = (common_steps, title_found, title_past)
 pub none_made : (known : List TitledStatement) (k : ℕ) → length known ≤ k → (theorem_of known k).made ≡ []
 none_made known k le =
     let all = stated_by known in
-    let past : length all ≤ k = omega (arith, length-map (statements known) stated, length-map known (λ (h : TitledStatement). h.statement)) in
+    let past : length all ≤ k = omega (arith, length-map (statements known) as_view, length-map known (λ (h : TitledStatement). h.statement)) in
     ap (λ o. (unwrap_or o no_statement).made) (slice_get_past all k past)
 
-pub none_named : (known : List TitledStatement) (k : ℕ) (ns : Names) (names : List (List ℕ)) → length known ≤ k → named ns (theorem_of known k).made names ≡ ns
-none_named known k ns names le = ap (λ (s : List Sort). named ns s names) (none_made known k le)
+pub none_named : (known : List TitledStatement) (k : ℕ) (ns : Names) (names : List (List ℕ)) → length known ≤ k → with_new_names ns (theorem_of known k).made names ≡ ns
+none_named known k ns names le = ap (λ (s : List Sort). with_new_names ns s names) (none_made known k le)
 
 pub ruleset made_past = (common_steps, none_named)

@@ -9,7 +9,7 @@ use Rattle.e_deriv.specs.declared.names.Names.{Names}
 use Rattle.e_deriv.specs.Naming.{first_names}
 use Rattle.e_deriv.specs.Script.{Script}
 use Rattle.e_theorem.specs.declared.statement.Statement.{Statement}
-use Rattle.e_theorem.specs.Statements.{stated}
+use Rattle.e_theorem.specs.Statements.{as_view}
 use Rattle.e_line.specs.declared.raw_line.RawLine.{RawLine}
 use Rattle.e_line.specs.declared.raw_line.RawLine.TheVariants as rawlines
 use Rattle.e_names.specs.TitledStatements.{TitledStatement}
@@ -81,7 +81,7 @@ spelled_parts known t d =
 
 -- the parts as they are written one after another
 pub parts_in_turn : (known : List TitledStatement) (t : TheoremView) (d : Script) (scope : Scope) (ns : Names) (none head block all : List ℕ)
-    → none ≡ [] → head ≡ none ++ head_text t.title t.names t.statement → scope ≡ scope_of (stated t.statement) → ns ≡ first_names scope t.names
+    → none ≡ [] → head ≡ none ++ head_text t.title t.names t.statement → scope ≡ scope_of (as_view t.statement) → ns ≡ first_names scope t.names
     → block ≡ head ++ script_text known ns d → all ≡ block ++ raw_line_text end_raw_line → all ≡ spelling known t d
 parts_in_turn known t d scope ns none head block all en eh es em eb ea =
     let is_head : head ≡ head_text t.title t.names t.statement = eh ∙ ap (λ (x : List ℕ). x ++ head_text t.title t.names t.statement) en in

@@ -8,7 +8,7 @@ use Rattle.e_clause.specs.declared.cert.Cert.{Cert}
 use Rattle.e_deriv.specs.declared.names.Names.{Names}
 use Rattle.e_construct.specs.Construct.{sorts_made}
 use Rattle.e_construct.specs.Superposing as superposing
-use Rattle.e_deriv.specs.Naming.{named}
+use Rattle.e_deriv.specs.Naming.{with_new_names}
 use Rattle.e_deriv.specs.Script.{Script, Cite, Hence, Make, Apply, Claim, Superposed, Qed, Contradiction, Cases, bare_script}
 use Rattle.e_line.specs.declared.raw_line.RawLine.{RawLine}
 use Rattle.e_line.specs.declared.raw_line.RawLine.TheVariants as rawlines
@@ -70,16 +70,16 @@ script_stays known ns (Cite by rest) = ap (λ (x : List (List ℕ)). line_of (by
 script_stays known ns (Hence lit cert rest) =
     ap (λ (x : List (List ℕ)). line_of (hence_raw_line ns lit) ∷ x) (certified_stay ns (option_to_list cert) (script_lines known ns rest) ∙ script_stays known ns rest)
 script_stays known ns (Make construction names cs rest) =
-    let after = named ns (sorts_made construction) names in
+    let after = with_new_names ns (sorts_made construction) names in
     ap (λ (x : List (List ℕ)). line_of (let_raw_line ns construction names) ∷ x) (certified_stay ns cs (script_lines known after rest) ∙ script_stays known after rest)
 script_stays known ns (Apply theorem args names cs rest) =
-    let after = named ns (theorem_of known theorem).made names in
+    let after = with_new_names ns (theorem_of known theorem).made names in
     ap (λ (x : List (List ℕ)). line_of (apply_raw_line known ns theorem args names) ∷ x) (certified_stay ns cs (script_lines known after rest) ∙ script_stays known after rest)
 script_stays known ns (Claim shown inner rest) =
     ap (λ (x : List (List ℕ)). line_of (claim_raw_line ns shown) ∷ x)
     (both_stay (script_lines known ns inner) (script_lines known ns rest) (script_raw_lines known ns (bare_script inner)) (script_raw_lines known ns (bare_script rest)) (script_stays known ns inner) (script_stays known ns rest))
 script_stays known ns (Superposed superposition names shown cs inner rest) =
-    let inside = named ns superposing.sorts_copied names in
+    let inside = with_new_names ns superposing.sorts_copied names in
     ap (λ (x : List (List ℕ)). line_of (superpose_raw_line ns superposition names shown) ∷ x)
     (certified_stay ns cs (script_lines known inside inner ++ script_lines known ns rest)
     ∙ both_stay (script_lines known inside inner) (script_lines known ns rest) (script_raw_lines known inside (bare_script inner)) (script_raw_lines known ns (bare_script rest)) (script_stays known inside inner) (script_stays known ns rest))

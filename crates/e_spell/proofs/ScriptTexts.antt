@@ -9,7 +9,7 @@ use Rattle.e_clause.specs.declared.cert.Cert.{Cert}
 use Rattle.e_construct.specs.Construct.{sorts_made}
 use Rattle.e_construct.specs.Superposing as superposing
 use Rattle.e_deriv.specs.declared.names.Names.{Names}
-use Rattle.e_deriv.specs.Naming.{named}
+use Rattle.e_deriv.specs.Naming.{with_new_names}
 use Rattle.e_deriv.specs.declared.block.Step.{Step}
 use Rattle.e_deriv.specs.Script.{Script, Qed, Contradiction, Cases, steps_script}
 use Rattle.e_deriv.specs.PlainStep.{PlainStep, Cited, Inferred, Made, Applied, Claimed, Copied, plain_step, before}
@@ -42,9 +42,9 @@ before_text : (known : List TitledStatement) (ns : Names) (s : PlainStep) (rest 
 unfolding script_text script_lines superposition_text
 before_text known ns (Cited by) rest = refl
 before_text known ns (Inferred lit cert) rest = line_certified (hence_raw_line ns lit) ns (option_to_list cert) (script_lines known ns rest)
-before_text known ns (Made construction names certs) rest = line_certified (let_raw_line ns construction names) ns certs (script_lines known (named ns (sorts_made construction) names) rest)
+before_text known ns (Made construction names certs) rest = line_certified (let_raw_line ns construction names) ns certs (script_lines known (with_new_names ns (sorts_made construction) names) rest)
 before_text known ns (Applied theorem args names certs) rest =
-    line_certified (apply_raw_line known ns theorem args names) ns certs (script_lines known (named ns (theorem_of known theorem).made names) rest)
+    line_certified (apply_raw_line known ns theorem args names) ns certs (script_lines known (with_new_names ns (theorem_of known theorem).made names) rest)
 before_text known ns (Claimed shown inner) rest =
     let line = raw_line_text (claim_raw_line ns shown) in
     let inside = script_lines known ns inner in
@@ -52,7 +52,7 @@ before_text known ns (Claimed shown inner) rest =
     ap (λ (t : List ℕ). line ++ t) (of_lines inside after) ∙ sym (append_assoc line (text_of inside) (text_of after))
 before_text known ns (Copied superposition names shown certs inner) rest =
     let line = raw_line_text (superpose_raw_line ns superposition names shown) in
-    let inside = script_lines known (named ns superposing.sorts_copied names) inner in
+    let inside = script_lines known (with_new_names ns superposing.sorts_copied names) inner in
     let after = script_lines known ns rest in
     ap (λ (t : List ℕ). line ++ t) (of_certified ns certs (inside ++ after) ∙ ap (λ (t : List ℕ). certs_text ns certs ++ t) (of_lines inside after) ∙ sym (append_assoc (certs_text ns certs) (text_of inside) (text_of after)))
     ∙ sym (append_assoc line (certs_text ns certs ++ text_of inside) (text_of after))

@@ -11,7 +11,7 @@ use Rattle.e_deriv.specs.declared.stop.Stop.{Stop}
 use Rattle.e_deriv.specs.declared.stop.Stop.TheVariants.{Unlicensed, TooWide, NoMemory}
 use Rattle.e_construct.specs.Construct.{sorts_made}
 use Rattle.e_construct.specs.Superposing as superposing
-use Rattle.e_deriv.specs.Naming.{named}
+use Rattle.e_deriv.specs.Naming.{with_new_names}
 use Rattle.e_deriv.specs.Script.{Script, Cite, Hence, Make, Apply, Claim, Superposed, Qed}
 use Rattle.e_deriv.specs.Script.{Contradiction, Cases}
 use Rattle.e_names.specs.TitledStatements.{TitledStatement, theorem_of}
@@ -35,16 +35,16 @@ script_lines known ns (Hence lit cert rest) =
     line_of (hence_raw_line ns lit)
     ∷ (certs_lines ns (option_to_list cert) ++ script_lines known ns rest)
 script_lines known ns (Make construction names certs rest) =
-    line_of (let_raw_line ns construction names)
-    ∷ (certs_lines ns certs ++ script_lines known (named ns (sorts_made construction) names) rest)
+    line_of (let_raw_line ns construction names) ∷ (certs_lines ns certs
+    ++ script_lines known (with_new_names ns (sorts_made construction) names) rest)
 script_lines known ns (Apply theorem args names certs rest) =
     line_of (apply_raw_line known ns theorem args names) ∷ (certs_lines ns certs
-    ++ script_lines known (named ns (theorem_of known theorem).made names) rest)
+    ++ script_lines known (with_new_names ns (theorem_of known theorem).made names) rest)
 script_lines known ns (Claim shown inner rest) =
     line_of (claim_raw_line ns shown) ∷ (script_lines known ns inner ++ script_lines known ns rest)
 script_lines known ns (Superposed superposition names shown certs inner rest) =
-    line_of (superpose_raw_line ns superposition names shown)
-    ∷ (certs_lines ns certs ++ (script_lines known (named ns superposing.sorts_copied names) inner
+    line_of (superpose_raw_line ns superposition names shown) ∷ (certs_lines ns certs
+    ++ (script_lines known (with_new_names ns superposing.sorts_copied names) inner
     ++ script_lines known ns rest))
 script_lines known ns (Qed objects certs) = line_of (qed_raw_line ns objects) ∷ certs_lines ns certs
 script_lines known ns (Contradiction against) =

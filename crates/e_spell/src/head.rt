@@ -1,7 +1,7 @@
 //! The lines of a theorem before its proof.
 ghost use Rattle.std.specs.Prelude.{◌≡◌, ◌++◌, ◌∷◌, [], codes, IfOk, OnOk};
 ghost use Rattle.e_literal.specs.Use.{scope_of};
-ghost use Rattle.e_theorem.specs.Statements.{stated};
+ghost use Rattle.e_theorem.specs.Statements.{as_view};
 ghost use Rattle.e_spell.specs.inner.Counts.{scope_of_counts};
 ghost use Rattle.e_spell.specs.inner.Parts.{title_text, statement_text, head_text};
 
@@ -30,7 +30,7 @@ fn put_statement(
 ) -> Result<Counts, AllocError>
     ensures text { OnOk result
         (out.new.items ≡ out.old.items ++ statement_text names.now statement.now) }
-    ensures declared { IfOk result (λ c. scope_of_counts c ≡ scope_of (stated statement.now)) }
+    ensures declared { IfOk result (λ c. scope_of_counts c ≡ scope_of (as_view statement.now)) }
 {
     let none = Counts {
         points: 0,
@@ -55,7 +55,7 @@ pub(crate) fn put_head(
 ) -> Result<Counts, AllocError>
     ensures text { OnOk result
         (out.new.items ≡ out.old.items ++ head_text title names.now statement.now) }
-    ensures declared { IfOk result (λ c. scope_of_counts c ≡ scope_of (stated statement.now)) }
+    ensures declared { IfOk result (λ c. scope_of_counts c ≡ scope_of (as_view statement.now)) }
 {
     put_title(out, title)?;
     let declared = put_statement(alloc, out, names, statement)?;

@@ -1,7 +1,7 @@
 //! The names of the objects in scope while the lines of a proof are written.
 ghost use Rattle.std.specs.Prelude.{◌≡◌, take, IfOk, OnOk};
 ghost use Rattle.e_construct.specs.Superposing.{sorts_copied};
-ghost use Rattle.e_deriv.specs.Naming.{first_names, named};
+ghost use Rattle.e_deriv.specs.Naming.{first_names, with_new_names};
 ghost use Rattle.e_deriv.specs.PlainStep.{plain_step};
 ghost use Rattle.e_names.specs.TitledStatements.{theorem_of};
 ghost use Rattle.e_spell.specs.inner.Counts.{scope_of_counts};
@@ -41,7 +41,7 @@ pub(crate) fn with_copies(
     superposition: Superpose,
     copies: &[Name],
 ) -> Result<Names, AllocError>
-    ensures { IfOk result (λ n. n ≡ named names.now sorts_copied copies.now) }
+    ensures { IfOk result (λ n. n ≡ with_new_names names.now sorts_copied copies.now) }
 {
     let mut inside = names.copy(alloc)?;
     match put_names(&mut inside, superposition.made(), copies) {
@@ -61,7 +61,7 @@ fn name_shown(
     place: usize,
     new: &[Name],
 ) -> Result<(), AllocError>
-    ensures { OnOk result (names.new ≡ named names.old (theorem_of known.now place).made new.now) }
+    ensures { OnOk result (names.new ≡ with_new_names names.old (theorem_of known.now place).made new.now) }
 {
     if place < known.len() {
         put_names(names, known.statement(place).made.items(), new)

@@ -1,7 +1,7 @@
 //! The good choices of arguments for a statement.
 ghost use Rattle.std.specs.Prelude.{◌≡◌, ◌≤◌, IsTrue, IfOk, OnOk, length, replicate, None};
 ghost use Rattle.e_literal.specs.Use.{is_statement};
-ghost use Rattle.e_theorem.specs.Statements.{stated};
+ghost use Rattle.e_theorem.specs.Statements.{as_view};
 ghost use Rattle.e_licence.specs.Verdicts.{AreRight};
 ghost use Rattle.e_suggest.specs.Suggestions.{SuggestedIs};
 
@@ -24,9 +24,9 @@ pub fn all(
     most: usize,
 ) -> Result<FirstChoices, AllocError>
     requires memory { AreRight context.now memory.old }
-    requires states { IsTrue (is_statement (stated statement.now)) }
+    requires states { IsTrue (is_statement (as_view statement.now)) }
     requires few { length statement.now.declared ≤ 6 }
-    ensures suggested { IfOk result (SuggestedIs (stated statement.now) context.now most) }
+    ensures suggested { IfOk result (SuggestedIs (as_view statement.now) context.now most) }
     ensures memory { OnOk result (AreRight context.now memory.new) }
 {
     let pattern = only_blanks(alloc, statement.declared.len())?;

@@ -44,8 +44,37 @@ impl Model for Spelling {
 }
 
 impl Spelling {
-    /// The spelling of this token.
+    /// The spelling of this token. Most names have one letter, two or three, for which no call of
+    /// a copy is needed.
     pub fn new(token: &[u8]) -> Self
+        requires { length token.now ≤ 24 }
+        ensures { result ≡ token.now }
+    {
+        match token {
+            [a] => Spelling {
+                bytes: [
+                    *a, 0, 0, 0, 0, 0, 0, 0, 0, 0, 0, 0, 0, 0, 0, 0, 0, 0, 0, 0, 0, 0, 0, 0,
+                ],
+                len: 1,
+            },
+            [a, b] => Spelling {
+                bytes: [
+                    *a, *b, 0, 0, 0, 0, 0, 0, 0, 0, 0, 0, 0, 0, 0, 0, 0, 0, 0, 0, 0, 0, 0, 0,
+                ],
+                len: 2,
+            },
+            [a, b, c] => Spelling {
+                bytes: [
+                    *a, *b, *c, 0, 0, 0, 0, 0, 0, 0, 0, 0, 0, 0, 0, 0, 0, 0, 0, 0, 0, 0, 0, 0,
+                ],
+                len: 3,
+            },
+            _ => Spelling::copy_of(token),
+        }
+    }
+
+    /// The spelling of any token.
+    fn copy_of(token: &[u8]) -> Self
         requires { length token.now ≤ 24 }
         ensures { result ≡ token.now }
     {

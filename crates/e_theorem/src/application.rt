@@ -8,7 +8,7 @@ ghost use Rattle.e_literal.specs.Rename.{image_in, with_images as at_images};
 ghost use Rattle.e_literal.specs.Scopes;
 ghost use Rattle.e_literal.specs.Use.{are_arguments, image_in_use, needs_of_use, gives_of_use};
 ghost use Rattle.e_literal.specs.Use.{scope_of};
-ghost use Rattle.e_theorem.specs.Statements.{stated};
+ghost use Rattle.e_theorem.specs.Statements.{as_view};
 ghost use Rattle.e_theorem.specs.Faults.{UseFaultIs};
 ghost use Rattle.e_theorem.specs.Notions.{as_stated, literals_of_notion};
 ghost use Rattle.e_theorem.specs.declared.application.UseFault.TheVariants.{NoMemory};
@@ -63,12 +63,12 @@ pub fn use_of(
     requires points { scope.points + length statement.now.made < 2 ^ 16 }
     requires lines { scope.lines + length statement.now.made < 2 ^ 16 }
     requires circles { scope.circles + length statement.now.made < 2 ^ 16 }
-    ensures fit { IfOk result (λ _. IsTrue (are_arguments (stated statement.now) scope args.now)) }
+    ensures fit { IfOk result (λ _. IsTrue (are_arguments (as_view statement.now) scope args.now)) }
     ensures needs { IfOk result
-        (λ a. a.needs ≡ needs_of_use (stated statement.now) args.now scope) }
+        (λ a. a.needs ≡ needs_of_use (as_view statement.now) args.now scope) }
     ensures gives { IfOk result
-        (λ a. a.gives ≡ gives_of_use (stated statement.now) args.now scope) }
-    ensures err { IfErr result (UseFaultIs (stated statement.now) args.now scope) }
+        (λ a. a.gives ≡ gives_of_use (as_view statement.now) args.now scope) }
+    ensures err { IfErr result (UseFaultIs (as_view statement.now) args.now scope) }
 {
     if !are_of_sorts(scope, statement.declared.items(), args) {
         return Err(UseFault::BadArgs);
@@ -145,13 +145,13 @@ fn images(
     args: &[Obj],
     scope: Scope,
 ) -> Result<Map, AllocError>
-    requires fit { IsTrue (are_arguments (stated statement.now) scope args.now) }
+    requires fit { IsTrue (are_arguments (as_view statement.now) scope args.now) }
     requires few { length statement.now.declared + length statement.now.made < 2 ^ 16 }
     requires points { scope.points + length statement.now.made < 2 ^ 16 }
     requires lines { scope.lines + length statement.now.made < 2 ^ 16 }
     requires circles { scope.circles + length statement.now.made < 2 ^ 16 }
     ensures { IfOk result
-        (λ m. (o : Object) → image_in m o ≡ image_in_use (stated statement.now) args.now scope o) }
+        (λ m. (o : Object) → image_in m o ≡ image_in_use (as_view statement.now) args.now scope o) }
 {
     let sources = objects(alloc, statement)?;
     let mut targets = Vec::from_slice(alloc, args)?;
@@ -165,7 +165,7 @@ fn objects(alloc: Global, statement: &Statement) -> Result<Vec<Obj>, AllocError>
     requires few { length statement.now.declared + length statement.now.made < 2 ^ 16 }
     ensures { IfOk result
         (λ os. os.items ≡ Scopes.next_objects Scopes.nothing statement.now.declared
-        ++ Scopes.next_objects (scope_of (stated statement.now)) statement.now.made) }
+        ++ Scopes.next_objects (scope_of (as_view statement.now)) statement.now.made) }
 {
     let declared = statement.declared.items();
     let mut objects = next_objects(alloc, NOTHING, declared)?;
@@ -182,7 +182,7 @@ fn at(alloc: Global, lits: &[Lit], images: &Map) -> Result<Items<Lit>, AllocErro
     Ok(Items::new(at))
 }
 
-/// The literals with the images of their objects, in their order. It fails only when out of memory.
+/// The literals with the images of their objects, in their order. It fails only out of memory.
 pub fn all_renamed(alloc: Global, lits: &[Lit], images: &Map) -> Result<Vec<Lit>, AllocError>
     ensures { IfOk result (λ ls. ls.items ≡ map_list (at_images (image_in images.now)) lits.now) }
 {

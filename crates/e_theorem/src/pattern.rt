@@ -4,7 +4,7 @@ ghost use Rattle.std.specs.Prelude.{◌≡◌, ◌&&◌};
 ghost use Rattle.e_literal.specs.Literal;
 ghost use Rattle.e_literal.specs.Scopes.{same_sort};
 ghost use Rattle.e_theorem.specs.Pattern;
-ghost use Rattle.e_theorem.specs.Statements.{stated};
+ghost use Rattle.e_theorem.specs.Statements.{as_view};
 
 use crate::statement::Statement;
 use e_literal::{Obj, Scope, Sort, count};
@@ -12,7 +12,7 @@ use e_literal::{Obj, Scope, Sort, count};
 /// Whether the pattern has one entry for each declared object, and each object written in it is of
 /// its sort and in scope.
 pub fn is_pattern(statement: &Statement, pattern: &[Option<Obj>], scope: Scope) -> bool
-    ensures { result ≡ Pattern.is_pattern (stated statement.now) scope pattern.now }
+    ensures { result ≡ Pattern.is_pattern (as_view statement.now) scope pattern.now }
 {
     are_entries(scope, statement.declared.items(), pattern)
 }

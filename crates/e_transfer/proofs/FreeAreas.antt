@@ -95,20 +95,21 @@ all_fit_alike facts v u (t ∷ ts) r agree fit =
     (sym (fits_alike facts v u t r (agree t (among_first t ts))) ∙ and_left (fits_term facts v t) (fits_terms facts v ts) fit)
     (all_fit_alike facts v u ts r (λ s a. agree s (among_rest t ts s a)) (and_right (fits_term facts v t) (fits_terms facts v ts) fit))
 
--- so they are those of a model with any value for the area
-still_model : (filling : Filling) (facts : List Lit) (areas : List Term) (t : Term) (x : ℕ) (vs : List (Term × ℕ)) → is_area_term t ≡ true → is_among_areas areas t ≡ false
-    → name_areas_of areas facts ≡ true → is_model facts (value_by filling vs) ≡ true → is_model facts (value_by filling (with_one t x vs)) ≡ true
-still_model filling facts areas t x vs area free named model =
-    let v = value_by filling vs in
-    let u = value_by filling (with_one t x vs) in
-    let r = right_agrees filling t x vs area in
-    let agree = facts_agree filling facts areas t x vs area free named in
+-- values that agree with those of a model on the facts are those of a model
+pub model_alike : (facts : List Lit) (v u : Term → ℕ) → v Right ≡ u Right → Agree (terms_of_lits facts) v u → is_model facts v ≡ true → is_model facts u ≡ true
+model_alike facts v u r agree model =
     let rest = and_right (fits_term facts v Right) (fits_terms facts v (terms_of_lits facts) && all_hold v facts) model in
     and_from (fits_term facts u Right) (fits_terms facts u (terms_of_lits facts) && all_hold u facts)
     (sym (fits_alike facts v u Right r r) ∙ and_left (fits_term facts v Right) (fits_terms facts v (terms_of_lits facts) && all_hold v facts) model)
     (and_from (fits_terms facts u (terms_of_lits facts)) (all_hold u facts)
     (all_fit_alike facts v u (terms_of_lits facts) r agree (and_left (fits_terms facts v (terms_of_lits facts)) (all_hold v facts) rest))
     (sym (all_hold_agrees facts v u agree) ∙ and_right (fits_terms facts v (terms_of_lits facts)) (all_hold v facts) rest))
+
+-- so they are those of a model with any value for the area
+still_model : (filling : Filling) (facts : List Lit) (areas : List Term) (t : Term) (x : ℕ) (vs : List (Term × ℕ)) → is_area_term t ≡ true → is_among_areas areas t ≡ false
+    → name_areas_of areas facts ≡ true → is_model facts (value_by filling vs) ≡ true → is_model facts (value_by filling (with_one t x vs)) ≡ true
+still_model filling facts areas t x vs area free named model =
+    model_alike facts (value_by filling vs) (value_by filling (with_one t x vs)) (right_agrees filling t x vs area) (facts_agree filling facts areas t x vs area free named) model
 
 -- ---- two areas that need not differ
 

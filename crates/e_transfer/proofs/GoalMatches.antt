@@ -1,11 +1,11 @@
 -- The ways in which a goal at a place of a clause binds the variables are all ways.
-use Rattle.std.proofs.Common.{◌≡◌, ℕ, ◌+◌, List, [], ◌∷◌, ◌++◌, refl, sym, ap, ◌∙◌, arith, append-nil, Bool, true, false, cond, not, eq-eqb, ◌&&◌, ◌||◌, eqb, true≢false, ◌⊎◌, inl, inr, map, ◌<◌, length, take, get_or, eqb-true}
+use Rattle.std.proofs.Common.{◌≡◌, ℕ, ◌+◌, List, [], ◌∷◌, ◌++◌, refl, sym, ap, ◌∙◌, arith, append-nil, append_assoc, Bool, true, false, cond, not, eq-eqb, ◌&&◌, ◌||◌, eqb, true≢false, ◌⊎◌, inl, inr, map, ◌<◌, length, take, get_or, eqb-true}
 use Rattle.std.specs.Prelude.{flat_map, option_to_list}
 use Rattle.std.specs.List.{list_any}
 use Rattle.std.proofs.lemmas.Grind.{common_steps, flat_map-append}
 use Rattle.std.proofs.lemmas.List.{take_more}
-use Rattle.std.proofs.lemmas.List.Folds.{list_all_at}
-use Rattle.std.proofs.lemmas.Bool.{and_from, or_cases, cases_Bool}
+use Rattle.std.proofs.lemmas.List.Folds.{list_all_at, list_any-append}
+use Rattle.std.proofs.lemmas.Bool.{and_from, or_cases, cases_Bool, not-true}
 use Rattle.e_literal.specs.declared.object.Mono.{Mono}
 use Rattle.e_literal.specs.declared.object.Term.{Term}
 use Rattle.e_literal.specs.declared.object.Term.TheVariants.{Seg, Ang, Area, Right}
@@ -15,8 +15,9 @@ use Rattle.e_literal.proofs.Agreeing.{agree_equal}
 use Rattle.e_literal.proofs.CanonicalTerms.{one_term_is, one_term_of}
 use Rattle.e_literal.proofs.Booleans.{and_left, and_right, all_both}
 use Rattle.e_transfer.specs.declared.equations.Equation.{Equation}
-use Rattle.e_transfer.specs.inner.Equations.{agrees, all_agree, some_agree, equations_from_term, equations_from_terms}
-use Rattle.e_transfer.specs.inner.Matches.{term_orders, matches_of_term, matches_of_sum, cancellations_of_terms, cancellations_of_sum, cancelling_matches, match_product, cancels, none_cancels, all_cancel, sum_under, CoverSums}
+use Rattle.e_transfer.specs.declared.equations.Equation.TheVariants as equation
+use Rattle.e_transfer.specs.inner.Equations.{agrees, all_agree, some_agree, contrary, have_contrary, equations_from_term, equations_from_terms}
+use Rattle.e_transfer.specs.inner.Matches.{term_orders, matches_of_term, matches_of_sum, cancellations_of_terms, cancellations_of_sum, cancelling_matches, match_product, cancels, none_cancels, all_cancel, sum_under, AgreeAlso, CoverSums}
 use Rattle.e_transfer.proofs.Elements.{list_any-map, list_any-flat_map, weaker, any_left, any_right}
 use Rattle.e_transfer.proofs.Orders.{one_order}
 
@@ -232,8 +233,72 @@ pub nothing_left : (ts : List Term) → length ts < 1 → ts ≡ []
 nothing_left [] less = refl
 nothing_left (t ∷ ts) less = absurd (omega (arith, less))
 
+-- ---- matches that contradict each other are left out
+
+contrary_disagree : (f : ℕ → ℕ) (a b : Equation) → contrary a b ≡ true → agrees f a ≡ true → agrees f b ≡ true → ⊥
+contrary_disagree f (equation.Is v n) (equation.Is w m) h p q =
+    true≢false (sym (eq-eqb n m (sym (eqb-true (f v) n p) ∙ ap f (eqb-true v w (and_left (eqb v w) (not (eqb n m)) h)) ∙ eqb-true (f w) m q)) ∙ not-true (eqb n m) (and_right (eqb v w) (not (eqb n m)) h))
+contrary_disagree f (equation.Is v n) (equation.Same w m) h p q = true≢false (sym h)
+contrary_disagree f (equation.Same v n) (equation.Is w m) h p q = true≢false (sym h)
+contrary_disagree f (equation.Same v n) (equation.Same w m) h p q = true≢false (sym h)
+
+one_contrary : (f : ℕ → ℕ) (a : Equation) (bs : List Equation) → list_any (contrary a) bs ≡ true → agrees f a ≡ true → all_agree f bs ≡ true → ⊥
+one_contrary f a [] h p q = true≢false (sym h)
+one_contrary f a (b ∷ bs) h p q = elim (or_cases (contrary a b) (list_any (contrary a) bs) h) [
+  | inl here ↦ contrary_disagree f a b here p (and_left (agrees f b) (all_agree f bs) q)
+  | inr later ↦ one_contrary f a bs later p (and_right (agrees f b) (all_agree f bs) q)
+]
+
+some_contrary : (f : ℕ → ℕ) (as' bs : List Equation) → have_contrary as' bs ≡ true → all_agree f as' ≡ true → all_agree f bs ≡ true → ⊥
+some_contrary f [] bs h p q = true≢false (sym h)
+some_contrary f (a ∷ as') bs h p q = elim (or_cases (list_any (contrary a) bs) (have_contrary as' bs) h) [
+  | inl here ↦ one_contrary f a bs here (and_left (agrees f a) (all_agree f as') p) q
+  | inr later ↦ some_contrary f as' bs later (and_right (agrees f a) (all_agree f as') p) q
+]
+
+parts_agree : (f : ℕ → ℕ) (as' bs : List Equation) → all_agree f (as' ++ bs) ≡ true → (all_agree f as' ≡ true) × (all_agree f bs ≡ true)
+parts_agree f [] bs h = (refl, h)
+parts_agree f (a ∷ as') bs h =
+    let rest = parts_agree f as' bs (and_right (agrees f a) (all_agree f (as' ++ bs)) h) in
+    (and_from (agrees f a) (all_agree f as') (and_left (agrees f a) (all_agree f (as' ++ bs)) h) rest.0, rest.1)
+
+-- the matches that are put behind others
+agree_cases : (f : ℕ → ℕ) (xs ys : List (List Equation)) → some_agree f (xs ++ ys) ≡ true → (some_agree f xs ≡ true) ⊎ (some_agree f ys ≡ true)
+agree_cases f xs ys h = or_cases (some_agree f xs) (some_agree f ys) (sym (list_any-append (all_agree f) xs ys) ∙ h)
+
+agree_behind : (xs old ys : List (List Equation)) → AgreeAlso xs old → AgreeAlso (xs ++ ys) (old ++ ys)
+agree_behind xs old ys also f h = elim (agree_cases f xs ys h) [
+  | inl first ↦ any_left (all_agree f) old ys (also f first)
+  | inr second ↦ any_right (all_agree f) old ys second
+]
+
+-- two that contradict each other are no match
+pub contrary_left_out : (old : List (List Equation)) (as' bs : List Equation) → have_contrary as' bs ≡ true → AgreeAlso (old ++ (as' ++ bs) ∷ []) old
+contrary_left_out old as' bs contrary f h = elim (agree_cases f old ((as' ++ bs) ∷ []) h) [
+  | inl before ↦ before
+  | inr last ↦ elim (or_cases (all_agree f (as' ++ bs)) false last) [
+    | inl both ↦ let parts = parts_agree f as' bs both in absurd (some_contrary f as' bs contrary parts.0 parts.1)
+    | inr none ↦ absurd (true≢false (sym none))
+  ]
+]
+
+each_more : (a : List Equation) (xs ys : List (List Equation)) → map (λ b. a ++ b) (xs ++ ys) ≡ map (λ b. a ++ b) xs ++ map (λ b. a ++ b) ys
+each_more a [] ys = refl
+each_more a (x ∷ xs) ys = ap (λ l. (a ++ x) ∷ l) (each_more a xs ys)
+
+-- one more match of the second
+pub each_step : (init second old new : List (List Equation)) (i : ℕ) (a b : List Equation) → i < length second → b ≡ get_or second i b
+    → AgreeAlso (init ++ map (λ x. a ++ x) (take i second)) old → AgreeAlso (old ++ (a ++ b) ∷ []) new → AgreeAlso (init ++ map (λ x. a ++ x) (take (i + 1) second)) new
+each_step init second old new i a b less at before added f h =
+    let so_far = map (λ x. a ++ x) (take i second) in
+    let more : init ++ map (λ x. a ++ x) (take (i + 1) second) ≡ (init ++ so_far) ++ (a ++ b) ∷ [] =
+    ap (λ l. init ++ map (λ x. a ++ x) l) (take_more second i b less) ∙ ap (λ l. init ++ l) (each_more a (take i second) (get_or second i b ∷ []))
+    ∙ ap (λ x. init ++ (so_far ++ (a ++ x) ∷ [])) (sym at) ∙ sym (append_assoc init so_far ((a ++ b) ∷ [])) in
+    added f (agree_behind (init ++ so_far) old ((a ++ b) ∷ []) before f (ap (some_agree f) (sym more) ∙ h))
+
 -- one more match of the first
 pub product_step : (first second old new : List (List Equation)) (i : ℕ) (a : List Equation) → i < length first → a ≡ get_or first i a
-    → old ≡ match_product (take i first) second → new ≡ old ++ map (λ b. a ++ b) second → new ≡ match_product (take (i + 1) first) second
-product_step first second old new i a less at e added =
-    added ∙ ap (λ l. l ++ map (λ b. a ++ b) second) e ∙ ap (λ x. match_product (take i first) second ++ map (λ b. x ++ b) second) at ∙ sym (product_more first second i a less)
+    → AgreeAlso (match_product (take i first) second) old → AgreeAlso (old ++ map (λ b. a ++ b) second) new → AgreeAlso (match_product (take (i + 1) first) second) new
+product_step first second old new i a less at before added f h =
+    let more = product_more first second i a less ∙ ap (λ x. match_product (take i first) second ++ map (λ b. x ++ b) second) (sym at) in
+    added f (agree_behind (match_product (take i first) second) old (map (λ b. a ++ b) second) before f (ap (some_agree f) (sym more) ∙ h))

@@ -131,7 +131,7 @@ of_diagram (EqC x y) less = refl
 of_diagram (MagEq x y) less = absurd (omega (arith, less))
 of_diagram (MagLt x y) less = absurd (omega (arith, less))
 
-fact_of : (m : Strength) (facts : List Lit) (l : Lit) → (m ≡ strength.Facts) ⊎ (relation_number l.atom < 12) → Suffices m facts l → has facts l ≡ true
+pub fact_of : (m : Strength) (facts : List Lit) (l : Lit) → (m ≡ strength.Facts) ⊎ (relation_number l.atom < 12) → Suffices m facts l → has facts l ≡ true
 fact_of m facts l (inl is) enough = subst (λ (k : Strength). Suffices k facts l) is enough
 fact_of m facts l (inr low) enough = sym (ap (λ b. b || has facts l) (of_diagram l.atom low)) ∙ diagram_holds m facts l enough
 
@@ -257,7 +257,7 @@ unequal a b apart = elim (cases_Bool (eqb a b)) [
   | inr n ↦ n
 ]
 
-some_at : (ls : List Lit) (at : ℕ) → at < length ls → (l : Lit) × (slice_get ls at ≡ Some l)
+pub some_at : (ls : List Lit) (at : ℕ) → at < length ls → (l : Lit) × (slice_get ls at ≡ Some l)
 some_at [] at less = absurd (omega (arith, less))
 some_at (l ∷ ls) zero less = (l, refl)
 some_at (l ∷ ls) (suc at) less = some_at ls at (omega (arith, less))

@@ -25,11 +25,11 @@ use Rattle.e_clause.specs.RuleKinds.{is_transfer}
 use Rattle.e_clause.specs.PartCertificate.{part_certifies, part_in}
 use Rattle.e_clause.specs.TransferCertificate.{parts_certify, instance_certifies}
 use Rattle.e_clause.specs.Wide.{IsMetricSystem}
-use Rattle.e_metric.specs.MetricAnswers.{IsMetricAnswer, IsMetricCertificate}
+use Rattle.e_metric.specs.MetricAnswers.{IsConsequence, IsMetricCertificate}
 use Rattle.e_clause.specs.declared.cert.Version.TheVariants as version
 use Rattle.e_clause.specs.Versions.{is_part_of}
-use Rattle.e_metric.specs.declared.consequence.Metric.{Metric}
-use Rattle.e_metric.specs.declared.consequence.Metric.TheVariants as metric
+use Rattle.e_metric.specs.declared.consequence.Consequence.{Consequence}
+use Rattle.e_metric.specs.declared.consequence.Consequence.TheVariants as consequence
 use Rattle.e_clause.specs.declared.cert.MetricCert.{MetricCert}
 use Rattle.e_transfer.specs.declared.query.Strength.{Strength}
 use Rattle.e_transfer.specs.declared.query.Strength.TheVariants as strength
@@ -289,5 +289,5 @@ parts_stopped m scope facts ls ms v w is same claim = parts_at m scope facts ls 
 
 -- ---- the answer on a metric literal
 
-pub answer_yes : (facts : List Lit) (l : Lit) (v : Metric) (cert : MetricCert) → v ≡ metric.Yes cert → IsMetricAnswer facts (Some l) v → IsMetricCertificate facts (Some l) cert
-answer_yes facts l v cert is claim = subst (λ (x : Metric). IsMetricAnswer facts (Some l) x) is claim
+pub answer_yes : (facts : List Lit) (l : Lit) (v : Consequence) (cert : MetricCert) → v ≡ consequence.Yes cert → IsConsequence facts l v → IsMetricCertificate facts (Some l) cert
+answer_yes facts l v cert is claim = subst (IsConsequence facts l) is claim

@@ -1,5 +1,6 @@
 -- The search at one place of a clause: what is refused.
 use Rattle.std.proofs.Common.{◌≡◌, ℕ, zero, suc, ◌<◌, ◌≤◌, List, [], ◌∷◌, ◌++◌, refl, sym, ap, ◌∙◌, subst, arith, ◌+◌, Bool, true, false, eqb, true≢false, get_or, length, map, take, ◌⊎◌, inl, inr, Some}
+use mathlib.Core.Bool.{not-not}
 use Rattle.std.specs.Prelude.{slice_get, nat_lt}
 use Rattle.std.specs.List.{list_all}
 use Rattle.std.proofs.lemmas.Bool.{ltb-true}
@@ -66,6 +67,11 @@ pub unfit : (m : Strength) (facts : List Lit) (goal l : Lit) (b : Bool) → same
 unfit m facts goal l true differs fails fits = true≢false (sym fits ∙ differs)
 unfit m facts goal l false differs fails (inl is) = true≢false (sym is ∙ differs)
 unfit m facts goal l false differs fails (inr enough) = fails refl enough
+
+-- a literal that is the same as the goal is so after two negations
+pub differs_twice : (l need goal : Lit) → need ≡ negation l → same_lit (negation need) goal ≡ false → same_lit l goal ≡ false
+differs_twice l need goal is differs =
+    ap (λ b. same_lit (record { neg = b; atom = l.atom }) goal) (sym (not-not l.neg)) ∙ ap (λ n. same_lit (negation n) goal) (sym is) ∙ differs
 
 -- at the goal's place only the goal may hold
 pub unfit_here : (m : Strength) (facts : List Lit) (goal l : Lit) (b : Bool) → same_lit l goal ≡ false → b ≡ true → IsFittingLiteral m facts goal b l → ⊥

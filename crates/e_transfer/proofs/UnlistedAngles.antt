@@ -19,7 +19,7 @@ use Rattle.e_clause.specs.Metric.{MetricConsequence}
 use Rattle.e_clause.specs.Rows.{Row}
 use Rattle.e_clause.specs.Views.{row_of}
 use Rattle.e_clause.specs.Instance.{number}
-use Rattle.e_transfer.specs.declared.models.Filling.TheVariants.{Ones}
+use Rattle.e_transfer.specs.declared.models.Filling.TheVariants.{Each}
 use Rattle.e_transfer.specs.declared.numbers.Numbers.{Numbers}
 use Rattle.e_transfer.specs.Models.{value_in_list, value_when_canonical, value_by, fits_term, fits_terms, is_model}
 use Rattle.e_transfer.specs.inner.Angles.{may_be, may_be_angle, later_number, IsKnown, IsOneAngle, IsUnlisted, NeverDiffer}
@@ -70,13 +70,13 @@ or_rest true c e = absurd (true≢false e)
 or_rest false c e = e
 
 value_one : (x y z : Option ℕ) (a b c : ℕ) (values : List (Term × ℕ)) → Fits x a → Fits y b → Fits z c → list_any (λ p. may_be_angle x y z p.0) values ≡ false
-    → value_in_list Ones values (canonical (Ang a b c)) ≡ 1
+    → value_in_list (Each 1) values (canonical (Ang a b c)) ≡ 1
 value_one x y z a b c [] first vertex last none = refl
 value_one x y z a b c (p ∷ ps) first vertex last none = elim (cases_Bool (term_eq (canonical (Ang a b c)) p.0)) [
   | inl e ↦
       absurd (true≢false (sym (or_left (may_be_angle x y z p.0) (list_any (λ q. may_be_angle x y z q.0) ps) (angle_listed x y z a b c p.0 first vertex last e)) ∙ none))
   | inr other ↦
-      ap (λ d. cond d p.1 (value_in_list Ones ps (canonical (Ang a b c)))) other
+      ap (λ d. cond d p.1 (value_in_list (Each 1) ps (canonical (Ang a b c)))) other
       ∙ value_one x y z a b c ps first vertex last (or_rest (may_be_angle x y z p.0) (list_any (λ q. may_be_angle x y z q.0) ps) none)
 ]
 
@@ -94,12 +94,12 @@ one_within facts v a b c right one =
     let most = leb-true 1 (v Right) (and_left (nat_le 1 (v Right)) true right) in
     and_from (nat_le (v (Ang a b c)) (2 * v Right)) true (le-leb (v (Ang a b c)) (2 * v Right) (omega (arith, most, one))) refl
 
-equal_ones : (facts : List Lit) (values : List (Term × ℕ)) (coeff : ℕ) (t u : Term) → is_model facts (value_by Ones values) ≡ true → IsOneAngle values t → IsOneAngle values u
+equal_ones : (facts : List Lit) (values : List (Term × ℕ)) (coeff : ℕ) (t u : Term) → is_model facts (value_by (Each 1) values) ≡ true → IsOneAngle values t → IsOneAngle values u
     → MetricConsequence facts (record { neg = true; atom = MagEq (record { coeff = coeff; term = t } ∷ []) (record { coeff = coeff; term = u } ∷ []) }) → ⊥
 equal_ones facts values coeff (Ang a b c) (Ang d e f) model one another follows =
-    let v = value_by Ones values in
+    let v = value_by (Each 1) values in
     let right = and_left (fits_term facts v Right) (fits_terms facts v (terms_of_lits facts) && all_hold v facts) model in
-    refuted facts (record { neg = true; atom = MagEq (record { coeff = coeff; term = Ang a b c } ∷ []) (record { coeff = coeff; term = Ang d e f } ∷ []) }) (value_when_canonical Ones values) model
+    refuted facts (record { neg = true; atom = MagEq (record { coeff = coeff; term = Ang a b c } ∷ []) (record { coeff = coeff; term = Ang d e f } ∷ []) }) (value_when_canonical (Each 1) values) model
     (and_from (fits_term facts v (Ang a b c)) (fits_term facts v (Ang d e f) && true) (one_within facts v a b c right one)
     (and_from (fits_term facts v (Ang d e f)) true (one_within facts v d e f right another) refl))
     (equal_fails coeff (v (Ang a b c)) (v (Ang d e f)) (one ∙ sym another)) follows
@@ -110,7 +110,7 @@ equal_ones facts values coeff (Seg a b) u model one another follows = one
 equal_ones facts values coeff (Area a b c) u model one another follows = one
 equal_ones facts values coeff Right u model one another follows = one
 
-pub unlisted_never_differ : (facts : List Lit) (values : List (Term × ℕ)) (n : Numbers) (t other : Term) → is_model facts (value_by Ones values) ≡ true → IsUnlisted values n t
+pub unlisted_never_differ : (facts : List Lit) (values : List (Term × ℕ)) (n : Numbers) (t other : Term) → is_model facts (value_by (Each 1) values) ≡ true → IsUnlisted values n t
     → IsUnlisted values n other → NeverDiffer facts n t other
 unlisted_never_differ facts values n t other model one another = λ coeff rest.
     equal_ones facts values coeff (term_at (later_number n rest) t) (term_at (later_number n rest) other) model (one rest) (another rest)

@@ -7,7 +7,7 @@ use Rattle.e_literal.specs.declared.object.Term.TheVariants.{Seg, Ang, Area, Rig
 use Rattle.e_literal.specs.declared.literal.Lit.{Lit}
 use Rattle.e_literal.specs.Same.{term_eq}
 use Rattle.e_transfer.specs.declared.models.Filling.{Filling}
-use Rattle.e_transfer.specs.declared.models.Filling.TheVariants.{Ones, Spread, Flat}
+use Rattle.e_transfer.specs.declared.models.Filling.TheVariants.{Each, Spread, Flat}
 use Rattle.e_literal.specs.Solution.{values_for_all}
 use Rattle.e_literal.specs.Truth.{all_hold}
 use Rattle.e_clause.specs.Assignment.{is_within, is_positive_if_apart, terms_of_lits}
@@ -19,9 +19,9 @@ spread_number (Ang a b c) = 1 + (a + b + c) % 2
 spread_number (Area a b c) = 1 + a + 64 * b + 4096 * c
 spread_number Right = 1
 
--- 1 for each term, or, where they are to be spread, mostly different numbers
+-- one number for each term, or, where they are to be spread, mostly different ones
 abbrev pub filling_value : Filling → Term → ℕ
-filling_value Ones t = 1
+filling_value (Each n) t = n
 filling_value Spread t = spread_number t
 filling_value Flat t = 1
 

@@ -6,3 +6,4 @@ pub mod PartsOfChoices
 pub mod Plans
 pub mod SearchedPlaces
 pub mod Angles
+pub mod BoundFacts

@@ -73,7 +73,8 @@ fn terms_alike(m: Mono, n: Mono) -> Option<(Term, Term)>
     }
 }
 
-fn terms_of_two(x: &[Mono], y: &[Mono]) -> Option<(Term, Term)>
+/// The two terms, where each sum is of one, and each is taken as often as the other.
+pub fn terms_of_two(x: &[Mono], y: &[Mono]) -> Option<(Term, Term)>
     ensures { MatchOption result (Unit {0}) (AreOneEach x.now y.now) }
 {
     match (x, y) {

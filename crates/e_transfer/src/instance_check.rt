@@ -8,7 +8,7 @@ ghost use Rattle.e_literal.specs.WellFormed.{is_well_formed};
 ghost use Rattle.e_clause.specs.Laws.{is_well_formed_metric};
 ghost use Rattle.e_clause.specs.Metric.{MetricConsequence};
 ghost use Rattle.e_clause.specs.RuleKinds.{is_transfer};
-ghost use Rattle.e_metric.specs.MetricAnswers.{IsMetricAnswer, IfNo};
+ghost use Rattle.e_metric.specs.MetricAnswers.{IsConsequence};
 ghost use Rattle.e_transfer.specs.GivenGoals;
 ghost use Rattle.e_transfer.specs.GivenGoals.{PartIs, PartsAre, InstanceIs, passed_over};
 
@@ -17,7 +17,7 @@ use crate::walk::Verdict;
 use e_clause::{InstanceFault, Part, Rule, TransferCert, instance};
 use e_facts::Facts;
 use e_literal::{Items, Lit, Obj, Scope, count, kind, negate, same};
-use e_metric::{Metric, follows};
+use e_metric::{Consequence, MetricFacts};
 use std::alloc::{AllocError, Global};
 use std::mem;
 
@@ -43,14 +43,20 @@ pub fn is_refuted(query: &Query, need: &Lit) -> bool
 }
 
 /// Whether the metric literal follows from the facts, by what is known of them.
-fn answer(alloc: Global, query: &Query, need: &Lit) -> Result<Metric, AllocError>
+fn answer(alloc: Global, query: &Query, need: &Lit) -> Result<Consequence, AllocError>
     requires well_formed { IsTrue (is_well_formed_metric (Some need.now)) }
-    ensures answer { IfOk result (IsMetricAnswer query.now.facts.now (Some need.now)) }
-    ensures no { IfOk result (λ m. IfNo m (¬ MetricConsequence query.now.facts.now need.now)) }
+    ensures { IfOk result (IsConsequence query.now.facts.now need.now) }
 {
     match query.step_facts {
-        Some(step_facts) => step_facts.metric_facts().follows(alloc, query.facts, need),
-        None => follows(alloc, query.facts, need),
+        Some(step_facts) => step_facts
+            .metric_facts()
+            .consequence(alloc, query.facts, need),
+        None => {
+            let metric_facts = MetricFacts::new();
+            let answer = metric_facts.consequence(alloc, query.facts, need);
+            mem::drop(metric_facts);
+            answer
+        }
     }
 }
 
@@ -67,13 +73,10 @@ fn part_of(alloc: Global, query: &Query, need: &Lit) -> Result<Verdict<Part>, Al
     if query.strength == Strength::Facts || kind(need).is_none() {
         return Ok(Verdict::No);
     }
-    if is_refuted(query, need) {
-        return Ok(Verdict::No);
-    }
     match answer(alloc, query, need)? {
-        Metric::Yes(cert) => Ok(Verdict::Yes(Part::Metric(cert))),
-        Metric::No(_) => Ok(Verdict::No),
-        Metric::TooWide(width) => Ok(too_wide(query.strength, width)),
+        Consequence::Yes(cert) => Ok(Verdict::Yes(Part::Metric(cert))),
+        Consequence::No => Ok(Verdict::No),
+        Consequence::TooWide(width) => Ok(too_wide(query.strength, width)),
     }
 }
 

@@ -3,6 +3,8 @@
 ghost use Rattle.std.specs.Prelude.{◌≡◌, ◌<◌, List, Bool, length, map, slice_get, true};
 ghost use Rattle.std.specs.Prelude.{false, slice_index, IfOk, IsTrue, Some};
 ghost use Rattle.e_literal.specs.declared.literal.Lit.{Lit};
+ghost use Rattle.e_literal.specs.Literal.{negation};
+ghost use Rattle.e_literal.specs.Same.{same_lit};
 ghost use Rattle.e_clause.specs.RuleKinds.{is_transfer};
 ghost use Rattle.e_clause.specs.Table.{table};
 ghost use Rattle.e_clause.specs.Views.{row_of};
@@ -24,7 +26,7 @@ use crate::numbers::Numbers;
 use crate::plan::{Plan, last_of_term};
 use crate::query::{Query, Strength, asks_facts};
 use crate::walk::{Task, Verdict};
-use e_clause::{Rule, TransferCert};
+use e_clause::{Row, Rule, TransferCert};
 use e_literal::{Lit, Term, is_degenerate, kind, negate, same};
 use std::alloc::{AllocError, Global};
 use std::mem;
@@ -35,12 +37,14 @@ use std::mem;
 pub struct InstanceSearch<'a> {
     pub query: Query<'a>,
     pub rule: Rule,
+    pub row: &'a Row,
     pub place: usize,
     pub plan: &'a Plan,
     /// Where the clause says of two terms alone that they are equal, if it does. That is a matter
     /// of speed alone.
     pub equality: Option<usize>,
     ghost transfer: { IsTrue (is_transfer rule) },
+    ghost of_table: { slice_get table rule ≡ Some (row_of row.now) },
 }
 
 /// Whether the last number of a part of this length completes the literal at a place of the clause.
@@ -69,24 +73,36 @@ fn may_suffice(query: &Query, need: &Lit) -> bool
     !is_refuted(query, need)
 }
 
+/// Whether the goal is the negation of this literal.
+fn is_negated_goal(query: &Query, need: Lit) -> bool
+    ensures { result ≡ same_lit (negation need) query.now.goal.now }
+{
+    if need.neg == query.goal.neg {
+        mem::drop(need);
+        return false;
+    }
+    let lit = negate(need);
+    let is_goal = same(&lit, query.goal);
+    mem::drop(lit);
+    is_goal
+}
+
 /// Whether a literal of an instance may be what it has to be: at the goal's place the goal,
-/// elsewhere the goal or one whose negation may hold.
+/// elsewhere the goal or one whose negation may hold. Most that do not are not the goal's negation
+/// by their sign, so this comes last.
 fn may_hold(query: &Query, here: bool, lit: Lit) -> bool
     ensures { result ≡ false
         → IsFittingLiteral query.now.strength query.now.facts.now query.now.goal.now here lit → ⊥ }
 {
-    if same(&lit, query.goal) {
-        mem::drop(lit);
+    let need = negate(lit);
+    if here {
+        return is_negated_goal(query, need);
+    }
+    if may_suffice(query, &need) {
+        mem::drop(need);
         return true;
     }
-    if here {
-        mem::drop(lit);
-        return false;
-    }
-    let need = negate(lit);
-    let holds = may_suffice(query, &need);
-    mem::drop(need);
-    holds
+    is_negated_goal(query, need)
 }
 
 /// Whether no need holds that says that the area differs from another: there are values with which
@@ -186,7 +202,45 @@ impl<'a> InstanceSearch<'a> {
     }
 
     /// Whether the last number of the part completes the literal at a place of the clause, and the
-    /// literal is excluded.
+    /// literal compares no sums and is excluded.
+    fn is_excluded_diagram(&self, numbers: &Numbers, j: usize) -> bool
+        requires of_table { slice_get table self.now.rule ≡ Some (row_of numbers.now.row.now) }
+        requires places { numbers.now.positions.now ≡ self.now.plan.now.positions.items }
+        requires in_clause { j < length (clause_of (row_of numbers.now.row.now)) }
+        ensures { result ≡ true
+            → NoneFrom self.now.query.strength self.now.query.scope self.now.query.facts.now
+            self.now.query.goal.now self.now.rule self.now.place self.now.plan.now
+            numbers.now.part.now }
+    {
+        if !is_completed(&self.plan.ready_at, j, numbers.part.len()) {
+            return false;
+        }
+        match numbers.diagram(j) {
+            Some(lit) => !may_hold(&self.query, j == self.place, lit),
+            None => false,
+        }
+    }
+
+    /// Whether no literal that the last number of the part completes is excluded, but for those
+    /// that compare sums.
+    fn diagrams_may_hold(&self, numbers: &Numbers) -> bool
+        requires of_table { slice_get table self.now.rule ≡ Some (row_of numbers.now.row.now) }
+        requires places { numbers.now.positions.now ≡ self.now.plan.now.positions.items }
+        ensures { result ≡ false
+            → NoneFrom self.now.query.strength self.now.query.scope self.now.query.facts.now
+            self.now.query.goal.now self.now.rule self.now.place self.now.plan.now
+            numbers.now.part.now }
+    {
+        for j in 0..clause_len(numbers.row) {
+            if self.is_excluded_diagram(numbers, j) {
+                return false;
+            }
+        }
+        true
+    }
+
+    /// Whether the last number of the part completes the literal at a place of the clause, and the
+    /// literal compares sums and is excluded.
     fn is_excluded(&self, alloc: Global, numbers: &Numbers, j: usize) -> Result<bool, AllocError>
         requires of_table { slice_get table self.now.rule ≡ Some (row_of numbers.now.row.now) }
         requires places { numbers.now.positions.now ≡ self.now.plan.now.positions.items }
@@ -199,6 +253,9 @@ impl<'a> InstanceSearch<'a> {
         if !is_completed(&self.plan.ready_at, j, numbers.part.len()) {
             return Ok(false);
         }
+        if !numbers.compares_sums(j) {
+            return Ok(false);
+        }
         if self.is_unmarked(numbers, j) {
             return Ok(true);
         }
@@ -206,8 +263,9 @@ impl<'a> InstanceSearch<'a> {
         Ok(!may_hold(&self.query, j == self.place, lit))
     }
 
-    /// Whether no literal that the last number of the part completes is excluded.
-    fn may_go_on(&self, alloc: Global, numbers: &Numbers) -> Result<bool, AllocError>
+    /// Whether no literal that compares sums and that the last number of the part completes is
+    /// excluded.
+    fn sums_may_hold(&self, alloc: Global, numbers: &Numbers) -> Result<bool, AllocError>
         requires of_table { slice_get table self.now.rule ≡ Some (row_of numbers.now.row.now) }
         requires places { numbers.now.positions.now ≡ self.now.plan.now.positions.items }
         ensures { IfOk result (λ b. b ≡ false
@@ -248,18 +306,20 @@ impl<'a> Task for InstanceSearch<'a> {
         _memory: &mut (),
         part: &[u16],
     ) -> Result<Verdict<Option<TransferCert>>, AllocError> {
-        let row = self.rule.table_row();
         let numbers = Numbers {
-            row,
+            row: self.row,
             positions: &self.plan.positions,
             part,
         };
+        if !self.diagrams_may_hold(&numbers) {
+            return Ok(Verdict::No);
+        }
         if let Some(at) = self.equality {
             if self.has_equal_terms(&numbers, at) {
                 return Ok(Verdict::No);
             }
         }
-        if !self.may_go_on(alloc, &numbers)? {
+        if !self.sums_may_hold(alloc, &numbers)? {
             return Ok(Verdict::No);
         }
         if part.len() < self.plan.spans.len() {

@@ -8,6 +8,7 @@
 
 mod angles;
 mod areas;
+mod bound_facts;
 mod clause;
 mod conditions;
 mod equations;

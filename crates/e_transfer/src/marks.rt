@@ -3,6 +3,7 @@
 
 ghost use Rattle.std.specs.Prelude.{◌≡◌, ◌≢◌, ℕ, ◌<◌, length, slice_get, IsTrue, Some, true, false};
 ghost use Rattle.e_literal.specs.Literal.{negation};
+ghost use Rattle.e_literal.specs.declared.literal.Lit.{Lit};
 ghost use Rattle.e_clause.specs.Instance.{clause_of};
 ghost use Rattle.e_clause.specs.Table.{table};
 ghost use Rattle.e_clause.specs.Views.{atom_of, row_of};
@@ -107,7 +108,7 @@ fn mark(relation: usize, neg: bool) -> usize
 }
 
 /// The mark of the literal's relation and sign.
-fn mark_of(lit: &Lit) -> usize
+pub fn mark_of(lit: &Lit) -> usize
     ensures is { result ≡ Marks.lit_mark lit.now }
     ensures below { result < 28 }
 {
@@ -198,6 +199,17 @@ fn may_suffice(query: &Query, neg: bool, shape: &Shape) -> bool
     }
 }
 
+/// Whether the atom over variables, or its negation, is of diagrams, and has not the goal's relation
+/// and sign: then what negates it has to be a fact.
+pub fn has_to_be_fact(query: &Query, neg: bool, shape: &Shape) -> bool
+    ensures diagram { result ≡ true → Marks.relation_number (atom_of shape.now) < 12 }
+    ensures unlike { result ≡ true → Marks.mark_number (Marks.relation_number (atom_of shape.now))
+        neg ≢ Marks.lit_mark query.now.goal.now }
+{
+    let relation = relation_of(shape);
+    relation < OF_DIAGRAMS && mark(relation, neg) != mark_of(query.goal)
+}
+
 /// Whether an instance may have at this place of the clause the goal, or a literal whose negation
 /// holds.
 fn may_hold(query: &Query, row: &Row, at: usize) -> bool
@@ -210,16 +222,39 @@ fn may_hold(query: &Query, row: &Row, at: usize) -> bool
     mark(relation_of(&shape), neg) == mark_of(query.goal) || may_suffice(query, !neg, &shape)
 }
 
-/// Whether an instance may have the goal at this place of the clause.
-pub fn may_be_goal(query: &Query, row: &Row, place: usize) -> bool
-    requires { place < length (clause_of (row_of row.now)) }
+/// The mark of a pattern, or of its negation.
+fn mark_of_pattern(pattern: &Pattern, negated: bool) -> usize
+    ensures { result ≡ Marks.lit_mark (signed_literal negated pattern.now) }
+{
+    match pattern {
+        Pattern::Is(shape) => mark(relation_of(shape), negated),
+        Pattern::Not(shape) => mark(relation_of(shape), !negated),
+    }
+}
+
+/// The mark at a place of the clause; the pattern is looked at where it is.
+fn mark_at(row: &Row, at: usize) -> usize
+    requires { at < length (clause_of (row_of row.now)) }
+    ensures { (l : Lit) × (slice_get (clause_of (row_of row.now)) at ≡ Some l)
+        × (result ≡ Marks.lit_mark l) }
+{
+    let premises = row.premises.len();
+    if at < premises {
+        mark_of_pattern(&row.premises[at], true)
+    } else {
+        mark_of_pattern(&row.conclusions[at - premises], false)
+    }
+}
+
+/// Whether an instance may have the goal, which has this mark, at this place of the clause.
+pub fn may_be_goal(query: &Query, goal_mark: usize, row: &Row, place: usize) -> bool
+    requires in_clause { place < length (clause_of (row_of row.now)) }
+    requires of_goal { goal_mark ≡ Marks.lit_mark query.now.goal.now }
     ensures { result ≡ false → (rule : ℕ) → slice_get table rule ≡ Some (row_of row.now)
         → NoneAt query.now.strength query.now.scope query.now.facts.now query.now.goal.now
         rule place }
 {
-    let (pattern, negated) = pattern_at(row, place);
-    let (shape, neg) = parts(&pattern, negated);
-    mark(relation_of(&shape), neg) == mark_of(query.goal)
+    mark_at(row, place) == goal_mark
 }
 
 /// Whether the place is the goal's, or may have the goal or a literal whose negation holds.

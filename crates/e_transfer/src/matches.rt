@@ -4,8 +4,10 @@ ghost use Rattle.std.specs.Prelude.{◌≡◌, ◌⊎◌, ◌++◌, map, if◌th
 ghost use Rattle.std.specs.Prelude.{option_to_list, IfOk, OnOk, IsTrue, [], ◌∷◌};
 ghost use Rattle.e_literal.specs.Literal.{negation};
 ghost use Rattle.e_clause.specs.Views.{atom_of, lit_of_pattern, row_of};
+ghost use Rattle.std.specs.List.{list_any};
+ghost use Rattle.e_transfer.specs.inner.Equations.{contrary, have_contrary};
 ghost use Rattle.e_transfer.specs.inner.Matches;
-ghost use Rattle.e_transfer.specs.inner.Matches.{Cover, CoverAtom, CoverSums, all_cancel};
+ghost use Rattle.e_transfer.specs.inner.Matches.{AgreeAlso, Cover, CoverAtom, CoverSums, all_cancel};
 ghost use Rattle.e_transfer.specs.inner.Matches.{none_cancels, matches_of_term, matches_of_sum};
 ghost use Rattle.e_transfer.specs.inner.Matches.{cancellations_of_terms, cancellations_of_sum};
 
@@ -146,11 +148,35 @@ fn equations_of_both(
     Ok(Items::new(equations))
 }
 
-/// Each match of the first with each of the second.
-fn product(alloc: Global, first: &MatchList, second: &MatchList) -> Result<MatchList, AllocError>
-    ensures { IfOk result (λ v. v.items ≡ Matches.match_product first.now.items second.now.items) }
+/// Whether the two give one variable two numbers.
+fn are_contrary(a: Equation, b: Equation) -> bool
+    ensures { result ≡ contrary a b }
 {
-    let mut matches = Vec::with_capacity(alloc, first.len().saturating_mul(second.len()))?;
+    match (a, b) {
+        (Equation::Is(v, n), Equation::Is(w, m)) => v == w && n != m,
+        _ => false,
+    }
+}
+
+fn is_contrary_to_some(equation: Equation, equations: &[Equation]) -> bool
+    ensures { result ≡ list_any (contrary equation) equations.now }
+{
+    equations.iter().any(|b| are_contrary(equation, *b))
+}
+
+/// Whether the one match gives a variable a number, and the other another.
+fn are_contrary_matches(first: &[Equation], second: &[Equation]) -> bool
+    ensures { result ≡ have_contrary first.now second.now }
+{
+    first.iter().any(|a| is_contrary_to_some(*a, second))
+}
+
+/// Each match of the first with each of the second, but for those that contradict each other.
+fn product(alloc: Global, first: &MatchList, second: &MatchList) -> Result<MatchList, AllocError>
+    ensures { IfOk result (λ v. AgreeAlso (Matches.match_product first.now.items second.now.items)
+        v.items) }
+{
+    let mut matches = Vec::new(alloc);
     for a in first {
         add_each(alloc, &mut matches, a.items(), second)?;
     }
@@ -164,12 +190,29 @@ fn add_each(
     first: &[Equation],
     second: &MatchList,
 ) -> Result<(), AllocError>
-    ensures { OnOk result
-        (matches.new.items ≡ matches.old.items ++ map (λ b. first.now ++ b) second.now.items) }
+    ensures { OnOk result (AgreeAlso
+        (matches.old.items ++ map (λ b. first.now ++ b) second.now.items) matches.new.items) }
 {
     for b in second {
-        matches.push(equations_of_both(alloc, first, b.items())?)?;
+        add_both(alloc, matches, first, b.items())?;
     }
+    Ok(())
+}
+
+/// Adds two matches together, unless they contradict each other.
+fn add_both(
+    alloc: Global,
+    matches: &mut MatchList,
+    first: &[Equation],
+    second: &[Equation],
+) -> Result<(), AllocError>
+    ensures { OnOk result (AgreeAlso
+        (matches.old.items ++ (first.now ++ second.now) ∷ []) matches.new.items) }
+{
+    if are_contrary_matches(first, second) {
+        return Ok(());
+    }
+    matches.push(equations_of_both(alloc, first, second)?)?;
     Ok(())
 }
 

@@ -8,14 +8,15 @@ ghost use Rattle.e_clause.specs.Metric.{MetricConsequence};
 ghost use Rattle.e_transfer.specs.Models;
 ghost use Rattle.e_transfer.specs.Models.{value_by, fits_term, fits_terms, is_model};
 
+use crate::areas::terms_of_two;
 use e_facts::Facts;
 use e_literal::{Atom, Lit, Mono, Term, canonical, is_degenerate};
 
 /// Which values the terms have that no list gives.
 #[derive(Clone, Copy)]
 pub enum Filling {
-    /// 1 for each.
-    Ones,
+    /// This number for each.
+    Each(u128),
     /// Mostly different numbers.
     Spread,
     /// 1 for each, but 0 for each area, whether it is listed or not.
@@ -27,7 +28,8 @@ fn default_value(filling: Filling, term: Term) -> u128
     ensures { result ≡ Models.filling_value filling term }
 {
     match filling {
-        Filling::Ones | Filling::Flat => 1,
+        Filling::Each(number) => number,
+        Filling::Flat => 1,
         Filling::Spread => spread_value(term),
     }
 }
@@ -134,6 +136,22 @@ fn is_false(filling: Filling, values: &[(Term, u128)], lit: &Lit) -> bool
     match truth(filling, values, lit) {
         Some(truth) => !truth,
         None => false,
+    }
+}
+
+/// The number for each term that is not listed with which two terms are equal, where the literal
+/// says of them alone that they differ and one is not listed. That is a matter of speed alone.
+pub fn equal_value(values: &[(Term, u128)], lit: &Lit) -> Option<u128> {
+    if !lit.neg {
+        return None;
+    }
+    let Atom::MagEq(x, y) = &lit.atom else {
+        return None;
+    };
+    let (one, other) = terms_of_two(x.items(), y.items())?;
+    match value(Filling::Each(1), values, one) {
+        1 => Some(value(Filling::Each(1), values, other)),
+        number => Some(number),
     }
 }
 

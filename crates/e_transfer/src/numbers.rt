@@ -128,7 +128,7 @@ impl<'a> Numbers<'a> {
     }
 
     /// The atom of a shape, unless it compares sums: it takes no memory.
-    fn diagram(&self, shape: &Shape) -> Option<Atom>
+    fn diagram_atom(&self, shape: &Shape) -> Option<Atom>
         ensures { IfSome result (λ a. a ≡ atom_by self.now (atom_of shape.now)) }
     {
         let atom = match shape {
@@ -177,17 +177,35 @@ impl<'a> Numbers<'a> {
         }
     }
 
-    /// The literal at a place of the clause. Only one that compares sums takes memory.
+    /// The literal at a place of the clause, unless it compares sums: it takes no memory.
+    pub fn diagram(&self, at: usize) -> Option<Lit>
+        requires { at < length (clause_of (row_of self.now.row.now)) }
+        ensures { IfSome result (λ l. slice_get (map (lit_at (row_of self.now.row.now)
+            (arguments_by self.now)) (clause_of (row_of self.now.row.now))) at ≡ Some l) }
+    {
+        let (pattern, negated) = pattern_at(self.row, at);
+        let (shape, neg) = parts(&pattern, negated);
+        match self.diagram_atom(&shape) {
+            Some(atom) => Some(Lit { neg, atom }),
+            None => None,
+        }
+    }
+
+    /// Whether the literal at a place of the clause compares sums.
+    pub fn compares_sums(&self, at: usize) -> bool
+        requires { at < length (clause_of (row_of self.now.row.now)) }
+    {
+        let (pattern, negated) = pattern_at(self.row, at);
+        let (shape, _neg) = parts(&pattern, negated);
+        matches!(shape, Shape::MagEq(_, _) | Shape::MagLt(_, _))
+    }
+
+    /// The literal at a place of the clause.
     pub fn literal(&self, alloc: Global, at: usize) -> Result<Lit, AllocError>
         requires { at < length (clause_of (row_of self.now.row.now)) }
         ensures { IfOk result (λ l. slice_get (map (lit_at (row_of self.now.row.now)
             (arguments_by self.now)) (clause_of (row_of self.now.row.now))) at ≡ Some l) }
     {
-        let (pattern, negated) = pattern_at(self.row, at);
-        let (shape, neg) = parts(&pattern, negated);
-        if let Some(atom) = self.diagram(&shape) {
-            return Ok(Lit { neg, atom });
-        }
         let args = self.arguments(alloc)?;
         let lit = literal_at(alloc, self.row, args.items(), at);
         mem::drop(args);

@@ -1,9 +1,10 @@
 //! What is made of the facts of a step once, for all goals that are searched for by sums.
 
-ghost use Rattle.std.specs.Prelude.{◌≡◌, ◌≤◌, length, IsTrue, IfOk, true};
+ghost use Rattle.std.specs.Prelude.{◌≡◌, ◌≤◌, length, IsTrue, IfOk, None, true};
 ghost use Rattle.std.specs.List.{list_all};
 ghost use Rattle.e_literal.specs.WellFormed.{is_well_formed};
 ghost use Rattle.e_clause.specs.Assignment.{terms_of_lits};
+ghost use Rattle.e_clause.specs.Counterexample.{ListsCounterexample};
 ghost use Rattle.e_clause.specs.LimitedFacts.{most_terms_of_step};
 ghost use Rattle.e_clause.specs.Metric.{MetricConsequence};
 ghost use Rattle.e_metric.specs.Fronts.{AreFronts};
@@ -12,7 +13,7 @@ ghost use Rattle.e_transfer.specs.Prepared.{IsPrepared};
 
 use crate::areas::areas_of;
 use crate::marks::{MARKS, marks_of};
-use crate::models::{Filling, are_of_model, refutes};
+use crate::models::{Filling, are_of_model, equal_value, refutes};
 use e_facts::Facts;
 use e_literal::{Lit, Term, Values};
 use e_metric::{Metric, MetricFacts};
@@ -24,28 +25,23 @@ use std::alloc::{AllocError, Global};
 pub struct Prepared {
     pub values: Values,
     pub areas: Vec<Term>,
+    /// The values are those of a model, whatever number each term has that they do not list.
+    pub lists_all: bool,
     pub plain_model: bool,
     pub spread_model: bool,
     pub flat_model: bool,
     pub marks: [bool; MARKS],
 }
 
-// The values with which all metric facts are true, if the answer has them. What they are is a
-// matter of speed alone.
-fn values_of(alloc: Global, answer: Metric) -> Values {
-    match answer {
-        Metric::No(values) => values,
-        Metric::Yes(_) | Metric::TooWide(_) => Values::new(Vec::new(alloc)),
-    }
-}
-
-// What is made of the facts, with these values and areas.
-fn with_values(facts: &Facts, values: Values, areas: Vec<Term>) -> Prepared
-    requires { IsTrue (name_areas_of areas.items facts.now) }
+// What is made of the facts, with these values, which may list all terms of the facts, and areas.
+fn with_values(facts: &Facts, values: Values, lists_all: bool, areas: Vec<Term>) -> Prepared
+    requires listed { lists_all ≡ true → ListsCounterexample facts.now None values }
+    requires named { IsTrue (name_areas_of areas.items facts.now) }
     ensures { IsPrepared facts.now result }
 {
     Prepared {
-        plain_model: are_of_model(facts, Filling::Ones, values.items()),
+        lists_all,
+        plain_model: are_of_model(facts, Filling::Each(1), values.items()),
         spread_model: are_of_model(facts, Filling::Spread, values.items()),
         flat_model: are_of_model(facts, Filling::Flat, values.items()),
         marks: marks_of(facts),
@@ -66,8 +62,12 @@ pub fn prepare(
     ensures { IfOk result (IsPrepared facts.now) }
 {
     let areas = areas_of(alloc, facts)?;
-    let answer = metric_facts.absurd(alloc, facts)?;
-    Ok(with_values(facts, values_of(alloc, answer), areas))
+    match metric_facts.absurd(alloc, facts)? {
+        Metric::No(values) => Ok(with_values(facts, values, true, areas)),
+        Metric::Yes(_) | Metric::TooWide(_) => {
+            Ok(with_values(facts, Values::new(Vec::new(alloc)), false, areas))
+        }
+    }
 }
 
 impl Prepared {
@@ -77,7 +77,12 @@ impl Prepared {
         ensures { result ≡ true → ¬ MetricConsequence facts.now lit.now }
     {
         let values = self.values.items();
-        if self.plain_model && refutes(facts, Filling::Ones, values, lit) {
+        if self.lists_all {
+            if let Some(number) = equal_value(values, lit) {
+                return refutes(facts, Filling::Each(number), values, lit);
+            }
+        }
+        if self.plain_model && refutes(facts, Filling::Each(1), values, lit) {
             return true;
         }
         self.spread_model && refutes(facts, Filling::Spread, values, lit)

@@ -7,13 +7,15 @@ ghost use Rattle.e_clause.specs.Table.{table};
 ghost use Rattle.e_clause.specs.Views.{row_of};
 ghost use Rattle.e_transfer.specs.GivenGoals.{RuleSearchIs, NoneWithBindings};
 ghost use Rattle.e_transfer.specs.GivenGoals.{NoneWithEquations, NoneAt, NoneOf, NoneGives};
+ghost use Rattle.e_transfer.specs.Marks;
 ghost use Rattle.e_transfer.specs.inner.Plans.{total_of};
 
 use crate::areas::place_of_equality;
+use crate::bound_facts;
 use crate::clause::{clause_len, pattern_at};
 use crate::equations::Equation;
 use crate::instance_search::InstanceSearch;
-use crate::marks::{may_all_hold, may_be_goal};
+use crate::marks::{is_equation, mark_of, may_all_hold, may_be_goal};
 use crate::matches::matches;
 use crate::order::order;
 use crate::plan::make_plan;
@@ -32,6 +34,7 @@ fn search_with_bindings(
     row: &Row,
     preferred: &[u8],
     place: usize,
+    equality: Option<usize>,
     bindings: &[Binding],
 ) -> Result<Verdict<TransferCert>, AllocError>
     requires of_table { slice_get table rule ≡ Some (row_of row.now) }
@@ -46,9 +49,10 @@ fn search_with_bindings(
     let task = InstanceSearch {
         query: *query,
         rule,
+        row,
         place,
         plan: &plan,
-        equality: place_of_equality(row),
+        equality,
     };
     let found = search(alloc, &task, &mut (), &plan.spans, &mut chosen);
     mem::drop(plan);
@@ -69,6 +73,7 @@ fn search_with_equations(
     row: &Row,
     preferred: &[u8],
     place: usize,
+    equality: Option<usize>,
     equations: &[Equation],
 ) -> Result<Verdict<TransferCert>, AllocError>
     requires of_table { slice_get table rule ≡ Some (row_of row.now) }
@@ -77,6 +82,9 @@ fn search_with_equations(
         query.now.goal.now (NoneWithEquations query.now.strength query.now.scope query.now.facts.now
         query.now.goal.now rule place equations.now)) }
 {
+    if !bound_facts::may_all_hold(query, row, equations, place) {
+        return Ok(Verdict::No);
+    }
     let total = row.points as usize + row.lines as usize + row.circles as usize;
     match unify(alloc, total, equations)? {
         Some(bindings) => search_with_bindings(
@@ -86,6 +94,7 @@ fn search_with_equations(
             row,
             preferred,
             place,
+            equality,
             bindings.items(),
         ),
         None => Ok(Verdict::No),
@@ -99,16 +108,18 @@ fn search_place(
     rule: Rule,
     row: &Row,
     preferred: &[u8],
+    goal_mark: usize,
     place: usize,
 ) -> Result<Verdict<TransferCert>, AllocError>
     requires of_table { slice_get table rule ≡ Some (row_of row.now) }
     requires transfer { IsTrue (is_transfer rule) }
+    requires of_goal { goal_mark ≡ Marks.lit_mark query.now.goal.now }
     requires in_clause { place < length (clause_of (row_of row.now)) }
     ensures { IfOk result (RuleSearchIs query.now.strength query.now.scope query.now.facts.now
         query.now.goal.now (NoneAt query.now.strength query.now.scope query.now.facts.now
         query.now.goal.now rule place)) }
 {
-    if !may_be_goal(query, row, place) {
+    if !may_be_goal(query, goal_mark, row, place) {
         return Ok(Verdict::No);
     }
     if !may_all_hold(query, row, place) {
@@ -116,8 +127,22 @@ fn search_place(
     }
     let (pattern, negated) = pattern_at(row, place);
     let matches = matches(alloc, row, &pattern, negated, query.goal)?;
+    let equality = if query.hints.is_none() || is_equation(query.goal) {
+        None
+    } else {
+        place_of_equality(row)
+    };
     for equations in &matches {
-        match search_with_equations(alloc, query, rule, row, preferred, place, equations.items())? {
+        match search_with_equations(
+            alloc,
+            query,
+            rule,
+            row,
+            preferred,
+            place,
+            equality,
+            equations.items(),
+        )? {
             Verdict::No => {}
             Verdict::Yes(cert) => return Ok(Verdict::Yes(cert)),
             Verdict::TooWide(width) => return Ok(Verdict::TooWide(width)),
@@ -132,15 +157,17 @@ fn search_rule(
     query: &Query,
     rule: Rule,
     preferred: &[u8],
+    goal_mark: usize,
 ) -> Result<Verdict<TransferCert>, AllocError>
-    requires { IsTrue (is_transfer rule) }
+    requires transfer { IsTrue (is_transfer rule) }
+    requires of_goal { goal_mark ≡ Marks.lit_mark query.now.goal.now }
     ensures { IfOk result
         (RuleSearchIs query.now.strength query.now.scope query.now.facts.now query.now.goal.now
         (NoneOf query.now.strength query.now.scope query.now.facts.now query.now.goal.now rule)) }
 {
     let row = rule.table_row();
     for place in 0..clause_len(row) {
-        match search_place(alloc, query, rule, row, preferred, place)? {
+        match search_place(alloc, query, rule, row, preferred, goal_mark, place)? {
             Verdict::No => {}
             Verdict::Yes(cert) => return Ok(Verdict::Yes(cert)),
             Verdict::TooWide(width) => return Ok(Verdict::TooWide(width)),
@@ -156,8 +183,9 @@ pub fn search_rules(alloc: Global, query: &Query) -> Result<Verdict<TransferCert
         (RuleSearchIs query.now.strength query.now.scope query.now.facts.now query.now.goal.now
         (NoneGives query.now.strength query.now.scope query.now.facts.now query.now.goal.now)) }
 {
+    let goal_mark = mark_of(query.goal);
     for at in 0..TRANSFER_RULES {
-        match search_rule(alloc, query, Rule::transfer(at), order(at))? {
+        match search_rule(alloc, query, Rule::transfer(at), order(at), goal_mark)? {
             Verdict::No => {}
             Verdict::Yes(cert) => return Ok(Verdict::Yes(cert)),
             Verdict::TooWide(width) => return Ok(Verdict::TooWide(width)),

@@ -4,7 +4,7 @@ ghost use Rattle.std.specs.Prelude.{◌≡◌, ◌++◌, ◌<◌, ◌^◌, lengt
 ghost use Rattle.std.specs.List.{list_all};
 ghost use Rattle.std.specs.Option.{option_map};
 ghost use Rattle.e_literal.specs.Scopes;
-ghost use Rattle.e_theorem.specs.Statements.{all_stated};
+ghost use Rattle.e_theorem.specs.Statements.{as_views};
 ghost use Rattle.e_deriv.specs.Fitting.{is_small, is_small_statement};
 ghost use Rattle.e_deriv.specs.Script.{script_of, steps_script, step_script, close_script};
 ghost use Rattle.e_trim.specs.Trimmed;
@@ -76,11 +76,11 @@ fn build(
     flags: &mut Vec<bool>,
     out: &mut Vec<Step>,
 ) -> Result<Close, AllocError>
-    requires scopes { AreSmall (all_stated before.now)
+    requires scopes { AreSmall (as_views before.now)
         (steps_script steps.now (close_script close.now)) scope }
-    requires statements { IsTrue (list_all is_small_statement (all_stated before.now)) }
+    requires statements { IsTrue (list_all is_small_statement (as_views before.now)) }
     requires few { FewKept scope kept.now }
-    ensures { IfOk result (λ c. IsBuilt (all_stated before.now) kept.now
+    ensures { IfOk result (λ c. IsBuilt (as_views before.now) kept.now
         (steps_script steps.now (close_script close.now)) scope flags.old.items flags.new.items
         out.old.items out.new.items c) }
 {
@@ -110,10 +110,10 @@ fn build_step(
     kept: &[Obj],
     flags: &mut Vec<bool>,
 ) -> Result<Step, AllocError>
-    requires scopes { IsSmallStep (all_stated before.now) step.now scope }
-    requires statements { IsTrue (list_all is_small_statement (all_stated before.now)) }
+    requires scopes { IsSmallStep (as_views before.now) step.now scope }
+    requires statements { IsTrue (list_all is_small_statement (as_views before.now)) }
     requires few { FewKept scope kept.now }
-    ensures { IfOk result (λ s. StepIsBuilt (all_stated before.now) kept.now step.now scope
+    ensures { IfOk result (λ s. StepIsBuilt (as_views before.now) kept.now step.now scope
         flags.old.items flags.new.items s) }
 {
     match step {
@@ -181,10 +181,10 @@ fn build_close(
     kept: &[Obj],
     flags: &mut Vec<bool>,
 ) -> Result<Close, AllocError>
-    requires scopes { AreSmall (all_stated before.now) (close_script close.now) scope }
-    requires statements { IsTrue (list_all is_small_statement (all_stated before.now)) }
+    requires scopes { AreSmall (as_views before.now) (close_script close.now) scope }
+    requires statements { IsTrue (list_all is_small_statement (as_views before.now)) }
     requires few { FewKept scope kept.now }
-    ensures { IfOk result (λ c. CloseIsBuilt (all_stated before.now) kept.now
+    ensures { IfOk result (λ c. CloseIsBuilt (as_views before.now) kept.now
         (close_script close.now) scope flags.old.items flags.new.items c) }
 {
     match close {
@@ -218,10 +218,10 @@ pub fn build_block(
     kept: &[Obj],
     flags: &mut Vec<bool>,
 ) -> Result<Block, AllocError>
-    requires scopes { AreSmall (all_stated before.now) (script_of block.now) scope }
-    requires statements { IsTrue (list_all is_small_statement (all_stated before.now)) }
+    requires scopes { AreSmall (as_views before.now) (script_of block.now) scope }
+    requires statements { IsTrue (list_all is_small_statement (as_views before.now)) }
     requires few { FewKept scope kept.now }
-    ensures { IfOk result (λ b. BlockIsBuilt (all_stated before.now) kept.now
+    ensures { IfOk result (λ b. BlockIsBuilt (as_views before.now) kept.now
         (script_of block.now) scope flags.old.items flags.new.items b) }
 {
     let mut steps = Vec::new(alloc);

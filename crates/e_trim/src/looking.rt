@@ -4,7 +4,7 @@ ghost use Rattle.std.specs.Prelude.{◌≡◌, ◌++◌, ◌<◌, ◌^◌, IfOk,
 ghost use Rattle.std.specs.List.{list_all};
 ghost use Rattle.e_literal.specs.Facts.{with_facts};
 ghost use Rattle.e_literal.specs.Scopes.{with_sorts};
-ghost use Rattle.e_theorem.specs.Statements.{all_stated};
+ghost use Rattle.e_theorem.specs.Statements.{as_views};
 ghost use Rattle.e_deriv.specs.Fitting.{is_small, is_small_statement};
 ghost use Rattle.e_deriv.specs.Script.{script_of, steps_script, close_script};
 ghost use Rattle.e_trim.specs.Looked.{both};
@@ -36,15 +36,15 @@ pub fn look(
     state: &mut StepState,
     flags: &mut Vec<bool>,
 ) -> Result<Wanted, AllocError>
-    requires ready { IsReady (all_stated before.now)
+    requires ready { IsReady (as_views before.now)
         (steps_script steps.now (close_script close.now)) state.old.scope state.old.facts
         (goal_view goal.now) }
-    requires statements { IsTrue (list_all is_small_statement (all_stated before.now)) }
+    requires statements { IsTrue (list_all is_small_statement (as_views before.now)) }
     ensures wanted { IfOk result
-        (λ w. w ≡ wants (all_stated before.now) (steps_script steps.now (close_script close.now))
+        (λ w. w ≡ wants (as_views before.now) (steps_script steps.now (close_script close.now))
         state.old.scope state.old.facts (goal_view goal.now)) }
     ensures flags { OnOk result (flags.new.items ≡ flags.old.items
-        ++ flags_of (all_stated before.now) (steps_script steps.now (close_script close.now))
+        ++ flags_of (as_views before.now) (steps_script steps.now (close_script close.now))
         state.old.scope state.old.facts (goal_view goal.now)) }
     ensures kept { OnOk result (KeepsFacts state.old state.new) }
 {
@@ -77,11 +77,11 @@ fn look_back(
     flags: &mut Vec<bool>,
     out: &mut Wanted,
 ) -> Result<(), AllocError>
-    requires ready { IsReadyToTrim (all_stated before.now) step.now state.old }
-    requires statements { IsTrue (list_all is_small_statement (all_stated before.now)) }
+    requires ready { IsReadyToTrim (as_views before.now) step.now state.old }
+    requires statements { IsTrue (list_all is_small_statement (as_views before.now)) }
     ensures wanted { OnOk result
-        (StepAdds (all_stated before.now) step.now state.old out.old out.new) }
-    ensures flags { OnOk result (FlagsAdded (all_stated before.now) step.now state.old out.old
+        (StepAdds (as_views before.now) step.now state.old out.old out.new) }
+    ensures flags { OnOk result (FlagsAdded (as_views before.now) step.now state.old out.old
         flags.old.items flags.new.items) }
     ensures kept { OnOk result (KeepsFacts state.old state.new) }
 {
@@ -104,12 +104,12 @@ fn look_at_step(
     flags: &mut Vec<bool>,
     out: &mut Wanted,
 ) -> Result<(), AllocError>
-    requires ready { IsReadyToTrim (all_stated before.now) step.now state.old }
-    requires statements { IsTrue (list_all is_small_statement (all_stated before.now)) }
+    requires ready { IsReadyToTrim (as_views before.now) step.now state.old }
+    requires statements { IsTrue (list_all is_small_statement (as_views before.now)) }
     ensures wanted { OnOk result
-        (StepWants (all_stated before.now) step.now state.old out.old out.new) }
+        (StepWants (as_views before.now) step.now state.old out.old out.new) }
     ensures flags { OnOk result
-        (StepFlags (all_stated before.now) step.now state.old flags.old.items flags.new.items) }
+        (StepFlags (as_views before.now) step.now state.old flags.old.items flags.new.items) }
     ensures kept { OnOk result (KeepsFacts state.old state.new) }
 {
     look_step(alloc, before, step, state, out)?;
@@ -157,15 +157,15 @@ fn look_inside(
 ) -> Result<Wanted, AllocError>
     requires small { IsTrue (is_small state.old.scope) }
     requires few { length sorts.now < 2 ^ 15 }
-    requires ready { IsReady (all_stated before.now) (script_of block.now)
+    requires ready { IsReady (as_views before.now) (script_of block.now)
         (with_sorts state.old.scope sorts.now) (with_facts state.old.facts lits.now)
         (goal_view goal.now) }
-    requires statements { IsTrue (list_all is_small_statement (all_stated before.now)) }
+    requires statements { IsTrue (list_all is_small_statement (as_views before.now)) }
     ensures wanted { IfOk result (λ w. w ≡ wants_outside state.old.scope state.old.facts
-        (wants (all_stated before.now) (script_of block.now) (with_sorts state.old.scope sorts.now)
+        (wants (as_views before.now) (script_of block.now) (with_sorts state.old.scope sorts.now)
         (with_facts state.old.facts lits.now) (goal_view goal.now))) }
     ensures flags { OnOk result (flags.new.items ≡ flags.old.items
-        ++ flags_of (all_stated before.now) (script_of block.now) (with_sorts state.old.scope sorts.now)
+        ++ flags_of (as_views before.now) (script_of block.now) (with_sorts state.old.scope sorts.now)
         (with_facts state.old.facts lits.now) (goal_view goal.now)) }
     ensures same { OnOk result (state.new ≡ state.old) }
 {
@@ -194,13 +194,13 @@ fn look_from_close(
     state: &mut StepState,
     flags: &mut Vec<bool>,
 ) -> Result<Wanted, AllocError>
-    requires ready { IsReady (all_stated before.now)
+    requires ready { IsReady (as_views before.now)
         (close_script close.now) state.old.scope state.old.facts (goal_view goal.now) }
-    requires statements { IsTrue (list_all is_small_statement (all_stated before.now)) }
-    ensures wanted { IfOk result (λ w. w ≡ wants (all_stated before.now)
+    requires statements { IsTrue (list_all is_small_statement (as_views before.now)) }
+    ensures wanted { IfOk result (λ w. w ≡ wants (as_views before.now)
         (close_script close.now) state.old.scope state.old.facts (goal_view goal.now)) }
     ensures flags { OnOk result
-        (flags.new.items ≡ flags.old.items ++ flags_of (all_stated before.now)
+        (flags.new.items ≡ flags.old.items ++ flags_of (as_views before.now)
         (close_script close.now) state.old.scope state.old.facts (goal_view goal.now)) }
     ensures kept { OnOk result (KeepsFacts state.old state.new) }
 {
@@ -226,13 +226,13 @@ fn look_at_close(
     flags: &mut Vec<bool>,
     out: &mut Wanted,
 ) -> Result<(), AllocError>
-    requires ready { IsReady (all_stated before.now)
+    requires ready { IsReady (as_views before.now)
         (close_script close.now) state.old.scope state.old.facts (goal_view goal.now) }
-    requires statements { IsTrue (list_all is_small_statement (all_stated before.now)) }
-    ensures wanted { OnOk result (out.new ≡ both out.old (wants (all_stated before.now)
+    requires statements { IsTrue (list_all is_small_statement (as_views before.now)) }
+    ensures wanted { OnOk result (out.new ≡ both out.old (wants (as_views before.now)
         (close_script close.now) state.old.scope state.old.facts (goal_view goal.now))) }
     ensures flags { OnOk result
-        (flags.new.items ≡ flags.old.items ++ flags_of (all_stated before.now)
+        (flags.new.items ≡ flags.old.items ++ flags_of (as_views before.now)
         (close_script close.now) state.old.scope state.old.facts (goal_view goal.now)) }
     ensures kept { OnOk result (KeepsFacts state.old state.new) }
 {

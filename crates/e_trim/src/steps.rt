@@ -4,12 +4,12 @@ ghost use Rattle.std.specs.Prelude.{◌≡◌, ℕ, [], ◌∷◌, map, IfOk, On
 ghost use Rattle.std.specs.List.{list_all, list_any};
 ghost use Rattle.e_literal.specs.Use.{StatementView, needs_of_use, gives_of_use};
 ghost use Rattle.e_construct.specs.Superposing;
-ghost use Rattle.e_theorem.specs.Statements.{all_stated};
+ghost use Rattle.e_theorem.specs.Statements.{as_views};
 ghost use Rattle.e_deriv.specs.Fitting.{is_small, is_small_statement};
 ghost use Rattle.e_deriv.specs.Goal as goals;
 ghost use Rattle.e_deriv.specs.Goal.{Goal as BlockGoal, goal_view};
 ghost use Rattle.e_deriv.specs.PlacedSteps.{theorem_at};
-ghost use Rattle.e_deriv.specs.Parts.{written};
+ghost use Rattle.e_deriv.specs.Parts.{args_written};
 ghost use Rattle.e_deriv.specs.Script as scripts;
 ghost use Rattle.e_deriv.specs.Script.{Script, step_script, close_script};
 ghost use Rattle.e_trim.specs.Looked.{both, wanted_objects, of_step};
@@ -24,9 +24,9 @@ use crate::step_state::StepState;
 use crate::wanted::{Wanted, line, point};
 use e_clause::{By, Cert};
 use e_construct::{Construction, Superpose};
-use e_deriv::{Close, Goal, Step, copy_lits};
-use e_literal::{Items, Lit, Map, Obj, Scope, Sort, copy, next_objects};
-use e_theorem::{Applied, Statement, UseFault, all_renamed, use_of};
+use e_deriv::{Close, Goal, Step, copy_lits, goal_with};
+use e_literal::{Items, Lit, Obj, Scope, Sort, copy, next_objects};
+use e_theorem::{Applied, Statement, UseFault, use_of};
 use std::alloc::{AllocError, Global};
 use std::mem;
 
@@ -34,7 +34,7 @@ use std::mem;
 #[tactic(auto, using(crate::proofs::kept_scripts::StepParts::by_step))]
 pub fn makes<'a>(before: &'a [Statement], step: &'a Step) -> &'a [Sort]
     ensures { (rest : Script)
-        → result.now ≡ makes_at (all_stated before.now) (step_script step.now rest) }
+        → result.now ≡ makes_at (as_views before.now) (step_script step.now rest) }
 {
     match step {
         Step::Make { construction, .. } => construction.made(),
@@ -56,7 +56,7 @@ fn one(alloc: Global, lit: &Lit) -> Result<Items<Lit>, AllocError>
 
 /// The arguments that are written.
 pub fn written_of(alloc: Global, args: &[Option<Obj>]) -> Result<Vec<Obj>, AllocError>
-    ensures { IfOk result (λ v. v.items ≡ written args.now) }
+    ensures { IfOk result (λ v. v.items ≡ args_written args.now) }
 {
     let mut objects = Vec::new(alloc);
     for arg in args {
@@ -76,12 +76,12 @@ fn use_at(
     scope: Scope,
 ) -> Result<Applied, AllocError>
     requires small { IsTrue (is_small scope) }
-    requires statements { IsTrue (list_all is_small_statement (all_stated before.now)) }
-    requires fits { IsApplied (all_stated before.now) theorem args.now scope }
+    requires statements { IsTrue (list_all is_small_statement (as_views before.now)) }
+    requires fits { IsApplied (as_views before.now) theorem args.now scope }
     ensures needs { IfOk result (λ a. a.needs
-        ≡ needs_of_use (theorem_at (all_stated before.now) theorem) (written args.now) scope) }
+        ≡ needs_of_use (theorem_at (as_views before.now) theorem) (args_written args.now) scope) }
     ensures gives { IfOk result (λ a. a.gives
-        ≡ gives_of_use (theorem_at (all_stated before.now) theorem) (written args.now) scope) }
+        ≡ gives_of_use (theorem_at (as_views before.now) theorem) (args_written args.now) scope) }
 {
     let Some(statement) = before.get(theorem as usize) else {
         unreachable!();
@@ -103,10 +103,10 @@ pub fn joins(
     scope: Scope,
 ) -> Result<Items<Lit>, AllocError>
     requires small { IsTrue (is_small scope) }
-    requires statements { IsTrue (list_all is_small_statement (all_stated before.now)) }
-    requires fits { StepFits (all_stated before.now) step.now scope }
+    requires statements { IsTrue (list_all is_small_statement (as_views before.now)) }
+    requires fits { StepFits (as_views before.now) step.now scope }
     ensures { IfOk result (λ ls. (rest : Script)
-        → ls ≡ joins_at (all_stated before.now) (step_script step.now rest) scope) }
+        → ls ≡ joins_at (as_views before.now) (step_script step.now rest) scope) }
 {
     match step {
         Step::Cite(by) => one(alloc, &by.lit),
@@ -131,10 +131,10 @@ pub fn pass(
     state: &mut StepState,
 ) -> Result<(), AllocError>
     requires small { IsTrue (is_small state.old.scope) }
-    requires statements { IsTrue (list_all is_small_statement (all_stated before.now)) }
-    requires fits { StepFits (all_stated before.now) step.now state.old.scope }
+    requires statements { IsTrue (list_all is_small_statement (as_views before.now)) }
+    requires fits { StepFits (as_views before.now) step.now state.old.scope }
     ensures { OnOk result ((rest : Script)
-        → state.new ≡ state_after (all_stated before.now) (step_script step.now rest) state.old) }
+        → state.new ≡ state_after (as_views before.now) (step_script step.now rest) state.old) }
 {
     let lits = joins(alloc, before, step, state.scope)?;
     let opened = state.extend(alloc, makes(before, step), lits.items());
@@ -166,9 +166,9 @@ pub fn is_kept(
     wanted: &Wanted,
 ) -> Result<bool, AllocError>
     requires small { IsTrue (is_small state.now.scope) }
-    requires statements { IsTrue (list_all is_small_statement (all_stated before.now)) }
-    requires fits { StepFits (all_stated before.now) step.now state.now.scope }
-    ensures { IfOk result (λ b. (rest : Script) → b ≡ Trimmed.is_kept (all_stated before.now)
+    requires statements { IsTrue (list_all is_small_statement (as_views before.now)) }
+    requires fits { StepFits (as_views before.now) step.now state.now.scope }
+    ensures { IfOk result (λ b. (rest : Script) → b ≡ Trimmed.is_kept (as_views before.now)
         (step_script step.now rest) state.now.scope state.now.facts wanted.now) }
 {
     let objects = next_objects(alloc, state.scope, makes(before, step))?;
@@ -238,10 +238,10 @@ fn look_apply(
     out: &mut Wanted,
 ) -> Result<(), AllocError>
     requires small { IsTrue (is_small state.now.scope) }
-    requires statements { IsTrue (list_all is_small_statement (all_stated before.now)) }
-    requires fits { IsApplied (all_stated before.now) theorem args.now state.now.scope }
+    requires statements { IsTrue (list_all is_small_statement (as_views before.now)) }
+    requires fits { IsApplied (as_views before.now) theorem args.now state.now.scope }
     ensures { OnOk result ((names : List (List ℕ)) (rest : Script) (goal : BlockGoal)
-        → out.new ≡ both out.old (of_step (all_stated before.now) (as_step (scripts.Apply theorem
+        → out.new ≡ both out.old (of_step (as_views before.now) (as_step (scripts.Apply theorem
         args.now names certs.now rest) state.now.scope state.now.facts goal))) }
 {
     let objects = written_of(alloc, args)?;
@@ -300,10 +300,10 @@ pub fn look_step(
     out: &mut Wanted,
 ) -> Result<(), AllocError>
     requires small { IsTrue (is_small state.now.scope) }
-    requires statements { IsTrue (list_all is_small_statement (all_stated before.now)) }
-    requires fits { StepFits (all_stated before.now) step.now state.now.scope }
+    requires statements { IsTrue (list_all is_small_statement (as_views before.now)) }
+    requires fits { StepFits (as_views before.now) step.now state.now.scope }
     ensures { OnOk result ((rest : Script) (goal : BlockGoal)
-        → out.new ≡ both out.old (of_step (all_stated before.now)
+        → out.new ≡ both out.old (of_step (as_views before.now)
         (as_step (step_script step.now rest) state.now.scope state.now.facts goal))) }
 {
     match step {
@@ -341,15 +341,6 @@ pub fn look_step(
 }
 
 // ---- what a close wants
-
-/// The literals of the goal with these objects for its made ones.
-fn goal_with(alloc: Global, goal: &Goal, objects: &[Obj]) -> Result<Vec<Lit>, AllocError>
-    requires one_sort { map (λ o. o.sort) goal.now.made.now ≡ map (λ o. o.sort) objects.now }
-    ensures { IfOk result (λ lits. lits.items ≡ goals.goal_with (goal_view goal.now) objects.now) }
-{
-    let images = Map::of_pairs(alloc, goal.made, objects)?;
-    all_renamed(alloc, goal.shown, &images)
-}
 
 fn look_qed(
     alloc: Global,

@@ -2,7 +2,7 @@
 
 ghost use Rattle.std.specs.Prelude.{◌≡◌, IfOk};
 ghost use Rattle.e_literal.specs.Use.{scope_of};
-ghost use Rattle.e_theorem.specs.Statements.{stated, all_stated};
+ghost use Rattle.e_theorem.specs.Statements.{as_view, as_views};
 ghost use Rattle.e_deriv.specs.Certified.{Certified};
 ghost use Rattle.e_deriv.specs.Goal.{goal_of_statement};
 ghost use Rattle.e_deriv.specs.Script.{script_of};
@@ -25,8 +25,8 @@ use std::mem;
 /// What holds before the first step: the declared objects are in scope, and the given literals are
 /// facts.
 fn begin(alloc: Global, scope: Scope, statement: &Statement) -> Result<StepState, AllocError>
-    requires { scope ≡ scope_of (stated statement.now) }
-    ensures { IfOk result (λ x. x ≡ start_of (stated statement.now)) }
+    requires { scope ≡ scope_of (as_view statement.now) }
+    ensures { IfOk result (λ x. x ≡ start_of (as_view statement.now)) }
 {
     let mut facts = Facts::new(alloc);
     join_copies(alloc, &mut facts, statement.given.items())?;
@@ -40,10 +40,10 @@ fn flags_of(
     statement: &Statement,
     deriv: &Block,
 ) -> Result<Vec<bool>, AllocError>
-    requires { IsTrimmable (all_stated before.now) (stated statement.now) (script_of deriv.now) }
-    ensures { IfOk result (λ v. v.items ≡ flags.flags_of (all_stated before.now)
-        (script_of deriv.now) (scope_of (stated statement.now))
-        (start_of (stated statement.now)).facts (goal_of_statement (stated statement.now))) }
+    requires { IsTrimmable (as_views before.now) (as_view statement.now) (script_of deriv.now) }
+    ensures { IfOk result (λ v. v.items ≡ flags.flags_of (as_views before.now)
+        (script_of deriv.now) (scope_of (as_view statement.now))
+        (start_of (as_view statement.now)).facts (goal_of_statement (as_view statement.now))) }
 {
     let scope = with_sorts(NOTHING, statement.declared.items());
     let made = next_objects(alloc, scope, statement.made.items())?;
@@ -78,11 +78,11 @@ pub fn trim(
     statement: &Statement,
     deriv: &Block,
 ) -> Result<Block, AllocError>
-    requires { IsTrimmable (all_stated before.now) (stated statement.now) (script_of deriv.now) }
+    requires { IsTrimmable (as_views before.now) (as_view statement.now) (script_of deriv.now) }
     ensures trimmed { IfOk result (λ b. script_of b
-        ≡ trimmed_script (all_stated before.now) (stated statement.now) (script_of deriv.now)) }
+        ≡ trimmed_script (as_views before.now) (as_view statement.now) (script_of deriv.now)) }
     ensures certified { IfOk result
-        (λ b. Certified (all_stated before.now) (stated statement.now) (script_of b)) }
+        (λ b. Certified (as_views before.now) (as_view statement.now) (script_of b)) }
 {
     let mut flags = flags_of(alloc, before, statement, deriv)?;
     let declared = statement.declared.items();

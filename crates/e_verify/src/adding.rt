@@ -25,18 +25,19 @@ pub fn add_row(totals: &mut Totals, row: Row, multiplier: i128) -> Result<(), Al
             minus,
             turned,
             ..
-        } => add_difference(totals, plus, minus, turned_by(turned, multiplier)),
+        } => add_difference(totals, plus, minus, negated_if(turned, multiplier)),
         Row::Pos(term) => totals.add(term, multiplier),
         Row::Least(term) => totals.add(term, multiplier),
         Row::Top(term) => {
             totals.add(Term::Right, product(multiplier, 2))?;
-            totals.add(term, turned_by(true, multiplier))
+            totals.add(term, negated_if(true, multiplier))
         }
         Row::Right => totals.add(Term::Right, multiplier),
     }
 }
 
-fn turned_by(turned: bool, multiplier: i128) -> i128
+/// The multiplier, negated where the row is turned.
+fn negated_if(turned: bool, multiplier: i128) -> i128
     requires { unsigned_abs multiplier ≤ 2 ^ 80 }
     ensures value { result ≡ (if turned then neg_ℤ multiplier else multiplier) }
     ensures size { unsigned_abs result ≤ 2 ^ 80 }
@@ -56,7 +57,7 @@ fn add_difference(
         *ℤ coefficient (normal_summands (Rows.plus plus.now ++ Rows.minus minus.now)) t) }
 {
     add_sum(totals, plus, multiplier)?;
-    add_sum(totals, minus, turned_by(true, multiplier))
+    add_sum(totals, minus, negated_if(true, multiplier))
 }
 
 /// Adds the sum `multiplier` times.

@@ -3,7 +3,7 @@
 ghost use Rattle.std.specs.Prelude.{◌≡◌, ◌+◌, ◌<◌, ◌^◌, ℕ, List, IfOk};
 ghost use Rattle.std.specs.Prelude.{IfErr, OnOk, IsTrue, IsFalse, Ok};
 ghost use Rattle.std.specs.List.{list_all};
-ghost use Rattle.e_theorem.specs.Statements.{all_stated};
+ghost use Rattle.e_theorem.specs.Statements.{as_views};
 ghost use Rattle.e_deriv.specs.Fitting.{is_small_statement};
 ghost use Rattle.e_deriv.specs.Script.{Claim, Superposed, script_of, step_script, close_script};
 ghost use Rattle.e_verify.specs.declared.reject.Reject.TheVariants.{Bad as IsBad};
@@ -35,13 +35,13 @@ pub fn verify_block(
     state: &mut StepState,
     first: u32,
 ) -> Result<u32, Reject>
-    requires ready { IsCheckable (all_stated before.now) (script_of block.now) state.old
+    requires ready { IsCheckable (as_views before.now) (script_of block.now) state.old
         (goal_view goal.now) first }
-    requires statements { IsTrue (list_all is_small_statement (all_stated before.now)) }
-    ensures ok { IfOk result (λ next. verdict_at (all_stated before.now) (script_of block.now)
+    requires statements { IsTrue (list_all is_small_statement (as_views before.now)) }
+    ensures ok { IfOk result (λ next. verdict_at (as_views before.now) (script_of block.now)
         state.old (goal_view goal.now) first ≡ Ok next) }
     ensures kept { OnOk result (KeepsFirstFacts state.old state.new) }
-    ensures err { IfErr result (RejectIs (verdict_at (all_stated before.now) (script_of block.now)
+    ensures err { IfErr result (RejectIs (verdict_at (as_views before.now) (script_of block.now)
         state.old (goal_view goal.now) first)) }
 {
     let mut number = first;
@@ -60,11 +60,11 @@ fn verify_step(
     state: &mut StepState,
     number: u32,
 ) -> Result<u32, Reject>
-    requires ready { IsCheckableStep (all_stated before.now) step.now state.old number }
-    requires statements { IsTrue (list_all is_small_statement (all_stated before.now)) }
-    ensures ok { IfOk result (λ next. AreVerified (all_stated before.now) (step_script step.now)
+    requires ready { IsCheckableStep (as_views before.now) step.now state.old number }
+    requires statements { IsTrue (list_all is_small_statement (as_views before.now)) }
+    ensures ok { IfOk result (λ next. AreVerified (as_views before.now) (step_script step.now)
         state.old number state.new next) }
-    ensures err { IfErr result (RejectsInStep (all_stated before.now) step.now state.old number) }
+    ensures err { IfErr result (RejectsInStep (as_views before.now) step.now state.old number) }
 {
     match step {
         Step::Cite(by) => verdict_of(check_cite(alloc, by, state)?, number),
@@ -119,12 +119,12 @@ fn verify_claim(
     state: &mut StepState,
     number: u32,
 ) -> Result<u32, Reject>
-    requires ready { AreCheckable (all_stated before.now) (Claim shown.now (script_of inner.now))
+    requires ready { AreCheckable (as_views before.now) (Claim shown.now (script_of inner.now))
         state.old number }
-    requires statements { IsTrue (list_all is_small_statement (all_stated before.now)) }
-    ensures ok { IfOk result (λ next. AreVerified (all_stated before.now)
+    requires statements { IsTrue (list_all is_small_statement (as_views before.now)) }
+    ensures ok { IfOk result (λ next. AreVerified (as_views before.now)
         (Claim shown.now (script_of inner.now)) state.old number state.new next) }
-    ensures err { IfErr result (RejectsInSteps (all_stated before.now)
+    ensures err { IfErr result (RejectsInSteps (as_views before.now)
         (Claim shown.now (script_of inner.now)) state.old number) }
 {
     if !are_over(state.scope, shown) {
@@ -156,14 +156,14 @@ fn verify_superposed(
     state: &mut StepState,
     number: u32,
 ) -> Result<u32, Reject>
-    requires ready { (names : List (List ℕ)) × AreCheckable (all_stated before.now)
+    requires ready { (names : List (List ℕ)) × AreCheckable (as_views before.now)
         (Superposed parts.now.superposition.now names parts.now.shown.now
         parts.now.certs.now (script_of inner.now)) state.old number }
-    requires statements { IsTrue (list_all is_small_statement (all_stated before.now)) }
-    ensures ok { IfOk result (λ next. (names : List (List ℕ)) → AreVerified (all_stated before.now)
+    requires statements { IsTrue (list_all is_small_statement (as_views before.now)) }
+    ensures ok { IfOk result (λ next. (names : List (List ℕ)) → AreVerified (as_views before.now)
         (Superposed parts.now.superposition.now names parts.now.shown.now
         parts.now.certs.now (script_of inner.now)) state.old number state.new next) }
-    ensures err { IfErr result (λ e. (names : List (List ℕ)) → RejectsInSteps (all_stated before.now)
+    ensures err { IfErr result (λ e. (names : List (List ℕ)) → RejectsInSteps (as_views before.now)
         (Superposed parts.now.superposition.now names parts.now.shown.now
         parts.now.certs.now (script_of inner.now)) state.old number e) }
 {
@@ -193,13 +193,13 @@ fn verify_close(
     state: &mut StepState,
     number: u32,
 ) -> Result<u32, Reject>
-    requires ready { IsCheckable (all_stated before.now) (close_script close.now) state.old
+    requires ready { IsCheckable (as_views before.now) (close_script close.now) state.old
         (goal_view goal.now) number }
-    requires statements { IsTrue (list_all is_small_statement (all_stated before.now)) }
-    ensures ok { IfOk result (λ next. verdict_at (all_stated before.now) (close_script close.now)
+    requires statements { IsTrue (list_all is_small_statement (as_views before.now)) }
+    ensures ok { IfOk result (λ next. verdict_at (as_views before.now) (close_script close.now)
         state.old (goal_view goal.now) number ≡ Ok next) }
     ensures kept { OnOk result (KeepsFirstFacts state.old state.new) }
-    ensures err { IfErr result (RejectIs (verdict_at (all_stated before.now)
+    ensures err { IfErr result (RejectIs (verdict_at (as_views before.now)
         (close_script close.now) state.old (goal_view goal.now) number)) }
 {
     match close {

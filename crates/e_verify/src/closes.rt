@@ -1,12 +1,12 @@
 //! Closes without blocks inside: whether one is certified.
 
-ghost use Rattle.std.specs.Prelude.{◌≡◌, List, IfOk, IsTrue, map, true};
+ghost use Rattle.std.specs.Prelude.{◌≡◌, List, IfOk, IsTrue, true};
 ghost use Rattle.std.specs.List.{list_all};
 ghost use Rattle.std.specs.Option.{option_map_or};
 ghost use Rattle.e_literal.specs.Use.{StatementView};
 ghost use Rattle.e_literal.specs.WellFormed.{is_well_formed};
 ghost use Rattle.e_deriv.specs.Certified.{is_certified};
-ghost use Rattle.e_deriv.specs.Goal.{Goal as BlockGoal, goal_with as goal_at, goal_view};
+ghost use Rattle.e_deriv.specs.Goal.{Goal as BlockGoal, goal_view};
 ghost use Rattle.e_deriv.specs.Script.{Qed, Contradiction};
 ghost use Rattle.e_verify.specs.Checking.{step_in_state};
 ghost use Rattle.e_clause.specs.Written.{is_writable_cert, is_writable_against};
@@ -14,9 +14,8 @@ ghost use Rattle.e_clause.specs.Written.{is_writable_cert, is_writable_against};
 use crate::certificate::{certifies_against, certify_all};
 use crate::step_state::StepState;
 use e_clause::{Against, Cert};
-use e_deriv::Goal;
-use e_literal::{Lit, Map, Obj, have_sorts_of};
-use e_theorem::all_renamed;
+use e_deriv::{Goal, goal_with};
+use e_literal::{Obj, have_sorts_of};
 use std::alloc::{AllocError, Global};
 
 /// Whether a qed is certified: each literal of the goal, with these objects for its made ones.
@@ -55,13 +54,4 @@ pub fn is_contradiction_certified(
         Some(against) => certifies_against(alloc, state.scope, &state.facts, against),
         None => Ok(false),
     }
-}
-
-/// The literals of the goal with these objects for its made ones.
-pub fn goal_with(alloc: Global, goal: &Goal, objects: &[Obj]) -> Result<Vec<Lit>, AllocError>
-    requires one_sort { map (λ o. o.sort) goal.now.made.now ≡ map (λ o. o.sort) objects.now }
-    ensures { IfOk result (λ lits. lits.items ≡ goal_at (goal_view goal.now) objects.now) }
-{
-    let images = Map::of_pairs(alloc, goal.made, objects)?;
-    all_renamed(alloc, goal.shown, &images)
 }

@@ -3,12 +3,12 @@
 ghost use Rattle.std.specs.Prelude.{◌≡◌, ◌≤◌, [], take, length, slice_get, OnOk};
 ghost use Rattle.std.specs.List.{list_any, position};
 ghost use Rattle.std.specs.Option.{option_copied};
-ghost use Rattle.e_literal.specs.Facts.{has as is_fact, has_all, with_fact, with_facts};
-ghost use Rattle.e_literal.specs.Facts.{are_apart as say_apart, are_equal_points};
+ghost use Rattle.e_literal.specs.Facts.{has, has_all, with_fact, with_facts};
+ghost use Rattle.e_literal.specs.Facts.{are_apart, are_equal_points};
 ghost use Rattle.e_literal.specs.Literal.{negation};
 ghost use Rattle.e_literal.specs.Same.{same_lit, term_eq};
 ghost use Rattle.e_verify.specs.inner.Fingerprint.{atom_fingerprint};
-ghost use Rattle.e_clause.specs.Assignment.{terms_of_lits, lit_has_term as occurs_in};
+ghost use Rattle.e_clause.specs.Assignment.{terms_of_lits, lit_has_term};
 
 use crate::alike::are_same;
 use crate::fingerprint::fingerprint_of;
@@ -49,7 +49,7 @@ impl Fact {
 
     /// Whether the term occurs in it, as it is written.
     fn has_term(&self, term: Term) -> bool
-        ensures { result ≡ occurs_in term self.now }
+        ensures { result ≡ lit_has_term term self.now }
     {
         lit_has_term(&self.lit, term)
     }
@@ -82,7 +82,7 @@ impl Facts {
 
     /// Whether one the same is there.
     pub(crate) fn has(&self, lit: &Lit) -> bool
-        ensures { result ≡ is_fact self.now lit.now }
+        ensures { result ≡ has self.now lit.now }
     {
         has_same(&self.lits, lit, fingerprint_of(lit))
     }
@@ -116,14 +116,14 @@ impl Facts {
 
     /// Whether the facts say that two points differ, in one order or the other.
     pub(crate) fn are_apart(&self, a: u16, b: u16) -> bool
-        ensures { result ≡ say_apart self.now a b }
+        ensures { result ≡ are_apart self.now a b }
     {
         self.has_differ(a, b) || self.has_differ(b, a)
     }
 
     /// Whether the facts say that two points differ, in this order.
     fn has_differ(&self, a: u16, b: u16) -> bool
-        ensures { result ≡ is_fact self.now (negation (are_equal_points a b)) }
+        ensures { result ≡ has self.now (negation (are_equal_points a b)) }
     {
         let lit = differ(a, b);
         let is_there = self.has(&lit);
@@ -182,7 +182,7 @@ impl Facts {
 /// looked through from the last on, since most that are asked for came late.
 fn has_same(facts: &[Fact], lit: &Lit, fingerprint: u128) -> bool
     requires { fingerprint ≡ atom_fingerprint lit.now.atom }
-    ensures { result ≡ is_fact facts.now lit.now }
+    ensures { result ≡ has facts.now lit.now }
 {
     facts
         .iter()
@@ -200,7 +200,7 @@ fn differ(a: u16, b: u16) -> Lit
 }
 
 fn stands_in_any(facts: &[Fact], term: Term) -> bool
-    ensures { result ≡ list_any (occurs_in term) facts.now }
+    ensures { result ≡ list_any (lit_has_term term) facts.now }
 {
     facts.iter().any(|fact| fact.has_term(term))
 }

@@ -9,8 +9,8 @@ ghost use Rattle.e_verify.specs.inner.Fingerprint.{sum_weight, packed_number, at
 use crate::key::pack;
 use e_literal::{Atom, Lit, Mono, Term, canonical, is_degenerate};
 
-/// The square modulo a prime below 2^30, so that a sum of such numbers with small coefficients
-/// stays far within 128 bits.
+/// The square modulo 2^30 - 35, the largest prime below 2^30, so that a sum of such numbers with
+/// small coefficients stays far within 128 bits.
 #[tactic(auto, unfolding(crate::specs::inner::Fingerprint::square_residue))]
 fn residue_of_square(n: u64) -> u64
     requires { n < 2 ^ 32 }
@@ -20,7 +20,8 @@ fn residue_of_square(n: u64) -> u64
     n * n % 1_073_741_789
 }
 
-/// The number of a term that is written one way.
+/// The number of a term that is written one way. 251 and its square only spread the objects: nothing
+/// rests on which numbers these are.
 fn number_of(term: Term) -> u64
     ensures value { result ≡ term_number term }
     ensures bound { result < 2 ^ 30 }
@@ -65,7 +66,7 @@ fn weight_of(sum: &[Mono]) -> u128
     total
 }
 
-/// A kind of atom and its objects as one number.
+/// A kind of atom, from 1 to 12, and its objects as one number.
 fn number_for(kind: u16, a: u16, b: u16, c: u16) -> u128
     ensures { result ≡ packed_number kind a b c }
 {

@@ -25,9 +25,7 @@ pub use reject::Reject;
 pub use verifier::verify;
 
 // What holds before a step, and its parts: `e_places` goes through a derivation likewise.
-pub use closes::goal_with;
 pub use facts::Facts;
 pub use instances::negated_others;
 pub use step_state::{Checkpoint, StepState};
-pub use steps::written_args;
 pub use verifier::state_at_start;

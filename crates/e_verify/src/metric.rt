@@ -7,7 +7,7 @@ ghost use Rattle.std.specs.List.{list_all};
 ghost use Rattle.e_literal.specs.WellFormed.{is_well_formed};
 ghost use Rattle.e_clause.specs.Sum.{says_differ};
 ghost use Rattle.e_clause.specs.MetricCertificate;
-ghost use Rattle.e_verify.specs.inner.Small.{is_small_row, is_short};
+ghost use Rattle.e_verify.specs.inner.Small.{is_small_row, is_small_lit_row};
 ghost use Rattle.e_verify.specs.inner.Views.{row_view, lit_row_view};
 ghost use Rattle.e_clause.specs.Written.{is_writable_name, is_writable_sum, are_writable_sums};
 
@@ -64,7 +64,7 @@ fn both_refute<'a>(
 ) -> Result<bool, AllocError>
     requires facts { IsTrue (list_all is_well_formed facts.now) }
     requires wanted { IsTrue (option_map_or is_well_formed (option_copied wanted) true) }
-    requires row { IsTrue (is_short row) }
+    requires row { IsTrue (is_small_lit_row row) }
     requires above { IsTrue (is_writable_sum above.now) }
     requires below { IsTrue (is_writable_sum below.now) }
     ensures { IfOk result (λ b. b ≡ MetricCertificate.both_refute facts.now
@@ -99,7 +99,7 @@ fn differing_row<'a>(
     requires name { IsTrue (is_writable_name name.now) }
     ensures row { option_map lit_row_view result
         ≡ MetricCertificate.differing_row facts.now (option_copied wanted.entry) name.now }
-    ensures small { IfSome result (λ c. IsTrue (is_short c)) }
+    ensures small { IfSome result (λ c. IsTrue (is_small_lit_row c)) }
 {
     match name {
         RowName::Fact(lit) => only_differs(fact_row(facts, lit)),
@@ -111,10 +111,10 @@ fn differing_row<'a>(
 
 /// The row, if it says that its form differs from 0.
 fn only_differs<'a>(row: Option<LitRow<'a>>) -> Option<LitRow<'a>>
-    requires { IfSome row (λ c. IsTrue (is_short c)) }
+    requires { IfSome row (λ c. IsTrue (is_small_lit_row c)) }
     ensures row { option_map lit_row_view result ≡ option_and_then
         (λ r. if says_differ r.sense then Some r else None) (option_map lit_row_view row.entry) }
-    ensures small { IfSome result (λ c. IsTrue (is_short c)) }
+    ensures small { IfSome result (λ c. IsTrue (is_small_lit_row c)) }
 {
     match row {
         Some(row) if row.sense == RowSense::Differs => Some(row),
@@ -124,7 +124,7 @@ fn only_differs<'a>(row: Option<LitRow<'a>>) -> Option<LitRow<'a>>
 
 /// The row that says that the form is more than 0.
 fn above_row<'a>(row: LitRow<'a>) -> Row<'a>
-    requires { IsTrue (is_short row) }
+    requires { IsTrue (is_small_lit_row row) }
     ensures row { row_view result ≡ MetricCertificate.above_row (lit_row_view row.entry) }
     ensures small { IsTrue (is_small_row result) }
 {
@@ -138,7 +138,7 @@ fn above_row<'a>(row: LitRow<'a>) -> Row<'a>
 
 /// The row that says that the form is less than 0.
 fn below_row<'a>(row: LitRow<'a>) -> Row<'a>
-    requires { IsTrue (is_short row) }
+    requires { IsTrue (is_small_lit_row row) }
     ensures row { row_view result ≡ MetricCertificate.below_row (lit_row_view row.entry) }
     ensures small { IsTrue (is_small_row result) }
 {

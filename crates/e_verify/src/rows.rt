@@ -8,7 +8,7 @@ ghost use Rattle.e_literal.specs.Rows.{row_of_atom};
 ghost use Rattle.e_literal.specs.WellFormed.{is_well_formed_atom, is_well_formed};
 ghost use Rattle.e_clause.specs.Sum;
 ghost use Rattle.e_clause.specs.declared.cert.RowName.TheVariants.{Least};
-ghost use Rattle.e_verify.specs.inner.Small.{is_small_row, is_short};
+ghost use Rattle.e_verify.specs.inner.Small.{is_small_row, is_small_lit_row};
 ghost use Rattle.e_verify.specs.inner.Views.{row_view, lit_row_view, sense_view, row_scope_view};
 ghost use Rattle.e_clause.specs.Written.{is_writable_name};
 ghost use Rattle.e_verify.specs.inner.RowScopes.{is_well_formed_row_scope};
@@ -102,7 +102,7 @@ pub fn row_named<'a>(row_scope: &RowScope<'a>, name: &'a RowName) -> Option<Row<
 pub fn fact_row<'a>(facts: &Facts, lit: &'a Lit) -> Option<LitRow<'a>>
     requires { IsTrue (is_well_formed lit.now) }
     ensures row { option_map lit_row_view result ≡ Sum.fact_row facts.now lit.now }
-    ensures small { IfSome result (λ c. IsTrue (is_short c)) }
+    ensures small { IfSome result (λ c. IsTrue (is_small_lit_row c)) }
 {
     if facts.has(lit) {
         row_of(&lit.atom, lit.neg)
@@ -115,7 +115,7 @@ pub fn fact_row<'a>(facts: &Facts, lit: &'a Lit) -> Option<LitRow<'a>>
 pub fn row_at<'a>(facts: &'a Facts, place: u32) -> Option<LitRow<'a>>
     requires { IsTrue (list_all is_well_formed facts.now) }
     ensures row { option_map lit_row_view result ≡ Sum.row_at facts.now place }
-    ensures small { IfSome result (λ c. IsTrue (is_short c)) }
+    ensures small { IfSome result (λ c. IsTrue (is_small_lit_row c)) }
 {
     match facts.get(place) {
         Some(lit) => row_of(&lit.atom, lit.neg),
@@ -127,7 +127,7 @@ pub fn row_at<'a>(facts: &'a Facts, place: u32) -> Option<LitRow<'a>>
 pub fn goal_row<'a>(wanted: Option<&'a Lit>) -> Option<LitRow<'a>>
     requires { IsTrue (option_map_or is_well_formed (option_copied wanted) true) }
     ensures row { option_map lit_row_view result ≡ Sum.goal_row (option_copied wanted.entry) }
-    ensures small { IfSome result (λ c. IsTrue (is_short c)) }
+    ensures small { IfSome result (λ c. IsTrue (is_small_lit_row c)) }
 {
     match wanted {
         Some(lit) => row_of(&lit.atom, !lit.neg),
@@ -140,7 +140,7 @@ pub fn goal_row<'a>(wanted: Option<&'a Lit>) -> Option<LitRow<'a>>
 fn row_of<'a>(atom: &'a Atom, neg: bool) -> Option<LitRow<'a>>
     requires { IsTrue (is_well_formed_atom atom.now) }
     ensures row { option_map lit_row_view result ≡ row_of_atom atom.now neg }
-    ensures small { IfSome result (λ c. IsTrue (is_short c)) }
+    ensures small { IfSome result (λ c. IsTrue (is_small_lit_row c)) }
 {
     match atom {
         Atom::MagEq(x, y) => Some(LitRow {
@@ -171,7 +171,7 @@ fn row_of<'a>(atom: &'a Atom, neg: bool) -> Option<LitRow<'a>>
 
 /// The row, unless it says that its form differs from 0.
 fn without_differs<'a>(row: Option<LitRow<'a>>) -> Option<Row<'a>>
-    requires { IfSome row (λ c. IsTrue (is_short c)) }
+    requires { IfSome row (λ c. IsTrue (is_small_lit_row c)) }
     ensures row { option_map row_view result
         ≡ Sum.unless_not (option_map lit_row_view row.entry) }
     ensures small { IfSome result (λ r. IsTrue (is_small_row r)) }

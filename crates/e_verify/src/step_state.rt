@@ -3,7 +3,7 @@
 ghost use Rattle.std.specs.Prelude.{◌≡◌, OnOk, IsTrue};
 ghost use Rattle.e_literal.specs.Literal.{negation};
 ghost use Rattle.e_literal.specs.Facts.{with_fact, with_facts};
-ghost use Rattle.e_theorem.specs.Statements.{stated};
+ghost use Rattle.e_theorem.specs.Statements.{as_view};
 ghost use Rattle.e_deriv.specs.Fitting.{is_small, is_small_statement};
 ghost use Rattle.e_verify.specs.StepStates.{checkpoint_of_state, state_restored};
 ghost use Rattle.e_verify.specs.StepStates.{state_with_facts, state_after_make};
@@ -48,7 +48,7 @@ impl StepState {
         self.facts.back_to(outer.facts);
     }
 
-    /// The literal is a fact.
+    /// Makes the literal a fact.
     pub fn assume(&mut self, alloc: Global, lit: &Lit) -> Result<(), AllocError>
         ensures { OnOk result
             (self.new ≡ state_with_facts (with_fact self.old.facts lit.now) self.old) }
@@ -56,7 +56,7 @@ impl StepState {
         self.facts.add(copy(alloc, lit)?)
     }
 
-    /// The negation of the literal is a fact.
+    /// Makes the negation of the literal a fact.
     pub fn assume_not(&mut self, alloc: Global, lit: &Lit) -> Result<(), AllocError>
         ensures { OnOk result
             (self.new ≡ state_with_facts (with_fact self.old.facts (negation lit.now)) self.old) }
@@ -95,17 +95,17 @@ impl StepState {
         statement: &Statement,
         gives: &[Lit],
     ) -> Result<(), AllocError>
-        requires statement { IsTrue (is_small_statement (stated statement.now)) }
+        requires statement { IsTrue (is_small_statement (as_view statement.now)) }
         requires scope { IsTrue (is_small self.old.scope) }
         ensures { OnOk result
-            (self.new ≡ state_after_use (stated statement.now) gives.now self.old) }
+            (self.new ≡ state_after_use (as_view statement.now) gives.now self.old) }
     {
         let scope = self.scope;
         self.scope = with_sorts(scope, statement.made.items());
         self.assume_all(alloc, gives)
     }
 
-    /// The literals are facts.
+    /// Makes each of the literals a fact.
     pub fn assume_all(&mut self, alloc: Global, lits: &[Lit]) -> Result<(), AllocError>
         ensures { OnOk result
             (self.new ≡ state_with_facts (with_facts self.old.facts lits.now) self.old) }

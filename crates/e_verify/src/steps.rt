@@ -1,16 +1,14 @@
 //! Steps without a block inside: whether one is certified, and what holds after it.
 
-ghost use Rattle.std.specs.Prelude.{◌≡◌, ◌&&◌, ℕ, List, IfOk, IsTrue};
-ghost use Rattle.std.specs.Prelude.{Some, None, if◌then◌else◌, true};
+ghost use Rattle.std.specs.Prelude.{◌≡◌, ◌&&◌, ℕ, List, IfOk, IsTrue, true};
 ghost use Rattle.std.specs.List.{list_all};
-ghost use Rattle.std.specs.Option.{option_map, option_map_or};
+ghost use Rattle.std.specs.Option.{option_map_or};
 ghost use Rattle.e_literal.specs.Literal.{all_in_scope};
 ghost use Rattle.e_literal.specs.Use.{StatementView};
 ghost use Rattle.e_literal.specs.WellFormed.{is_well_formed};
 ghost use Rattle.e_clause.specs.Certify;
-ghost use Rattle.e_theorem.specs.Statements.{stated, all_stated};
+ghost use Rattle.e_theorem.specs.Statements.{as_view, as_views};
 ghost use Rattle.e_deriv.specs.Fitting.{is_small, is_small_statement};
-ghost use Rattle.e_deriv.specs.Parts.{has_no_blank, written};
 ghost use Rattle.e_deriv.specs.Certified.{is_certified};
 ghost use Rattle.e_deriv.specs.Goal.{Goal};
 ghost use Rattle.e_deriv.specs.Script.{Script, Cite, Hence, Make, Apply, Superposed};
@@ -27,6 +25,7 @@ use crate::scope::{are_over, objects_in};
 use crate::step_state::StepState;
 use e_clause::{By, Cert, instance_of};
 use e_construct::{Construction, Superpose};
+use e_deriv::written_args;
 use e_literal::{Lit, Obj, Scope, in_scope};
 use e_theorem::{Applied, Statement, UseFault, use_of};
 use std::alloc::{AllocError, Global};
@@ -133,9 +132,9 @@ pub fn check_apply(
 ) -> Result<bool, AllocError>
     requires facts { IsTrue (list_all is_well_formed state.old.facts) }
     requires scope { IsTrue (is_small state.old.scope) }
-    requires statements { IsTrue (list_all is_small_statement (all_stated before.now)) }
+    requires statements { IsTrue (list_all is_small_statement (as_views before.now)) }
     requires certs { IsTrue (list_all is_writable_cert certs.now) }
-    ensures { IfOk result (λ b. (names : List (List ℕ)) → IsChecked (all_stated before.now)
+    ensures { IfOk result (λ b. (names : List (List ℕ)) → IsChecked (as_views before.now)
         (Apply theorem args.now names certs.now) state.old state.new b) }
 {
     let Some(statement) = before.get(theorem as usize) else {
@@ -150,14 +149,14 @@ pub fn check_apply(
         Err(UseFault::BadArgs) => return Ok(false),
         Err(UseFault::NoMemory) => return Err(AllocError),
     };
-    let certified = take_use(alloc, statement, &applied, certs, state);
+    let certified = check_use(alloc, statement, &applied, certs, state);
     mem::drop(applied);
     certified
 }
 
 /// Checks what a use of a statement needs: where it is certified, the made objects come into scope,
 /// what it gives become facts, and the answer is true.
-fn take_use(
+fn check_use(
     alloc: Global,
     statement: &Statement,
     applied: &Applied,
@@ -166,13 +165,13 @@ fn take_use(
 ) -> Result<bool, AllocError>
     requires facts { IsTrue (list_all is_well_formed state.old.facts) }
     requires scope { IsTrue (is_small state.old.scope) }
-    requires statement { IsTrue (is_small_statement (stated statement.now)) }
+    requires statement { IsTrue (is_small_statement (as_view statement.now)) }
     requires needs { IsTrue (list_all is_well_formed applied.now.needs) }
     requires certs { IsTrue (list_all is_writable_cert certs.now) }
     ensures test { IfOk result (λ b. b ≡ Certify.certify_all state.old.scope state.old.facts
         applied.now.needs certs.now) }
     ensures after { IfOk result (λ b. IsTrue b → state.new
-        ≡ state_after_use (stated statement.now) applied.now.gives state.old) }
+        ≡ state_after_use (as_view statement.now) applied.now.gives state.old) }
 {
     let scope = state.scope;
     if !certify_all(alloc, scope, &state.facts, applied.needs.items(), certs)? {
@@ -212,19 +211,4 @@ pub fn check_superpose(
     }
     state.superpose(alloc, superposition)?;
     Ok(true)
-}
-
-/// The arguments, or none where one of them is a blank.
-pub fn written_args(alloc: Global, args: &[Option<Obj>]) -> Result<Option<Vec<Obj>>, AllocError>
-    ensures { IfOk result (λ o. option_map (λ v. v.items) o
-        ≡ (if has_no_blank args.now then Some (written args.now) else None)) }
-{
-    let mut objects = Vec::new(alloc);
-    for arg in args {
-        let Some(object) = arg else {
-            return Ok(None);
-        };
-        objects.push(*object)?;
-    }
-    Ok(Some(objects))
 }

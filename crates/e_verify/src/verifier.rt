@@ -2,7 +2,7 @@
 
 ghost use Rattle.std.specs.Prelude.{◌≡◌, IfOk, IfErr, OnOk};
 ghost use Rattle.e_literal.specs.Use.{scope_of};
-ghost use Rattle.e_theorem.specs.Statements.{stated, all_stated};
+ghost use Rattle.e_theorem.specs.Statements.{as_view, as_views};
 ghost use Rattle.e_deriv.specs.Certified.{Certified, verdict};
 ghost use Rattle.e_deriv.specs.Proves.{IsProof};
 ghost use Rattle.e_deriv.specs.Script.{script_of};
@@ -29,13 +29,13 @@ pub fn verify(
     statement: &Statement,
     deriv: &Block,
 ) -> Result<(), Reject>
-    requires { IsVerifiable (all_stated before.now) (stated statement.now) (script_of deriv.now) }
+    requires { IsVerifiable (as_views before.now) (as_view statement.now) (script_of deriv.now) }
     ensures certified { OnOk result
-        (Certified (all_stated before.now) (stated statement.now) (script_of deriv.now)) }
+        (Certified (as_views before.now) (as_view statement.now) (script_of deriv.now)) }
     ensures proof { OnOk result
-        (IsProof (all_stated before.now) (stated statement.now) (script_of deriv.now)) }
+        (IsProof (as_views before.now) (as_view statement.now) (script_of deriv.now)) }
     ensures bad { IfErr result
-        (RejectIs (verdict (all_stated before.now) (stated statement.now) (script_of deriv.now))) }
+        (RejectIs (verdict (as_views before.now) (as_view statement.now) (script_of deriv.now))) }
 {
     let scope = with_sorts(NOTHING, statement.declared.items());
     let made = next_objects(alloc, scope, statement.made.items())?;
@@ -57,8 +57,8 @@ pub fn state_at_start(
     scope: Scope,
     statement: &Statement,
 ) -> Result<StepState, AllocError>
-    requires { scope ≡ scope_of (stated statement.now) }
-    ensures { IfOk result (λ x. x ≡ StepStates.state_at_start (stated statement.now)) }
+    requires { scope ≡ scope_of (as_view statement.now) }
+    ensures { IfOk result (λ x. x ≡ StepStates.state_at_start (as_view statement.now)) }
 {
     let mut state = StepState {
         scope,

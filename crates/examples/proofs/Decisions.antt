@@ -6,7 +6,7 @@ use Rattle.e_literal.specs.declared.literal.Lit.{Lit}
 use Rattle.e_literal.specs.Rows.{Row}
 use Rattle.e_literal.specs.Minor.{IsWide}
 use Rattle.e_literal.specs.Solution.{HasSolution}
-use Rattle.e_simplex.specs.Answer.{IsVerdict, AreValuesOf, assigned}
+use Rattle.e_simplex.specs.Answer.{IsVerdict, AreValuesOf, assigned_value}
 use Rattle.e_simplex.specs.declared.decision.Verdict.{Verdict}
 use Rattle.e_simplex.specs.declared.decision.Verdict.TheVariants.{Absurd, Holds, TooWide}
 use Rattle.e_clause.specs.declared.cert.Cert.{Cert}
@@ -25,7 +25,7 @@ solution_of (Absurd a) = Some false
 solution_of TooWide = None
 
 pub decided : (rows : List Row) (v : Verdict) → IsVerdict rows v → Decides (HasSolution rows) (IsWide rows) (solution_of v)
-decided rows (Holds v) is = record { values = assigned v; satisfy = is.satisfy }
+decided rows (Holds v) is = record { values = assigned_value v; satisfy = is.satisfy }
 decided rows (Absurd a) is = is.none
 decided rows TooWide is = is.0
 

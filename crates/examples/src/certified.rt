@@ -1,7 +1,7 @@
 //! Derivations.
 
 ghost use Rattle.std.specs.Prelude.{◌≡◌, None, Err, IfOk, IfSome};
-ghost use Rattle.e_theorem.specs.Statements.{stated, all_stated};
+ghost use Rattle.e_theorem.specs.Statements.{as_view, as_views};
 ghost use Rattle.e_deriv.specs.Certified.{verdict};
 ghost use Rattle.e_deriv.specs.Proves.{IsProof};
 ghost use Rattle.e_deriv.specs.Script.{script_of};
@@ -21,11 +21,11 @@ pub fn first_uncertified(
     statement: &Statement,
     deriv: &Block,
 ) -> Result<Option<u32>, AllocError>
-    requires { IsVerifiable (all_stated before.now) (stated statement.now) (script_of deriv.now) }
+    requires { IsVerifiable (as_views before.now) (as_view statement.now) (script_of deriv.now) }
     ensures none { IfOk result (λ o. o ≡ None
-        → IsProof (all_stated before.now) (stated statement.now) (script_of deriv.now)) }
+        → IsProof (as_views before.now) (as_view statement.now) (script_of deriv.now)) }
     ensures step { IfOk result (λ o. IfSome o (λ n.
-        verdict (all_stated before.now) (stated statement.now) (script_of deriv.now) ≡ Err n)) }
+        verdict (as_views before.now) (as_view statement.now) (script_of deriv.now) ≡ Err n)) }
 {
     match verify(alloc, before, statement, deriv) {
         Ok(()) => Ok(None),

@@ -11,7 +11,7 @@ use Rattle.e_literal.specs.Literal.{all_in_scope}
 use Rattle.e_literal.specs.Scopes.{nothing, with_sorts}
 use Rattle.e_literal.specs.Use.{scope_of}
 use Rattle.e_literal.proofs.GrownScopes.{sorts_next}
-use Rattle.e_theorem.specs.Statements.{stated}
+use Rattle.e_theorem.specs.Statements.{as_view}
 use Rattle.e_deriv.specs.declared.names.Names.{Names}
 use Rattle.e_deriv.specs.Naming.{first_names}
 use Rattle.e_deriv.specs.Script.{Script}
@@ -77,7 +77,7 @@ pub run_statement : (known : List TitledStatement) (t : TheoremView) → HasSpel
 run_statement known t h o =
     let ns = t.names in
     let st = t.statement in
-    let s : Scope = scope_of (stated t.statement) in
+    let s : Scope = scope_of (as_view t.statement) in
     let dn = first_names s ns in
     let few : Few ns = record { points = h.fits.points; lines = h.fits.lines; circles = h.fits.circles } in
     let end : Option TheoremParser = Some (proving (started t) (begins t)) in
@@ -91,7 +91,7 @@ run_statement known t h o =
     let f1 : List RawLine = map declare_raw_line (sort_groups ns (declared_objects st)) ++ map (given_raw_line ns) st.given in
     let run_declared : Runs known titled (map declare_raw_line (sort_groups ns (declared_objects st))) declared =
     run_from known rawlines.Declare (declaring t.title) (declared_lines known t.title) ns nothing [] st.declared st.made o few h.fits.scope in
-    let plain : Plain dn st.given = record { within = subst (λ (z : Scope). list_all (all_in_scope z) st.given ≡ true) (sym (declared_scope (stated st) ns h.fits.scope)) h.fits.given; good = h.fits.good_given } in
+    let plain : Plain dn st.given = record { within = subst (λ (z : Scope). list_all (all_in_scope z) st.given ≡ true) (sym (declared_scope (as_view st) ns h.fits.scope)) h.fits.given; good = h.fits.good_given } in
     let run_given : Runs known declared (map (given_raw_line ns) st.given) given =
     subst (λ (fs : List RawLine). Runs known declared fs given) (given_forms_of s ns st.given h.fits.given)
     (run_all_given known t.title dn st.declared st.given (first_in_order s ns o) plain h.fits.given_facts h.fits.given_terms) in
@@ -112,11 +112,11 @@ run_head known t h o =
 
 pub run_proof_lines : (known : List TitledStatement) (t : TheoremView) → HasSpelling known t → InOrder t.names → Taken known (started t) (begins t) t.script
 run_proof_lines known t h o =
-    let s : Scope = scope_of (stated t.statement) in
+    let s : Scope = scope_of (as_view t.statement) in
     let before = stated_by known in
-    let facts : List Lit = facts_of_statement (stated t.statement) in
-    let goal : Goal = goal_of_statement (stated t.statement) in
-    let scope : s ≡ scope_of_names (names_of_proof t) = sym (declared_scope (stated t.statement) t.names h.fits.scope) in
+    let facts : List Lit = facts_of_statement (as_view t.statement) in
+    let goal : Goal = goal_of_statement (as_view t.statement) in
+    let scope : s ≡ scope_of_names (names_of_proof t) = sym (declared_scope (as_view t.statement) t.names h.fits.scope) in
     run_script known (started t) (begins t) t.script facts goal (record {
       order = first_in_order s t.names o;
       goal_sorts = sorts_next s t.statement.made;

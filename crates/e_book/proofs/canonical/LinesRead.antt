@@ -15,7 +15,7 @@ use Rattle.e_construct.specs.Superposing as superposing
 use Rattle.e_literal.specs.Use.{StatementView}
 use Rattle.e_literal.proofs.Sorts.{same_sort_is}
 use Rattle.e_deriv.specs.declared.names.Names.{Names}
-use Rattle.e_deriv.specs.Naming.{named}
+use Rattle.e_deriv.specs.Naming.{with_new_names}
 use Rattle.e_deriv.specs.PlainStep.{PlainStep, Cited, Inferred, Made, Applied, Claimed, Copied, all_before}
 use Rattle.e_deriv.specs.Script.{Script}
 use Rattle.e_deriv.specs.Steps.{is_citation}
@@ -84,13 +84,13 @@ written i terms = record i { terms = i.terms + terms }
 -- after a use of an earlier theorem, whose made objects have these names
 abbrev pub applied_after : Inside → StatementView → ℕ → List (Option Obj) → List (List ℕ) → Inside
 applied_after i t theorem args names =
-    record (written (after_step i (Applied theorem args names []) (length t.shown)) (count_monomials t.shown)) { in_scope = named i.in_scope t.made names }
+    record (written (after_step i (Applied theorem args names []) (length t.shown)) (count_monomials t.shown)) { in_scope = with_new_names i.in_scope t.made names }
 
 -- in the block of a superposition
 abbrev pub copied : Inside → Superpose → List (List ℕ) → List Lit → Inside
 copied i superposition names shown =
     let given = superposing.gives_of_superposition superposition (scope_of_names i.in_scope) in
-    record (written (deep i (kind.Superpose superposition names shown) (length given)) (count_monomials given)) { in_scope = named i.in_scope superposing.sorts_copied names }
+    record (written (deep i (kind.Superpose superposition names shown) (length given)) (count_monomials given)) { in_scope = with_new_names i.in_scope superposing.sorts_copied names }
 
 -- after an inner block that shows these literals, whose last line has this number
 abbrev pub resume : Inside → ℕ → PlainStep → List Lit → Inside
@@ -120,10 +120,10 @@ step_hence known d i l o p few most short =
     let more : ltb most_terms (i.terms + count_raw_monomials (raw_of i.in_scope l ∷ [])) ≡ false = le-ltb _ _ (omega (arith, short, count_again i.in_scope l)) in
     rw (lit_number_again i.in_scope l o p.within p.good, room, place, few_again i.in_scope l p.good, more) (ap (λ (n : ℕ). Ok (proving d (written (after_step i (Inferred l None) 1) n))) (count_again i.in_scope l))
 
-pub step_let : (known : List TitledStatement) (d : TheoremParser) (i : Inside) (construction : Construction) (names : List (List ℕ)) → InOrder i.in_scope → GoodLet i.in_scope construction names → few_objects (named i.in_scope (sorts_made construction) names) ≡ Ok tt
+pub step_let : (known : List TitledStatement) (d : TheoremParser) (i : Inside) (construction : Construction) (names : List (List ℕ)) → InOrder i.in_scope → GoodLet i.in_scope construction names → few_objects (with_new_names i.in_scope (sorts_made construction) names) ≡ Ok tt
     → i.lines + 1 ≤ most_steps → i.facts + length (gives_of_construction construction (scope_of_names i.in_scope)) ≤ most_facts
     → step known (proving d i) (as_read (let_raw_line i.in_scope construction names))
-    ≡ Ok (proving d (record (after_step i (Made construction names []) (length (gives_of_construction construction (scope_of_names i.in_scope)))) { in_scope = named i.in_scope (sorts_made construction) names }))
+    ≡ Ok (proving d (record (after_step i (Made construction names []) (length (gives_of_construction construction (scope_of_names i.in_scope)))) { in_scope = with_new_names i.in_scope (sorts_made construction) names }))
 unfolding step after_line after_let with_step
 step_let known d i construction names o h fit few most =
     let room : ltb most_steps (i.lines + 1) ≡ false = le-ltb _ _ few in
@@ -131,7 +131,7 @@ step_let known d i construction names o h fit few most =
     rw (let_number_again i.in_scope construction names o h, fit, room, place) refl
 
 pub step_apply : (known : List TitledStatement) (d : TheoremParser) (i : Inside) (theorem : ℕ) (args : List (Option Obj)) (names : List (List ℕ)) → InOrder i.in_scope → GoodApply known i.in_scope theorem args names
-    → few_objects (named i.in_scope (theorem_of known theorem).made names) ≡ Ok tt → i.lines + 1 ≤ most_steps → i.facts + length (theorem_of known theorem).shown ≤ most_facts
+    → few_objects (with_new_names i.in_scope (theorem_of known theorem).made names) ≡ Ok tt → i.lines + 1 ≤ most_steps → i.facts + length (theorem_of known theorem).shown ≤ most_facts
     → i.terms + count_monomials (theorem_of known theorem).shown ≤ most_terms → count_blanks args ≤ most_blanks
     → step known (proving d i) (apply_raw_line known i.in_scope theorem args names) ≡ Ok (proving d (applied_after i (theorem_of known theorem) theorem args names))
 unfolding step after_line after_apply with_use with_step
@@ -160,7 +160,7 @@ unfolding step after_line after_claim
 step_claim known d i shown o p few shallow most =
     rw (lits_number_again i.in_scope shown o p, deeper_again d i (kind.Claim shown) 0 few shallow most, all_few_again i.in_scope shown p.good) refl
 
-pub step_superpose : (known : List TitledStatement) (d : TheoremParser) (i : Inside) (superposition : Superpose) (names : List (List ℕ)) (shown : List Lit) → GoodSuperpose i.in_scope superposition names shown → few_objects (named i.in_scope superposing.sorts_copied names) ≡ Ok tt
+pub step_superpose : (known : List TitledStatement) (d : TheoremParser) (i : Inside) (superposition : Superpose) (names : List (List ℕ)) (shown : List Lit) → GoodSuperpose i.in_scope superposition names shown → few_objects (with_new_names i.in_scope superposing.sorts_copied names) ≡ Ok tt
     → i.lines + 1 ≤ most_steps → length i.blocks + 2 ≤ most_depth
     → i.facts + length (superposing.gives_of_superposition superposition (scope_of_names i.in_scope)) ≤ most_facts → i.terms + count_monomials (superposing.gives_of_superposition superposition (scope_of_names i.in_scope)) ≤ most_terms
     → step known (proving d i) (superpose_raw_line i.in_scope superposition names shown)

@@ -21,11 +21,11 @@ use Rattle.e_construct.specs.declared.superpose.Superpose.{Superpose}
 use Rattle.e_construct.specs.Construct.{sorts_of, sorts_made, gives_of_construction, fits_construction}
 use Rattle.e_construct.specs.Superposing as superposing
 use Rattle.e_deriv.specs.PlainStep.{PlainStep, Cited, Inferred, Made, Applied, Claimed, Copied}
-use Rattle.e_deriv.specs.Naming.{named}
+use Rattle.e_deriv.specs.Naming.{with_new_names}
 use Rattle.e_deriv.specs.Script.{Script, Cite, Hence, Make, Apply, Claim, Superposed, Qed, Contradiction, Cases, size, depth}
 use Rattle.e_deriv.specs.Goal.{Goal, goal_of}
 use Rattle.e_deriv.specs.PlacedSteps.{PlacedStep, placed_steps}
-use Rattle.e_deriv.specs.Parts.{written as written_args}
+use Rattle.e_deriv.specs.Parts.{args_written as written_args}
 use Rattle.e_deriv.specs.Steps.{are_over, is_citation}
 use Rattle.e_book.specs.declared.blocks.BlockKind.TheVariants as kind
 use Rattle.e_book.specs.declared.steps.CloseLine.{CloseLine}
@@ -190,7 +190,7 @@ abbrev pub gifts : Inside → Construction → ℕ
 gifts i construction = length (gives_of_construction construction (scope_of_names i.in_scope))
 
 abbrev pub constructed : Inside → Construction → List (List ℕ) → Inside
-constructed i construction names = record (after_step i (Made construction names []) (gifts i construction)) { in_scope = named i.in_scope (sorts_made construction) names }
+constructed i construction names = record (after_step i (Made construction names []) (gifts i construction)) { in_scope = with_new_names i.in_scope (sorts_made construction) names }
 
 pub make_good : (known : List TitledStatement) (d : TheoremParser) (i : Inside) (construction : Construction) (names : List (List ℕ)) (rest : Script) (given : List Lit) (goal : Goal) → Ready known d i (Make construction names [] rest) given goal → GoodLet i.in_scope construction names
 unfolding placed_steps NewNamesFit
@@ -207,7 +207,7 @@ pub make_ready : (known : List TitledStatement) (d : TheoremParser) (i : Inside)
 unfolding is_plain placed_steps NewNamesFit size depth has_well_formed_literals few_facts few_terms names_theorems few_blanks
 make_ready known d i construction names rest given goal r =
     let s = scope_of_names i.in_scope in
-    let after = named i.in_scope (sorts_made construction) names in
+    let after = with_new_names i.in_scope (sorts_made construction) names in
     let facts = with_facts given (gives_of_construction construction s) in
     let n = i.facts + gifts i construction in
     let scope : with_sorts s (sorts_made construction) ≡ scope_of_names after = named_scope i.in_scope (sorts_made construction) names r.new_names.1 in
@@ -449,10 +449,10 @@ claim_taken known d i shown inner rest given goal r t u =
 
 pub record CopyParts (known : List TitledStatement) (i : Inside) (superposition : Superpose) (names : List (List ℕ)) (shown : List Lit) (inner rest : Script) (given : List Lit) (goal : Goal) : Type 0 where
   pub good : GoodSuperpose i.in_scope superposition names shown
-  pub few : few_objects (named i.in_scope superposing.sorts_copied names) ≡ Ok tt
+  pub few : few_objects (with_new_names i.in_scope superposing.sorts_copied names) ≡ Ok tt
   pub plain_inner : is_plain inner ≡ true
   pub plain_rest : is_plain rest ≡ true
-  pub fit_inner : list_all (line_fits (stated_by known)) (placed_steps (stated_by known) inner inner (scope_of_names (named i.in_scope superposing.sorts_copied names)) (with_facts given (superposing.gives_of_superposition superposition (scope_of_names i.in_scope))) (goal_of shown)) ≡ true
+  pub fit_inner : list_all (line_fits (stated_by known)) (placed_steps (stated_by known) inner inner (scope_of_names (with_new_names i.in_scope superposing.sorts_copied names)) (with_facts given (superposing.gives_of_superposition superposition (scope_of_names i.in_scope))) (goal_of shown)) ≡ true
   pub fit_rest : list_all (line_fits (stated_by known)) (placed_steps (stated_by known) rest rest (scope_of_names i.in_scope) (with_facts given shown) goal) ≡ true
   pub good_inner : has_well_formed_literals inner ≡ true
   pub theorems_inner : names_theorems known inner ≡ true
@@ -461,11 +461,11 @@ pub record CopyParts (known : List TitledStatement) (i : Inside) (superposition 
   pub theorems_rest : names_theorems known rest ≡ true
   pub blanks_rest : few_blanks rest ≡ true
   pub facts_first : (copied i superposition names shown).facts ≤ most_facts
-  pub facts_inner : few_facts (stated_by known) (copied i superposition names shown).facts (scope_of_names (named i.in_scope superposing.sorts_copied names)) inner ≡ true
+  pub facts_inner : few_facts (stated_by known) (copied i superposition names shown).facts (scope_of_names (with_new_names i.in_scope superposing.sorts_copied names)) inner ≡ true
   pub facts : i.facts + length shown ≤ most_facts
   pub facts_rest : few_facts (stated_by known) (i.facts + length shown) (scope_of_names i.in_scope) rest ≡ true
   pub terms_first : (copied i superposition names shown).terms ≤ most_terms
-  pub terms_inner : few_terms (stated_by known) (copied i superposition names shown).terms (scope_of_names (named i.in_scope superposing.sorts_copied names)) inner ≡ true
+  pub terms_inner : few_terms (stated_by known) (copied i superposition names shown).terms (scope_of_names (with_new_names i.in_scope superposing.sorts_copied names)) inner ≡ true
   pub terms : i.terms + count_monomials shown ≤ most_terms
   pub terms_rest : few_terms (stated_by known) (i.terms + count_monomials shown) (scope_of_names i.in_scope) rest ≡ true
 
@@ -477,7 +477,7 @@ copy_parts known d i superposition names shown inner rest given goal r =
     let t = with_sorts s superposing.sorts_copied in
     let gives = superposing.gives_of_superposition superposition s in
     let begun = with_facts given gives in
-    let scope : t ≡ scope_of_names (named i.in_scope superposing.sorts_copied names) = named_scope i.in_scope superposing.sorts_copied names r.new_names.1 in
+    let scope : t ≡ scope_of_names (with_new_names i.in_scope superposing.sorts_copied names) = named_scope i.in_scope superposing.sorts_copied names r.new_names.1 in
     let n = i.facts + length gives in
     let m = i.terms + count_monomials gives in
     let facts = i.facts + length shown in

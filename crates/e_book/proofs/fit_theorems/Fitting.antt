@@ -17,9 +17,9 @@ use Rattle.e_construct.specs.Construct.{sorts_made, gives_of_construction}
 use Rattle.e_construct.specs.Superposing as superposing
 use Rattle.e_construct.proofs.Moving.{every, grows}
 use Rattle.e_theorem.specs.declared.statement.Statement.{Statement}
-use Rattle.e_theorem.specs.Statements.{stated}
+use Rattle.e_theorem.specs.Statements.{as_view}
 use Rattle.e_deriv.specs.declared.names.Names.{Names}
-use Rattle.e_deriv.specs.Naming.{named, declared_names}
+use Rattle.e_deriv.specs.Naming.{with_new_names, declared_names}
 use Rattle.e_deriv.specs.Script.{Script, Cite, Hence, Make, Apply, Claim, Superposed, Qed, Contradiction, Cases}
 use Rattle.e_deriv.specs.Parts.{rest_of, inner_of, args_of}
 use Rattle.e_deriv.specs.Goal.{Goal, goal_of, goal_of_statement, facts_of_statement}
@@ -62,7 +62,7 @@ small_scopes bs (Cite by rest) f ns facts goal few fit = and_from _ _ (few_is_sm
 small_scopes bs (Hence lit cert rest) f ns facts goal few fit = and_from _ _ (few_is_small ns few) (small_scopes bs rest (rest_of f) ns (with_fact facts lit) goal few fit)
 small_scopes bs (Make construction names certs rest) f ns facts goal few fit =
     let s = scope_of_names ns in
-    let after = named ns (sorts_made construction) names in
+    let after = with_new_names ns (sorts_made construction) names in
     let more = with_facts facts (gives_of_construction construction s) in
     let scopes : with_sorts s (sorts_made construction) ≡ scope_of_names after = named_scope ns (sorts_made construction) names fit.1 in
     and_from _ _ (few_is_small ns few)
@@ -70,7 +70,7 @@ small_scopes bs (Make construction names certs rest) f ns facts goal few fit =
 small_scopes bs (Apply theorem args names certs rest) f ns facts goal few fit =
     let s = scope_of_names ns in
     let t = theorem_at bs theorem in
-    let after = named ns t.made names in
+    let after = with_new_names ns t.made names in
     let more = with_facts facts (gives_of_use t (args_of f) s) in
     let scopes : with_sorts s t.made ≡ scope_of_names after = named_scope ns t.made names fit.1 in
     and_from _ _ (few_is_small ns few)
@@ -81,7 +81,7 @@ small_scopes bs (Claim shown inner rest) f ns facts goal few fit =
     (small_scopes bs rest (rest_of f) ns (with_facts facts shown) goal few fit.1))
 small_scopes bs (Superposed superposition names shown certs inner rest) f ns facts goal few fit =
     let s = scope_of_names ns in
-    let after = named ns superposing.sorts_copied names in
+    let after = with_new_names ns superposing.sorts_copied names in
     let more = with_facts facts (superposing.gives_of_superposition superposition s) in
     let scopes : with_sorts s superposing.sorts_copied ≡ scope_of_names after = named_scope ns superposing.sorts_copied names fit.1 in
     let inside : list_all is_small_line (placed_steps bs inner (inner_of f) (with_sorts s superposing.sorts_copied) more (goal_of shown)) ≡ true =
@@ -110,17 +110,17 @@ record FewObjects (s : Scope) : Type 0 where
   lines : s.lines ≤ 1000
   circles : s.circles ≤ 1000
 
-few_of : (known : List TitledStatement) (t : TheoremView) → Fits known t → FewObjects (all_objects (stated t.statement))
+few_of : (known : List TitledStatement) (t : TheoremView) → Fits known t → FewObjects (all_objects (as_view t.statement))
 few_of known t f =
-    let points : (all_objects (stated t.statement)).points ≡ length t.names.points = ap (λ (s : Scope). s.points) f.scope in
-    let lines : (all_objects (stated t.statement)).lines ≡ length t.names.lines = ap (λ (s : Scope). s.lines) f.scope in
-    let circles : (all_objects (stated t.statement)).circles ≡ length t.names.circles = ap (λ (s : Scope). s.circles) f.scope in
+    let points : (all_objects (as_view t.statement)).points ≡ length t.names.points = ap (λ (s : Scope). s.points) f.scope in
+    let lines : (all_objects (as_view t.statement)).lines ≡ length t.names.lines = ap (λ (s : Scope). s.lines) f.scope in
+    let circles : (all_objects (as_view t.statement)).circles ≡ length t.names.circles = ap (λ (s : Scope). s.circles) f.scope in
     record { points = omega (arith, points, f.points); lines = omega (arith, lines, f.lines); circles = omega (arith, circles, f.circles) }
 
 -- a theorem that fits states something
-pub small_statement : (known : List TitledStatement) (t : TheoremView) → Fits known t → is_small_statement (stated t.statement) ≡ true
+pub small_statement : (known : List TitledStatement) (t : TheoremView) → Fits known t → is_small_statement (as_view t.statement) ≡ true
 small_statement known t f =
-    let st = stated t.statement in
+    let st = as_view t.statement in
     let n = few_of known t f in
     let shown : list_all (all_in_scope (all_objects st)) st.shown ≡ true = subst (λ (z : Scope). list_all (all_in_scope z) st.shown ≡ true) (sym f.scope) f.shown in
     and_from _ _ (and_from _ _ (lits_said (scope_of st) st.given f.given f.good_given) (lits_said (all_objects st) st.shown shown f.good_shown))
@@ -129,9 +129,9 @@ small_statement known t f =
 -- ---- the whole
 
 -- the names that the proof begins with are few
-few_declared : (known : List TitledStatement) (t : TheoremView) → Fits known t → FewNamed (declared_names (stated t.statement) t.names)
+few_declared : (known : List TitledStatement) (t : TheoremView) → Fits known t → FewNamed (declared_names (as_view t.statement) t.names)
 few_declared known t f =
-    let st = stated t.statement in
+    let st = as_view t.statement in
     let s = scope_of st in
     let is = declared_scope st t.names f.scope in
     let points : length (declared_names st t.names).points ≡ s.points = ap (λ (z : Scope). z.points) is in
@@ -146,9 +146,9 @@ few_declared known t f =
       circles = omega (arith, circles, all_circles, f.circles, grows s st.made sorts.Circle);
     }
 
-scopes_fit : (known : List TitledStatement) (t : TheoremView) → Fits known t → list_all is_small_line (proof_steps (stated_by known) (stated t.statement) t.script t.script) ≡ true
+scopes_fit : (known : List TitledStatement) (t : TheoremView) → Fits known t → list_all is_small_line (proof_steps (stated_by known) (as_view t.statement) t.script t.script) ≡ true
 scopes_fit known t f =
-    let st = stated t.statement in
+    let st = as_view t.statement in
     let bs = stated_by known in
     subst (λ (z : Scope). list_all is_small_line (placed_steps bs t.script t.script z (facts_of_statement st) (goal_of_statement st)) ≡ true) (declared_scope st t.names f.scope)
     (small_scopes bs t.script t.script (declared_names st t.names) (facts_of_statement st) (goal_of_statement st) (few_declared known t f) f.new_names)
@@ -156,9 +156,9 @@ scopes_fit known t f =
 are_statements : (bs : List StatementView) → list_all is_small_statement bs ≡ true → list_all is_statement bs ≡ true
 are_statements bs h = every is_small_statement is_statement (λ t k. (and_parts (is_statement t) (is_small (all_objects t)) k).0) bs h
 
-lits_fit : (known : List TitledStatement) (t : TheoremView) → list_all is_small_statement (stated_by known) ≡ true → Fits known t → (filled : Script) → LitsFit (stated_by known) (proof_steps (stated_by known) (stated t.statement) t.script filled)
+lits_fit : (known : List TitledStatement) (t : TheoremView) → list_all is_small_statement (stated_by known) ≡ true → Fits known t → (filled : Script) → LitsFit (stated_by known) (proof_steps (stated_by known) (as_view t.statement) t.script filled)
 lits_fit known t states f filled =
-    let st = stated t.statement in
+    let st = as_view t.statement in
     let s = scope_of st in
     let given = all_joined s [] st.given 0 (record { good = refl; few = omega arith }) (two_good s st.given f.given f.good_given) in
     let facts : GoodFacts s (facts_of_statement st) (count_monomials st.given) = record { good = given.good; few = omega (arith, given.few) } in
@@ -167,7 +167,7 @@ lits_fit known t states f filled =
     f.given_terms f.terms f.good_script f.script
 
 -- a theorem that fits can be judged
-pub fitting : (known : List TitledStatement) (t : TheoremView) → list_all is_small_statement (stated_by known) ≡ true → Fits known t → IsFitting (stated_by known) (stated t.statement) t.script
+pub fitting : (known : List TitledStatement) (t : TheoremView) → list_all is_small_statement (stated_by known) ≡ true → Fits known t → IsFitting (stated_by known) (as_view t.statement) t.script
 fitting known t states f =
     let n = few_of known t f in
     record {
@@ -184,16 +184,16 @@ fitting known t states f =
 
 -- and so can one that is read
 pub reading_fitting : (known : List TitledStatement) (last : ℕ) (ahead rest : List (Result LineView LineFault)) (t : TheoremView) → list_all is_small_statement (stated_by known) ≡ true
-    → read_from known last None ahead ≡ answered (pair t rest) → IsFitting (stated_by known) (stated t.statement) t.script
+    → read_from known last None ahead ≡ answered (pair t rest) → IsFitting (stated_by known) (as_view t.statement) t.script
 reading_fitting known last ahead rest t states e = fitting known t states (reading_fits known last None ahead rest t tt e)
 
-pub reading_states : (known : List TitledStatement) (last : ℕ) (ahead rest : List (Result LineView LineFault)) (t : TheoremView) → read_from known last None ahead ≡ answered (pair t rest) → is_small_statement (stated t.statement) ≡ true
+pub reading_states : (known : List TitledStatement) (last : ℕ) (ahead rest : List (Result LineView LineFault)) (t : TheoremView) → read_from known last None ahead ≡ answered (pair t rest) → is_small_statement (as_view t.statement) ≡ true
 reading_states known last ahead rest t e = small_statement known t (reading_fits known last None ahead rest t tt e)
 
 -- one more statement is known
-pub one_more_stated : (known : List TitledStatement) (title : List ℕ) (t : Statement) → list_all is_small_statement (stated_by known) ≡ true → is_small_statement (stated t) ≡ true
+pub one_more_stated : (known : List TitledStatement) (title : List ℕ) (t : Statement) → list_all is_small_statement (stated_by known) ≡ true → is_small_statement (as_view t) ≡ true
     → list_all is_small_statement (stated_by (known ++ titled_statement title t ∷ [])) ≡ true
 one_more_stated [] title t h k = and_from _ _ k refl
 one_more_stated (x ∷ known) title t h k =
-    let p = and_parts (is_small_statement (stated x.statement)) (list_all is_small_statement (stated_by known)) h in
+    let p = and_parts (is_small_statement (as_view x.statement)) (list_all is_small_statement (stated_by known)) h in
     and_from _ _ p.0 (one_more_stated known title t p.1 k)

@@ -28,7 +28,7 @@ use Rattle.e_deriv.specs.Parts.{rest_of, inner_of, args_of}
 use Rattle.e_deriv.specs.PlacedSteps.{PlacedStep, placed_steps, theorem_at}
 use Rattle.e_deriv.specs.Steps.{is_citation}
 use Rattle.e_deriv.specs.Fitting.{fits_with_blanks}
-use Rattle.e_deriv.specs.Naming.{named}
+use Rattle.e_deriv.specs.Naming.{with_new_names}
 use Rattle.e_line.specs.Limits.{most_depth, most_facts, most_terms, most_blanks, monomials, count_monomials}
 use Rattle.e_names.specs.Scope.{scope_of_names, fresh}
 use Rattle.e_names.specs.Applies.{count_blanks}
@@ -58,7 +58,7 @@ spot_with_facts at ls = spot at.before at.names (at.facts + length ls) (at.terms
 abbrev pub with_copies : Spot → Superpose → List (List ℕ) → Spot
 with_copies at superposition names =
     let given = superposing.gives_of_superposition superposition (scope_at at) in
-    spot at.before (named at.names superposing.sorts_copied names) (at.facts + length given) (at.terms + count_monomials given)
+    spot at.before (with_new_names at.names superposing.sorts_copied names) (at.facts + length given) (at.terms + count_monomials given)
 
 -- where the first line of either block of a split stands
 abbrev pub with_lit : Spot → Lit → Spot
@@ -68,7 +68,7 @@ with_lit at lit = spot at.before at.names (at.facts + 1) (at.terms + monomials l
 abbrev pub with_use : Spot → ℕ → List (List ℕ) → Spot
 with_use at theorem names =
     let t = theorem_at at.before theorem in
-    spot at.before (named at.names t.made names) (at.facts + length t.shown) (at.terms + count_monomials t.shown)
+    spot at.before (with_new_names at.names t.made names) (at.facts + length t.shown) (at.terms + count_monomials t.shown)
 
 -- the line's form fits, whatever its blanks are filled with
 abbrev pub line_fits : List StatementView → PlacedStep → Bool
@@ -98,7 +98,7 @@ pub record CopyFits (at : Spot) (superposition : Superpose) (names : List (List 
   pub fits : superposing.fits_superposition superposition (scope_at at) ≡ true
   pub free : fresh at.names [] names ≡ Ok tt
   pub count : length names ≡ length superposing.sorts_copied
-  pub objects : few_objects (named at.names superposing.sorts_copied names) ≡ Ok tt
+  pub objects : few_objects (with_new_names at.names superposing.sorts_copied names) ≡ Ok tt
   pub facts : (with_copies at superposition names).facts ≤ most_facts
   pub terms : (with_copies at superposition names).terms ≤ most_terms
 
@@ -158,13 +158,13 @@ fits_inferred at sorts level lit rest over good le lt r = record {
 }
 
 pub fits_made : (at : Spot) (sorts : List Sort) (level : ℕ) (construction : Construction) (names : List (List ℕ)) (certs : List Cert) (rest : Script) → GoodLet at.names construction names
-    → few_objects (named at.names (sorts_made construction) names) ≡ Ok tt → at.facts + length (gives_of_construction construction (scope_at at)) ≤ most_facts
-    → ScriptFits (spot at.before (named at.names (sorts_made construction) names) (at.facts + length (gives_of_construction construction (scope_at at))) at.terms) sorts level rest → ScriptFits at sorts level (Make construction names certs rest)
+    → few_objects (with_new_names at.names (sorts_made construction) names) ≡ Ok tt → at.facts + length (gives_of_construction construction (scope_at at)) ≤ most_facts
+    → ScriptFits (spot at.before (with_new_names at.names (sorts_made construction) names) (at.facts + length (gives_of_construction construction (scope_at at))) at.terms) sorts level rest → ScriptFits at sorts level (Make construction names certs rest)
 unfolding placed_steps NewNamesFit has_well_formed_literals few_facts few_terms few_blanks depth
 fits_made at sorts level construction names certs rest g objects le r =
     let s = scope_at at in
     let n = at.facts + length (gives_of_construction construction s) in
-    let scopes : with_sorts s (sorts_made construction) ≡ scope_of_names (named at.names (sorts_made construction) names) = named_scope at.names (sorts_made construction) names g.count in
+    let scopes : with_sorts s (sorts_made construction) ≡ scope_of_names (with_new_names at.names (sorts_made construction) names) = named_scope at.names (sorts_made construction) names g.count in
     record {
       forms = λ f known goal m. let more = with_facts known (gives_of_construction construction s) in
           and_from _ _ g.fits (subst (λ (z : Scope). list_all (line_fits at.before) (placed_steps at.before rest (rest_of f) z more goal) ≡ true) (sym scopes) (r.forms (rest_of f) more goal m));
@@ -182,7 +182,7 @@ unfolding placed_steps NewNamesFit has_well_formed_literals few_facts few_terms 
 fits_applied at sorts level theorem args names certs rest u r =
     let s = scope_at at in
     let t = theorem_at at.before theorem in
-    let scopes : with_sorts s t.made ≡ scope_of_names (named at.names t.made names) = named_scope at.names t.made names u.count in
+    let scopes : with_sorts s t.made ≡ scope_of_names (with_new_names at.names t.made names) = named_scope at.names t.made names u.count in
     record {
       forms = λ f known goal m. let more = with_facts known (gives_of_use t (args_of f) s) in
           and_from _ _ (and_from _ _ u.earlier u.entries) (subst (λ (z : Scope). list_all (line_fits at.before) (placed_steps at.before rest (rest_of f) z more goal) ≡ true) (sym scopes) (r.forms (rest_of f) more goal m));
@@ -216,7 +216,7 @@ fits_copied at sorts level superposition names shown certs inner rest c s i le l
     let given = superposing.gives_of_superposition superposition scope in
     let n = at.facts + length given in
     let t = at.terms + count_monomials given in
-    let scopes : with_sorts scope superposing.sorts_copied ≡ scope_of_names (named at.names superposing.sorts_copied names) = named_scope at.names superposing.sorts_copied names c.count in
+    let scopes : with_sorts scope superposing.sorts_copied ≡ scope_of_names (with_new_names at.names superposing.sorts_copied names) = named_scope at.names superposing.sorts_copied names c.count in
     let inside : (f : Script) (known : List Lit) → list_all (line_fits at.before) (placed_steps at.before inner f (with_sorts scope superposing.sorts_copied) (with_facts known given) (goal_of shown)) ≡ true = λ f known.
     subst (λ (z : Scope). list_all (line_fits at.before) (placed_steps at.before inner f z (with_facts known given) (goal_of shown)) ≡ true) (sym scopes) (i.forms f (with_facts known given) (goal_of shown) refl) in
     record {

@@ -15,10 +15,10 @@ use Rattle.e_construct.specs.declared.construction.Construction.{Construction}
 use Rattle.e_construct.specs.declared.superpose.Superpose.{Superpose}
 use Rattle.e_construct.specs.Construct.{sorts_made, gives_of_construction}
 use Rattle.e_construct.specs.Superposing as superposing
-use Rattle.e_theorem.specs.Statements.{stated}
+use Rattle.e_theorem.specs.Statements.{as_view}
 use Rattle.e_deriv.specs.declared.names.Names.{Names}
 use Rattle.e_deriv.specs.PlainStep.{PlainStep, Cited, Inferred, Made, Applied, Claimed, Copied, all_before}
-use Rattle.e_deriv.specs.Naming.{names_of_sort, with_names, named, declared_names}
+use Rattle.e_deriv.specs.Naming.{names_of_sort, with_names, with_new_names, declared_names}
 use Rattle.e_deriv.specs.Script.{Script}
 use Rattle.e_line.specs.declared.fault.FaultKind.{FaultKind}
 use Rattle.e_line.specs.declared.fault.BookFault.{BookFault}
@@ -276,7 +276,7 @@ names_listed (n ∷ ns) h = rw (h.0, names_listed ns h.1) refl
 spelled_built : (known : List TitledStatement) (d e : TheoremParser) (l : RawLet) → Spelled known d → AreNames l.new → after_let d l ≡ Ok e → Spelled known e
 unfolding after_let
 spelled_built known d e l g said h =
-    let after : Construction → Names = λ construction. named d.in_scope (sorts_made construction) l.new in
+    let after : Construction → Names = λ construction. with_new_names d.in_scope (sorts_made construction) l.new in
     let then : Construction → Result TheoremParser FaultKind = λ construction. with_step (record d { in_scope = after construction }) (Made construction l.new []) (length (gives_of_construction construction (scope_of_names d.in_scope))) in
     let f = bind_ok (let_in d.in_scope l) (λ construction. few_objects (after construction) >>= λ few. then construction) e h in
     let w = bind_ok (few_objects (after f.0)) (λ few. then f.0) e f.2 in
@@ -300,7 +300,7 @@ spelled_used : (known : List TitledStatement) (d e : TheoremParser) (raw : RawAp
 unfolding with_use
 spelled_used known d e raw theorem args g names title h =
     let t = theorem_of known theorem in
-    let after = named d.in_scope t.made raw.new in
+    let after = with_new_names d.in_scope t.made raw.new in
     let s = Applied theorem args raw.new [] in
     let x : TheoremParser = record d { in_scope = after } in
     let then : TheoremParser → ℕ → TheoremParser = λ v n. record v { terms = n } in
@@ -345,7 +345,7 @@ at_close p shown a s = absurd cc
 spelled_proof : (known : List TitledStatement) (d e : TheoremParser) → Spelled known d → line_may_come d.section rawlines.Proof ≡ true → after_line known d rawlines.Proof ≡ Ok e → Spelled known e
 unfolding after_line
 spelled_proof known d e g a h =
-    let names = declared_names (stated (statement_of_parser d)) d.names in
+    let names = declared_names (as_view (statement_of_parser d)) d.names in
     subst (λ (y : TheoremParser). Spelled known y) (ok_is (record d { in_scope = names; section = Proving }) e h) (moved known d Proving names d.lines d.facts d.terms g (at_proof d.section d.shown a g.some))
 
 -- ---- blocks inside blocks
@@ -385,7 +385,7 @@ shown_length ns raw p e =
 spelled_superpose : (known : List TitledStatement) (d e : TheoremParser) (raw : RawSuperpose) → Spelled known d → AreNames raw.new → 0 < length raw.shown → after_line known d (rawlines.Superpose raw) ≡ Ok e → Spelled known e
 unfolding after_line after_superpose
 spelled_superpose known d e raw g names said h =
-    let after = named d.in_scope superposing.sorts_copied raw.new in
+    let after = with_new_names d.in_scope superposing.sorts_copied raw.new in
     let gives : Superpose × List Lit → List Lit = λ p. superposing.gives_of_superposition p.0 (scope_of_names d.in_scope) in
     let then : TheoremParser → ℕ → TheoremParser = λ x n. record x { in_scope = after; terms = n } in
     let p = bind_ok (superpose_in d.in_scope raw) (λ p. few_objects after >>= λ objects. inside_if_room d (kind.Superpose p.0 raw.new p.1) (length (gives p)) >>= λ x. check_literal_limits raw.shown >>= λ few. terms_after x.terms (gives p) >>= λ n. read_ok (then x n)) e h in

@@ -11,7 +11,7 @@ use Rattle.e_construct.specs.Construct.{sorts_made, gives_of_construction}
 use Rattle.e_construct.specs.Superposing as superposing
 use Rattle.e_construct.proofs.Given.{gives_plain}
 use Rattle.e_deriv.specs.declared.names.Names.{Names}
-use Rattle.e_deriv.specs.Naming.{named}
+use Rattle.e_deriv.specs.Naming.{with_new_names}
 use Rattle.e_deriv.specs.PlainStep.{PlainStep, Cited, Inferred, Made, Applied}
 use Rattle.e_line.specs.declared.fault.FaultKind.{FaultKind}
 use Rattle.e_line.specs.declared.fault.What.TheVariants as limits
@@ -154,12 +154,12 @@ hence_alike known d r t at few =
 -- ---- constructions
 
 made_alike : (known : List TitledStatement) (d : TheoremParser) (raw : RawLet) (construction : Construction) → BlockOf known d → d.section ≡ places.Proving → FewNamed d.names → let_in d.in_scope raw ≡ Ok construction
-    → Alike known (few_objects (named d.in_scope (sorts_made construction) raw.new) >>= λ few. with_step (record d { in_scope = named d.in_scope (sorts_made construction) raw.new }) (Made construction raw.new []) (length (gives_of_construction construction (scope_of_names d.in_scope))))
+    → Alike known (few_objects (with_new_names d.in_scope (sorts_made construction) raw.new) >>= λ few. with_step (record d { in_scope = with_new_names d.in_scope (sorts_made construction) raw.new }) (Made construction raw.new []) (length (gives_of_construction construction (scope_of_names d.in_scope))))
     (then_limits known (rawlines.Let raw) (Proving (head_of d) (around_of d.blocks) (d.steps ++ Made construction raw.new [] ∷ [])))
 made_alike known d raw construction t at few e =
     let s = Made construction raw.new [] in
     let n = Proving (head_of d) (around_of d.blocks) (d.steps ++ s ∷ []) in
-    let after = named d.in_scope (sorts_made construction) raw.new in
+    let after = with_new_names d.in_scope (sorts_made construction) raw.new in
     let given = gives_of_construction construction (scope_of_names d.in_scope) in
     let x : TheoremParser = record d { in_scope = after } in
     let next : Result TheoremParser FaultKind = with_step x s (length given) in
@@ -177,7 +177,7 @@ pub let_alike : (known : List TitledStatement) (d : TheoremParser) (raw : RawLet
 unfolding after_let
 let_alike known d raw t at few =
     both known (let_in d.in_scope raw)
-    (λ construction. few_objects (named d.in_scope (sorts_made construction) raw.new) >>= λ few. with_step (record d { in_scope = named d.in_scope (sorts_made construction) raw.new }) (Made construction raw.new []) (length (gives_of_construction construction (scope_of_names d.in_scope))))
+    (λ construction. few_objects (with_new_names d.in_scope (sorts_made construction) raw.new) >>= λ few. with_step (record d { in_scope = with_new_names d.in_scope (sorts_made construction) raw.new }) (Made construction raw.new []) (length (gives_of_construction construction (scope_of_names d.in_scope))))
     (λ construction. one_more_step (head_of d) (around_of d.blocks) d.steps (Made construction raw.new [])) (then_limits known (rawlines.Let raw))
     (λ construction e. made_alike known d raw construction t at few e)
 
@@ -237,7 +237,7 @@ use_alike known d raw theorem args t at few blanks =
     let s = Applied theorem args raw.new [] in
     let n = Proving (head_of d) (around_of d.blocks) (d.steps ++ s ∷ []) in
     let shown = (theorem_of known theorem).shown in
-    let after = named d.in_scope (theorem_of known theorem).made raw.new in
+    let after = with_new_names d.in_scope (theorem_of known theorem).made raw.new in
     let m = d.terms + count_monomials shown in
     let k = d.facts + length shown in
     let x : TheoremParser = record d { in_scope = after } in
@@ -325,14 +325,14 @@ claim_alike known d raws t at few =
 
 copies_alike : (known : List TitledStatement) (d : TheoremParser) (raw : RawSuperpose) (superposition : Superpose) (shown : List Lit) → BlockOf known d → d.section ≡ places.Proving → FewNamed d.names
     → Alike known
-    (few_objects (named d.in_scope superposing.sorts_copied raw.new) >>= λ objects. inside_if_room d (kind.Superpose superposition raw.new shown) (length (superposing.gives_of_superposition superposition (scope_of_names d.in_scope))) >>= λ e. check_literal_limits raw.shown >>= λ few.
-    terms_after e.terms (superposing.gives_of_superposition superposition (scope_of_names d.in_scope)) >>= λ n. read_ok (record e { in_scope = named d.in_scope superposing.sorts_copied raw.new; terms = n }))
+    (few_objects (with_new_names d.in_scope superposing.sorts_copied raw.new) >>= λ objects. inside_if_room d (kind.Superpose superposition raw.new shown) (length (superposing.gives_of_superposition superposition (scope_of_names d.in_scope))) >>= λ e. check_literal_limits raw.shown >>= λ few.
+    terms_after e.terms (superposing.gives_of_superposition superposition (scope_of_names d.in_scope)) >>= λ n. read_ok (record e { in_scope = with_new_names d.in_scope superposing.sorts_copied raw.new; terms = n }))
     (then_limits known (rawlines.Superpose raw) (Proving (head_of d) (around_of (outer_of d (kind.Superpose superposition raw.new shown) ∷ d.blocks)) []))
 copies_alike known d raw superposition shown t at few =
     let op = kind.Superpose superposition raw.new shown in
     let n = Proving (head_of d) (around_of (outer_of d op ∷ d.blocks)) [] in
     let given = superposing.gives_of_superposition superposition (scope_of_names d.in_scope) in
-    let after = named d.in_scope superposing.sorts_copied raw.new in
+    let after = with_new_names d.in_scope superposing.sorts_copied raw.new in
     let at_block = context_in known (head_of d) d.blocks d.steps in
     let k = d.facts + length given in
     let m = d.terms + count_monomials given in
@@ -340,10 +340,10 @@ copies_alike known d raw superposition shown t at few =
     let last : TheoremParser → ℕ → Result TheoremParser FaultKind = λ x n. read_ok (record x { in_scope = after; terms = n }) in
     let then : TheoremParser → Result TheoremParser FaultKind = λ x. check_literal_limits raw.shown >>= λ few. terms_after x.terms given >>= λ n. last x n in
     let next : Result TheoremParser FaultKind = inside_if_room d op (length given) >>= then in
-    let renamed : Counted after k m (record { names = named d.in_scope superposing.sorts_copied raw.new; facts = at_block.facts ++ given }) =
+    let renamed : Counted after k m (record { names = with_new_names d.in_scope superposing.sorts_copied raw.new; facts = at_block.facts ++ given }) =
     counted_with at_block d.in_scope after after given d.facts k d.terms m t.counted refl refl refl in
     let c : Counted after k m (context_in known (head_of d) (outer_of d op ∷ d.blocks) []) =
-    subst (λ (ns : Names). Counted after k m (record { names = named ns superposing.sorts_copied raw.new; facts = at_block.facts ++ superposing.gives_of_superposition superposition (scope_of_names ns) })) t.counted.names renamed in
+    subst (λ (ns : Names). Counted after k m (record { names = with_new_names ns superposing.sorts_copied raw.new; facts = at_block.facts ++ superposing.gives_of_superposition superposition (scope_of_names ns) })) t.counted.names renamed in
     inner_limits known d (few_objects after >>= λ objects. next) op (rawlines.Superpose raw) after k m t refl c
     (test_objects known next n raw.shown after (d.lines + 1) (length d.blocks + 2) k m 0
     (λ objects. inner_then known d op (length given) then n raw.shown m 0
@@ -357,8 +357,8 @@ pub superpose_alike : (known : List TitledStatement) (d : TheoremParser) (raw : 
 unfolding after_superpose
 superpose_alike known d raw t at few =
     both known (superpose_in d.in_scope raw)
-    (λ p. few_objects (named d.in_scope superposing.sorts_copied raw.new) >>= λ objects. inside_if_room d (kind.Superpose p.0 raw.new p.1) (length (superposing.gives_of_superposition p.0 (scope_of_names d.in_scope))) >>= λ e. check_literal_limits raw.shown >>= λ few.
-    terms_after e.terms (superposing.gives_of_superposition p.0 (scope_of_names d.in_scope)) >>= λ n. read_ok (record e { in_scope = named d.in_scope superposing.sorts_copied raw.new; terms = n }))
+    (λ p. few_objects (with_new_names d.in_scope superposing.sorts_copied raw.new) >>= λ objects. inside_if_room d (kind.Superpose p.0 raw.new p.1) (length (superposing.gives_of_superposition p.0 (scope_of_names d.in_scope))) >>= λ e. check_literal_limits raw.shown >>= λ few.
+    terms_after e.terms (superposing.gives_of_superposition p.0 (scope_of_names d.in_scope)) >>= λ n. read_ok (record e { in_scope = with_new_names d.in_scope superposing.sorts_copied raw.new; terms = n }))
     (λ p. inner_block (head_of d) (around_of d.blocks) d.steps (BySuperposition p.0 raw.new p.1)) (then_limits known (rawlines.Superpose raw))
     (λ p e. copies_alike known d raw p.0 p.1 t at few)
 

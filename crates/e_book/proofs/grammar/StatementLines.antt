@@ -5,7 +5,7 @@ use Rattle.e_literal.specs.declared.object.Sort.{Sort}
 use Rattle.e_literal.specs.declared.object.Sort.TheVariants as sorts
 use Rattle.e_literal.specs.declared.literal.Lit.{Lit}
 use Rattle.e_literal.specs.Use.{scope_of}
-use Rattle.e_theorem.specs.Statements.{stated}
+use Rattle.e_theorem.specs.Statements.{as_view}
 use Rattle.e_deriv.specs.declared.names.Names.{Names}
 use Rattle.e_deriv.specs.PlainStep.{PlainStep}
 use Rattle.e_deriv.specs.Naming.{names_of_sort, declared_names}
@@ -260,16 +260,16 @@ show_alike known p d raws st u few some =
 
 -- ---- the proof begins
 
-few_declared : (d : TheoremParser) → FewNamed d.names → FewNamed (declared_names (stated (statement_of_parser d)) d.names)
+few_declared : (d : TheoremParser) → FewNamed d.names → FewNamed (declared_names (as_view (statement_of_parser d)) d.names)
 few_declared d few =
-    let s = scope_of (stated (statement_of_parser d)) in
+    let s = scope_of (as_view (statement_of_parser d)) in
     record {
       points = omega (arith, few.points, take_short s.points d.names.points);
       lines = omega (arith, few.lines, take_short s.lines d.names.lines);
       circles = omega (arith, few.circles, take_short s.circles d.names.circles);
     }
 
-proof_block : (known : List TitledStatement) (d : TheoremParser) (ns : Names) → UnprovedOf d → FewNamed ns → ns ≡ declared_names (stated (statement_of_parser d)) d.names → BlockTied known (head_of d) d.blocks d.steps ns d.lines d.facts d.terms
+proof_block : (known : List TitledStatement) (d : TheoremParser) (ns : Names) → UnprovedOf d → FewNamed ns → ns ≡ declared_names (as_view (statement_of_parser d)) d.names → BlockTied known (head_of d) d.blocks d.steps ns d.lines d.facts d.terms
 proof_block known d ns u few is =
     let first : BlockTied known (head_of d) [] [] ns 0 d.facts d.terms = record {
       counted = record { names = is; facts = u.facts; terms = u.terms };
@@ -289,7 +289,7 @@ pub proof_alike : (known : List TitledStatement) (p : Section) (d : TheoremParse
     → Alike known (cond (line_may_come p rawlines.Proof) (after_proof d) (Err Malformed)) (states (head_of d) rawlines.Proof >>= then_limits known rawlines.Proof)
 proof_alike known p d st s u few =
     let f = rawlines.Proof in
-    let ns = declared_names (stated (statement_of_parser d)) d.names in
+    let ns = declared_names (as_view (statement_of_parser d)) d.names in
     let n = Proving (head_of d) [] [] in
     let e : TheoremParser = record d { in_scope = ns; section = places.Proving } in
     let some = few_declared d few in

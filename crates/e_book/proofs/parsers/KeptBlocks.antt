@@ -14,7 +14,7 @@ use Rattle.e_construct.specs.Superposing as superposing
 use Rattle.e_deriv.specs.declared.names.Names.{Names}
 use Rattle.e_deriv.specs.Script.{Script, Cases, size}
 use Rattle.e_deriv.specs.PlainStep.{PlainStep, Cited, Inferred, Made, Applied, Claimed, Copied, all_before}
-use Rattle.e_deriv.specs.Naming.{named}
+use Rattle.e_deriv.specs.Naming.{with_new_names}
 use Rattle.e_line.specs.declared.fault.FaultKind.{FaultKind}
 use Rattle.e_line.specs.declared.fault.What.TheVariants as limits
 use Rattle.e_line.specs.declared.literal.RawLit.{RawLit}
@@ -124,7 +124,7 @@ keeps_built : (known : List TitledStatement) (d e : TheoremParser) (l : RawLet) 
 unfolding after_let
 keeps_built known d e l g at h =
     let s = scope_of_names d.in_scope in
-    let after : Construction → Names = λ f. named d.in_scope (sorts_made f) l.new in
+    let after : Construction → Names = λ f. with_new_names d.in_scope (sorts_made f) l.new in
     let then : Construction → Result TheoremParser FaultKind = λ f. with_step (record d { in_scope = after f }) (Made f l.new []) (length (gives_of_construction f s)) in
     let f = bind_ok (let_in d.in_scope l) (λ f. few_objects (after f) >>= λ few. then f) e h in
     let w = bind_ok (few_objects (after f.0)) (λ few. then f.0) e f.2 in
@@ -143,7 +143,7 @@ keeps_used : (known : List TitledStatement) (d e : TheoremParser) (raw : RawAppl
 unfolding with_use
 keeps_used known d e raw theorem args g at u h =
     let t = theorem_of known theorem in
-    let after = named d.in_scope t.made raw.new in
+    let after = with_new_names d.in_scope t.made raw.new in
     let s = Applied theorem args raw.new [] in
     let x : TheoremParser = record d { in_scope = after } in
     let y : TheoremParser = record x { lines = d.lines + 1; steps = d.steps ++ s ∷ []; facts = d.facts + length t.shown } in
@@ -226,7 +226,7 @@ keeps_superposed : (known : List TitledStatement) (d e : TheoremParser) (raw : R
 unfolding after_superpose
 keeps_superposed known d e raw g at said h =
     let given : Superpose → List Lit = λ form. superposing.gives_of_superposition form (scope_of_names d.in_scope) in
-    let after = named d.in_scope superposing.sorts_copied raw.new in
+    let after = with_new_names d.in_scope superposing.sorts_copied raw.new in
     let then : TheoremParser → ℕ → Result TheoremParser FaultKind = λ x n. read_ok (record x { in_scope = after; terms = n }) in
     let p = bind_ok (superpose_in d.in_scope raw) (λ p. few_objects after >>= λ objects. inside_if_room d (kind.Superpose p.0 raw.new p.1) (length (given p.0)) >>= λ x. check_literal_limits raw.shown >>= λ few. terms_after x.terms (given p.0) >>= λ n. then x n) e h in
     let form = p.0.0 in

@@ -6,7 +6,7 @@ use Rattle.e_literal.specs.declared.literal.Lit.{Lit}
 use Rattle.e_literal.specs.Literal.{all_in_scope}
 use Rattle.e_literal.specs.Scopes.{nothing, with_sorts}
 use Rattle.e_literal.specs.WellFormed.{is_well_formed}
-use Rattle.e_theorem.specs.Statements.{stated}
+use Rattle.e_theorem.specs.Statements.{as_view}
 use Rattle.e_deriv.specs.declared.names.Names.{Names}
 use Rattle.e_deriv.specs.Script.{Script, size}
 use Rattle.e_deriv.specs.PlainStep.{PlainStep, all_before}
@@ -42,7 +42,7 @@ HeadOf known d = Head known d.title d.names d.declared d.given d.made d.shown
 
 -- where the first line of the proof stands
 abbrev pub start : List TitledStatement → TheoremParser → Spot
-start known d = spot (stated_by known) (declared_names (stated (statement_of_parser d)) d.names) (length d.given) (count_monomials d.given)
+start known d = spot (stated_by known) (declared_names (as_view (statement_of_parser d)) d.names) (length d.given) (count_monomials d.given)
 
 -- no line of the proof has come
 pub record NoProof (gs : List Lit) (ss : List PlainStep) (os : List OpenBlock) (n k m : ℕ) : Type 0 where

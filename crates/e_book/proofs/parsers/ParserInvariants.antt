@@ -14,7 +14,7 @@ use Rattle.e_literal.proofs.Booleans.{all_both}
 use Rattle.e_text.specs.Tokens.{tokens_of}
 use Rattle.e_text.specs.Lines.{LineView}
 use Rattle.e_text.specs.declared.line.LineFault.{LineFault}
-use Rattle.e_theorem.specs.Statements.{stated}
+use Rattle.e_theorem.specs.Statements.{as_view}
 use Rattle.e_deriv.specs.declared.names.Names.{Names}
 use Rattle.e_deriv.specs.PlainStep.{PlainStep, all_before}
 use Rattle.e_deriv.specs.Goal.{goal_of_statement, facts_of_statement}
@@ -383,7 +383,7 @@ last_shut known p d a b = absurd cc
 pub fits_read : (known : List TitledStatement) (d : TheoremParser) → Good known d → is_done d ≡ true → Fits known (entry_of_parser d)
 fits_read known d good a =
     let g = good.head in
-    let t = stated (statement_of_parser d) in
+    let t = as_view (statement_of_parser d) in
     let script = all_before d.steps (script_of_close d.close) in
     let before = stated_by known in
     let s = last_shut known d.section d a good.body in

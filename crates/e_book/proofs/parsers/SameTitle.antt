@@ -8,7 +8,7 @@ use Rattle.e_construct.specs.Construct.{sorts_made, gives_of_construction}
 use Rattle.e_construct.specs.Superposing as superposing
 use Rattle.e_deriv.specs.PlainStep.{PlainStep, Cited, Inferred, Made, Applied, Claimed, Copied, all_before}
 use Rattle.e_deriv.specs.Script.{Script}
-use Rattle.e_deriv.specs.Naming.{named}
+use Rattle.e_deriv.specs.Naming.{with_new_names}
 use Rattle.e_line.specs.declared.fault.FaultKind.{FaultKind}
 use Rattle.e_line.specs.declared.fault.What.TheVariants as limits
 use Rattle.e_line.specs.declared.literal.RawLit.{RawLit}
@@ -91,7 +91,7 @@ by_shut d close = from d (within (d.lines + 1) most_steps limits.Steps) _ (λ fe
 by_use : (d : TheoremParser) (t : StatementView) (theorem : ℕ) (args : List (Option Obj)) (new : List (List ℕ)) → Same d.title (with_use d t theorem args new)
 unfolding with_use
 by_use d t theorem args new =
-    let after = named d.in_scope t.made new in
+    let after = with_new_names d.in_scope t.made new in
     let x : TheoremParser = record d { in_scope = after } in
     let s : PlainStep = Applied theorem args new [] in
     from d (few_objects after) _ (λ few. then d (with_step x s (length t.shown)) _ (by_step x s (length t.shown))
@@ -113,8 +113,8 @@ by_hence d raw = from d (lit_in d.in_scope raw) _ (λ l. then d (with_step d (In
 by_let : (d : TheoremParser) (raw : RawLet) → Same d.title (after_let d raw)
 unfolding after_let
 by_let d raw =
-    from d (let_in d.in_scope raw) _ (λ construction. from d (few_objects (named d.in_scope (sorts_made construction) raw.new)) _
-    (λ few. by_step (record d { in_scope = named d.in_scope (sorts_made construction) raw.new }) (Made construction raw.new []) (length (gives_of_construction construction (scope_of_names d.in_scope)))))
+    from d (let_in d.in_scope raw) _ (λ construction. from d (few_objects (with_new_names d.in_scope (sorts_made construction) raw.new)) _
+    (λ few. by_step (record d { in_scope = with_new_names d.in_scope (sorts_made construction) raw.new }) (Made construction raw.new []) (length (gives_of_construction construction (scope_of_names d.in_scope)))))
 
 by_apply : (known : List TitledStatement) (d : TheoremParser) (raw : RawApply) → Same d.title (after_apply known d raw)
 unfolding after_apply
@@ -130,7 +130,7 @@ by_claim d raws = from d (lits_in d.in_scope raws) _ (λ ls. then d (inside_if_r
 by_superpose : (d : TheoremParser) (raw : RawSuperpose) → Same d.title (after_superpose d raw)
 unfolding after_superpose
 by_superpose d raw =
-    from d (superpose_in d.in_scope raw) _ (λ p. from d (few_objects (named d.in_scope superposing.sorts_copied raw.new)) _
+    from d (superpose_in d.in_scope raw) _ (λ p. from d (few_objects (with_new_names d.in_scope superposing.sorts_copied raw.new)) _
     (λ objects. then d (inside_if_room d (kind.Superpose p.0 raw.new p.1) (length (superposing.gives_of_superposition p.0 (scope_of_names d.in_scope)))) _
     (by_block d (kind.Superpose p.0 raw.new p.1) (length (superposing.gives_of_superposition p.0 (scope_of_names d.in_scope))))
     (λ e. from e (check_literal_limits raw.shown) _ (λ few. from e (terms_after e.terms (superposing.gives_of_superposition p.0 (scope_of_names d.in_scope))) _ (λ n. refl)))))

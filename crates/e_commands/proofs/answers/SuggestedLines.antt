@@ -13,7 +13,7 @@ use Rattle.e_literal.specs.declared.literal.Lit.{Lit}
 use Rattle.e_literal.specs.Use.{StatementView, is_statement}
 use Rattle.e_literal.proofs.Booleans.{and_left, and_right, all_both, eqb_self}
 use Rattle.e_theorem.specs.Choice.{is_below, IsAllowedChoice}
-use Rattle.e_theorem.specs.Statements.{stated}
+use Rattle.e_theorem.specs.Statements.{as_view}
 use Rattle.e_deriv.specs.declared.names.Names.{Names}
 use Rattle.e_deriv.specs.Fitting.{is_small_statement}
 use Rattle.e_licence.specs.ChoicesInOrder.{is_ascending, is_above}
@@ -114,7 +114,7 @@ pub record IsHeadedAt (known : List TitledStatement) (k : ℕ) (title : List ℕ
   pub headed : TitledStatement
   pub here : Some headed ≡ slice_get known k
   pub titled : headed.title ≡ title
-  pub states : stated headed.statement ≡ t
+  pub states : as_view headed.statement ≡ t
   pub is_one : Contains known headed
 
 pub headed_at : (known : List TitledStatement) (k : ℕ) (title : List ℕ) (t : StatementView) → slice_get (titles known) k ≡ Some title → t ≡ theorem_of known k → IsHeadedAt known k title t
@@ -127,13 +127,13 @@ headed_at (h ∷ hs) (suc k) title t e f =
 pub statement_at : (known : List TitledStatement) (k : ℕ) (title : List ℕ) (t : StatementView) → list_all is_small_statement (stated_by known) ≡ true → slice_get (titles known) k ≡ Some title → t ≡ theorem_of known k → is_statement t ≡ true
 statement_at [] k title t small e f = absurd (none-some title e)
 statement_at (h ∷ hs) zero title t small e f =
-    ap is_statement f ∙ and_left (is_statement (stated h.statement)) _ (and_left (is_small_statement (stated h.statement)) _ small)
-statement_at (h ∷ hs) (suc k) title t small e f = statement_at hs k title t (and_right (is_small_statement (stated h.statement)) _ small) e f
+    ap is_statement f ∙ and_left (is_statement (as_view h.statement)) _ (and_left (is_small_statement (as_view h.statement)) _ small)
+statement_at (h ∷ hs) (suc k) title t small e f = statement_at hs k title t (and_right (is_small_statement (as_view h.statement)) _ small) e f
 
 -- what may be applied at a place is the theorem there, at a choice for it
 record IsOwn (scope : Scope) (facts : List Lit) (k : ℕ) (h : TitledStatement) (a : Application) : Type 0 where
   few : length h.statement.declared ≤ 6
-  good : IsAllowedChoice (stated h.statement) scope facts (blanks (stated h.statement)) a.args
+  good : IsAllowedChoice (as_view h.statement) scope facts (blanks (as_view h.statement)) a.args
   is : own k h a.args ≡ a
 
 is_own : (scope : Scope) (facts : List Lit) (known : List TitledStatement) (k : ℕ) (h : TitledStatement) (a : Application) → Some h ≡ slice_get known k → MayApply scope facts known a → a.place ≡ k → IsOwn scope facts k h a
@@ -141,11 +141,11 @@ is_own scope facts known k h a here m there =
     let same : a.theorem ≡ h = same_Some a.theorem h (m.is_known ∙ ap (slice_get known) there ∙ sym here) in
     record {
       few = subst (λ (x : TitledStatement). length x.statement.declared ≤ 6) same m.is_asked_for;
-      good = subst (λ (x : TitledStatement). IsAllowedChoice (stated x.statement) scope facts (blanks (stated x.statement)) a.args) same m.good;
+      good = subst (λ (x : TitledStatement). IsAllowedChoice (as_view x.statement) scope facts (blanks (as_view x.statement)) a.args) same m.good;
       is = ap₂ (λ (p : ℕ) (x : TitledStatement). own p x a.args) (sym there) (sym same);
     }
 
-choices_good : (scope : Scope) (facts : List Lit) (known : List TitledStatement) (k : ℕ) (h : TitledStatement) (left : ℕ) (cs : List (List Obj)) → Some h ≡ slice_get known k → AreChosen (stated h.statement) scope facts left cs false
+choices_good : (scope : Scope) (facts : List Lit) (known : List TitledStatement) (k : ℕ) (h : TitledStatement) (left : ℕ) (cs : List (List Obj)) → Some h ≡ slice_get known k → AreChosen (as_view h.statement) scope facts left cs false
     → (c : List Obj) → Contains cs c → MayApply scope facts known (own k h c)
 choices_good scope facts known k h left cs here (inl (many, none, complete)) c there = absurd (contains_none c (subst (λ (xs : List (List Obj)). Contains xs c) none there))
 choices_good scope facts known k h left cs here (inr (few, first)) c there = record { is_known = here; is_asked_for = few; good = first.good c there }
@@ -154,7 +154,7 @@ choices_ascend : (t : StatementView) (scope : Scope) (facts : List Lit) (left : 
 choices_ascend t scope facts left cs (inl (many, none, complete)) = ap is_ascending none
 choices_ascend t scope facts left cs (inr (few, first)) = first.ascending
 
-choices_all : (scope : Scope) (facts : List Lit) (k : ℕ) (h : TitledStatement) (left : ℕ) (cs : List (List Obj)) (a : Application) → AreChosen (stated h.statement) scope facts left cs false → IsOwn scope facts k h a → Contains (map (own k h) cs) a
+choices_all : (scope : Scope) (facts : List Lit) (k : ℕ) (h : TitledStatement) (left : ℕ) (cs : List (List Obj)) (a : Application) → AreChosen (as_view h.statement) scope facts left cs false → IsOwn scope facts k h a → Contains (map (own k h) cs) a
 choices_all scope facts k h left cs a (inl (many, none, complete)) o = absurd (let few = o.few in omega (arith, many, few))
 choices_all scope facts k h left cs a (inr (few, first)) o =
     elim (first.none_missing a.args o.good) [
@@ -192,14 +192,14 @@ listed_more names scope facts known k title t old new count n l at s is one = mo
 
     more : IsListedOne names scope facts title t (1000 - count) old new (listed.Found n false) → AreListedTo names scope facts known (k + 1) new (count + n)
     more (cs, bytes, many, few, all) =
-        let own_all : AreChosen (stated h.statement) scope facts (1000 - count) cs false = subst (λ (u : StatementView). AreChosen u scope facts (1000 - count) cs false) (sym at.states) all in
+        let own_all : AreChosen (as_view h.statement) scope facts (1000 - count) cs false = subst (λ (u : StatementView). AreChosen u scope facts (1000 - count) cs false) (sym at.states) all in
         record {
           applications = s.applications ++ map (own k h) cs;
           bytes = bytes ∙ ap₂ (λ (x : List ℕ) (p : List ℕ). x ++ text_of (apply_lines p names cs)) s.bytes (sym at.titled) ∙ sym (lines_both names k h s.applications cs);
           counted = omega (arith, s.counted, many, length-append s.applications (map (own k h) cs), length-map cs (own k h));
           few = omega (arith, s.few, few);
           good = added_good scope facts known k h s.applications cs s.good (choices_good scope facts known k h (1000 - count) cs at.here own_all);
-          in_order = added_in_order scope facts known k h s.applications cs s.good s.in_order (choices_ascend (stated h.statement) scope facts (1000 - count) cs own_all);
+          in_order = added_in_order scope facts known k h s.applications cs s.good s.in_order (choices_ascend (as_view h.statement) scope facts (1000 - count) cs own_all);
           all = λ a m less.
               elim (cases_lt a.place k) [
                 | inl before ↦ Contains-append_left s.applications (map (own k h) cs) a (s.all a m before)
@@ -219,7 +219,7 @@ listed_full names scope facts known k title t old new count n l at s is one = fu
     full : IsListedOne names scope facts title t (1000 - count) old new (listed.Found n true) → IsListed names scope facts known new (listed.Found (count + n) true)
     full (cs, bytes, many, few, inl (none, nothing, complete)) = absurd (true≢false complete)
     full (cs, bytes, many, few, inr (fits, some)) =
-        let first : AreFirstChoices (stated h.statement) scope facts (1000 - count) cs true = subst (λ (u : StatementView). AreFirstChoices u scope facts (1000 - count) cs true) (sym at.states) some in
+        let first : AreFirstChoices (as_view h.statement) scope facts (1000 - count) cs true = subst (λ (u : StatementView). AreFirstChoices u scope facts (1000 - count) cs true) (sym at.states) some in
         let asked : length h.statement.declared ≤ 6 = subst (λ (u : StatementView). length u.declared ≤ 6) (sym at.states) fits in
         let mine = map (own k h) cs in
         let long = length-append s.applications mine in

@@ -7,7 +7,7 @@ use Rattle.std.proofs.lemmas.Slice.Eq.{bytes_eq-Decides}
 use Rattle.e_literal.specs.declared.literal.Lit.{Lit}
 use Rattle.e_literal.specs.declared.object.Scope.{Scope}
 use Rattle.e_literal.proofs.Booleans.{or_not_left, or_not_right}
-use Rattle.e_theorem.specs.Statements.{stated}
+use Rattle.e_theorem.specs.Statements.{as_view}
 use Rattle.e_deriv.specs.declared.stop.Stop.{Stop}
 use Rattle.e_deriv.specs.declared.stop.Stop.TheVariants as stops
 use Rattle.e_deriv.specs.declared.stop.Wanted.{Wanted}
@@ -114,7 +114,7 @@ untitled_more (h ∷ hs) t title none differ =
 
 -- the next theorem has another title and is licensed
 pub way_more : (lines : Rest) (title : List ℕ) (known : Known) (rest after : Rest) (t : TheoremView) → IsOnWay lines title known rest → item_from known (end_line_number lines) None rest ≡ found (OfTheorem t) after → IsLicensed known.theorems t
-    → bytes_eq t.title title ≡ false → is_small_statement (stated t.statement) ≡ true → IsOnWay lines title (and_theorem known t) after
+    → bytes_eq t.title title ≡ false → is_small_statement (as_view t.statement) ≡ true → IsOnWay lines title (and_theorem known t) after
 way_more lines title known rest after t w read licensed differ small =
     record {
       theorems = w.theorems ++ t ∷ [];
@@ -214,7 +214,7 @@ stops_own title step t (stops.TooWide n wanted width names) has less = earlier_o
 stops_own title step t stops.NoMemory has less = tt
 
 pub is_stopped : (lines : Rest) (title : List ℕ) (step : ℕ) (known : List TitledStatement) (t : TheoremView) (stop : Stop) (answer : Status) (out : List ℕ) → IsNextTitled lines title known t → StopsEarlier title step t stop
-    → StopIs (stated_by known) (stated t.statement) t.script stop → HasNames (stated_by known) (stated t.statement) t.names t.script stop → IsStopAnswer t.title stop answer out → IsBookAnswer lines title step answer out
+    → StopIs (stated_by known) (as_view t.statement) t.script stop → HasNames (stated_by known) (as_view t.statement) t.names t.script stop → IsStopAnswer t.title stop answer out → IsBookAnswer lines title step answer out
 is_stopped lines title step known t (stops.Unlicensed n wanted values names) answer out next earlier refused named a =
     answer_is lines title step answer (status.Unlicensed t.title n wanted values) out (stop_text t.title (stops.Unlicensed n wanted values names)) a.is_answer a.bytes (λ h. h) (
       names,
@@ -232,7 +232,7 @@ is_stopped lines title step known t stops.NoMemory answer out next earlier wide 
 -- ---- the place
 
 answers_at : (lines : Rest) (title : List ℕ) (step : ℕ) (known : List TitledStatement) (t : TheoremView) (p : Place) (answer : Status) (out : List ℕ) → IsNextTitled lines title known t → t.title ≡ title
-    → IsStepPlace (stated_by known) (stated t.statement) t.names t.script step p → AnswersAt p.names p.context.scope p.context.facts known title step answer out → IsBookAnswer lines title step answer out
+    → IsStepPlace (stated_by known) (as_view t.statement) t.names t.script step p → AnswersAt p.names p.context.scope p.context.facts known title step answer out → IsBookAnswer lines title step answer out
 answers_at lines title step known t p (status.Suggested n more) out next titled place (list, count, first, bytes) =
     record {
       due = next_up_to lines title known t (Suggests title step n more out) next
@@ -264,8 +264,8 @@ answers_at lines title step known t p (status.TooWide q n wanted width) out next
                 theorem = some.theorem;
                 is_one = some.is_one;
                 is_asked_for = some.is_asked_for;
-                too_wide = subst (λ (s : Scope). SomeArgsAreTooWide (stated some.theorem.statement) s place.step.facts width) place.scope
-                    (subst (λ (fs : List Lit). SomeArgsAreTooWide (stated some.theorem.statement) p.context.scope fs width) place.facts some.too_wide);
+                too_wide = subst (λ (s : Scope). SomeArgsAreTooWide (as_view some.theorem.statement) s place.step.facts width) place.scope
+                    (subst (λ (fs : List Lit). SomeArgsAreTooWide (as_view some.theorem.statement) p.context.scope fs width) place.facts some.too_wide);
               },
             )),
         bytes,
@@ -274,7 +274,7 @@ answers_at lines title step known t p (status.TooWide q n wanted width) out next
     }
 answers_at lines title step known t p answer out next titled place a = absurd a
 
-pub is_answered : (known : List TitledStatement) (t : TheoremView) (title : List ℕ) (step : ℕ) (p : Place) (answer : Status) (out : List ℕ) → t.title ≡ title → IsStepPlace (stated_by known) (stated t.statement) t.names t.script step p
+pub is_answered : (known : List TitledStatement) (t : TheoremView) (title : List ℕ) (step : ℕ) (p : Place) (answer : Status) (out : List ℕ) → t.title ≡ title → IsStepPlace (stated_by known) (as_view t.statement) t.names t.script step p
     → AnswersAt p.names p.context.scope p.context.facts known title step answer out → AnswersNext known t title step answer out
 is_answered known t title step p answer out titled place a lines next = answers_at lines title step known t p answer out next titled place a
 
@@ -311,7 +311,7 @@ at_or_none : (last : ℕ) (known : Known) (rest : Rest) (title : List ℕ) (step
 at_or_none last known rest title step h (inl k) = found_not_none (OfTheorem h.0) h.1 (sym h.2 ∙ k)
 at_or_none last known rest title step h (inr k) =
     let same = same_first h.0 k.0 h.1 k.1 (sym h.2 ∙ k.2) in
-    let has = has_step (stated_by known.theorems) (stated h.0.statement) h.0.script step h.3.0 h.3.1.context in
+    let has = has_step (stated_by known.theorems) (as_view h.0.statement) h.0.script step h.3.0 h.3.1.context in
     let short = subst (λ (u : TheoremView). size u.script < step) (sym same) k.3.short in
     omega (arith, has, short)
 
@@ -321,7 +321,7 @@ at_or_stop last known rest title step p n wanted names h k =
     let same = same_first k.0 h.0 k.1 h.1 (sym k.2 ∙ h.2) in
     let stop = subst (λ (u : TheoremView). StopsAt known.theorems u p n wanted names) same k.3.0 in
     let earlier = subst (λ (u : TheoremView). IsEarlier title step u n) same k.3.1 in
-    not_before (stated_by known.theorems) (stated h.0.statement) h.0.script n step wanted h.3.0 stop.first h.3.1.context (own_earlier title step h.0 n h.3.1.titled earlier).1
+    not_before (stated_by known.theorems) (as_view h.0.statement) h.0.script n step wanted h.3.0 stop.first h.3.1.context (own_earlier title step h.0 n h.3.1.titled earlier).1
 
 none_or_stop : (last : ℕ) (known : Known) (rest : Rest) (title : List ℕ) (step : ℕ) (p : List ℕ) (n : ℕ) (wanted : Wanted) (names : Names) → WayAt last known rest title step NoStep
     → WayAt last known rest title step (Unlicensed p n wanted names) → ⊥
@@ -372,7 +372,7 @@ goes_on last known rest after u title step NoStep read l differ (inr h) =
     let same = same_first h.0 u h.1 after (sym h.2 ∙ read) in
     true≢false (sym (is_same_title u.title title (ap (λ (x : TheoremView). x.title) (sym same) ∙ h.3.titled)) ∙ differ)
 goes_on last known rest after u title step (Unlicensed p n wanted names) read l differ h =
-    no_stop_of_licensed (stated_by known.theorems) (stated u.statement) u.script l.filled n wanted l.licensed
+    no_stop_of_licensed (stated_by known.theorems) (as_view u.statement) u.script l.filled n wanted l.licensed
     (stop_of_same known.theorems h.0 u p n wanted names (same_first h.0 u h.1 after (sym h.2 ∙ read)) h.3.0).first
 goes_on last known rest after u title step (Faulty f) read l differ h = found_not_faulty (OfTheorem u) after f (sym read ∙ h)
 
@@ -444,7 +444,7 @@ same_names x y e = cc
 
 one_suggestion : (title : List ℕ) (step : ℕ) (known : List TitledStatement) (t : TheoremView) (n m : ℕ) (more other : Bool) (out text : List ℕ) → Suggests title step n more out known t → Suggests title step m other text known t → AreSame n m more other out text
 one_suggestion title step known t n m more other out text s u =
-    let place = one_context (stated_by known) (stated t.statement) t.script step s.placed u.placed s.asked.context u.asked.context in
+    let place = one_context (stated_by known) (as_view t.statement) t.script step s.placed u.placed s.asked.context u.asked.context in
     let names : s.names ≡ u.names = same_names s.names u.names (s.named ∙ sym u.named) in
     let first : AreFirstApplications s.placed.scope s.placed.facts known u.applications other =
     subst (λ (c : Scope). AreFirstApplications c s.placed.facts known u.applications other) (sym place.scope) (subst (λ (fs : List Lit). AreFirstApplications u.placed.scope fs known u.applications other) (sym place.facts) u.first) in
@@ -557,13 +557,13 @@ pub too_short_next : {E : Type 0} (r : Result Answer E) (known : List TitledStat
 too_short_next (Err e) known t step short h = tt
 too_short_next (Ok a) known t step short h = λ lines next. too_short lines t.title step known t a.status a.line.items next refl short h.0 h.1
 
-pub stopped_next : {E : Type 0} (r : Result Answer E) (known : List TitledStatement) (t : TheoremView) (step : ℕ) (stop : Stop) → step ≤ size t.script → IsStopBefore step stop → StopIs (stated_by known) (stated t.statement) t.script stop
-    → HasNames (stated_by known) (stated t.statement) t.names t.script stop → IfOk r (λ a. IsStopAnswer t.title stop a.status a.line.items) → AnswersIf r (AnswersNext known t t.title step)
+pub stopped_next : {E : Type 0} (r : Result Answer E) (known : List TitledStatement) (t : TheoremView) (step : ℕ) (stop : Stop) → step ≤ size t.script → IsStopBefore step stop → StopIs (stated_by known) (as_view t.statement) t.script stop
+    → HasNames (stated_by known) (as_view t.statement) t.names t.script stop → IfOk r (λ a. IsStopAnswer t.title stop a.status a.line.items) → AnswersIf r (AnswersNext known t t.title step)
 stopped_next (Err e) known t step stop has less refused named h = tt
 stopped_next (Ok a) known t step stop has less refused named h =
     λ lines next. is_stopped lines t.title step known t stop a.status a.line.items next (stops_own t.title step t stop has less) refused named h
 
-pub answered_next : {E : Type 0} (r : Result Answer E) (known : List TitledStatement) (t : TheoremView) (step : ℕ) (p : Place) → IsStepPlace (stated_by known) (stated t.statement) t.names t.script step p
+pub answered_next : {E : Type 0} (r : Result Answer E) (known : List TitledStatement) (t : TheoremView) (step : ℕ) (p : Place) → IsStepPlace (stated_by known) (as_view t.statement) t.names t.script step p
     → AnswersIf r (AnswersAt p.names p.context.scope p.context.facts known t.title step) → AnswersIf r (AnswersNext known t t.title step)
 answered_next (Err e) known t step p place h = tt
 answered_next (Ok a) known t step p place h = is_answered known t t.title step p a.status a.line.items refl place h
@@ -587,13 +587,13 @@ titled_passes known now title step t a same h lines rest after w read =
     subst (λ (l : List ℕ). AnswersNext known.theorems t l step a.status a.line.items) (same_title t.title title same) h lines (next_of lines title known rest after t w read)
 
 -- at a stop of another theorem
-pub stopped_passes : (known now : Known) (title : List ℕ) (step : ℕ) (t : TheoremView) (stop : Stop) (a : Answer) → bytes_eq t.title title ≡ false → StopIs (stated_by known.theorems) (stated t.statement) t.script stop
-    → HasNames (stated_by known.theorems) (stated t.statement) t.names t.script stop → IsStopAnswer t.title stop a.status a.line.items → PassesNext known (OfTheorem t) title step now (Some a)
+pub stopped_passes : (known now : Known) (title : List ℕ) (step : ℕ) (t : TheoremView) (stop : Stop) (a : Answer) → bytes_eq t.title title ≡ false → StopIs (stated_by known.theorems) (as_view t.statement) t.script stop
+    → HasNames (stated_by known.theorems) (as_view t.statement) t.names t.script stop → IsStopAnswer t.title stop a.status a.line.items → PassesNext known (OfTheorem t) title step now (Some a)
 stopped_passes known now title step t stop a differ refused named h lines rest after w read =
     is_stopped lines title step known.theorems t stop a.status a.line.items (next_of lines title known rest after t w read) (stops_other title step t stop differ) refused named h
 
 -- another theorem is licensed
-pub licensed_passes : (known now : Known) (title : List ℕ) (step : ℕ) (t : TheoremView) → bytes_eq t.title title ≡ false → IsLicensed known.theorems t → is_small_statement (stated t.statement) ≡ true → now ≡ and_theorem known t
+pub licensed_passes : (known now : Known) (title : List ℕ) (step : ℕ) (t : TheoremView) → bytes_eq t.title title ≡ false → IsLicensed known.theorems t → is_small_statement (as_view t.statement) ≡ true → now ≡ and_theorem known t
     → PassesNext known (OfTheorem t) title step now None
 licensed_passes known now title step t differ licensed small is lines rest after w read =
     subst (λ (k : Known). IsOnWay lines title k after) (sym is) (way_more lines title known rest after t w read licensed differ small)

@@ -1,7 +1,7 @@
 -- A book has one outcome.
 use Rattle.std.proofs.Common.{◌≡◌, ℕ, ◌-◌, List, [], ◌∷◌, Option, Some, None, Result, Ok, Err, sym, ap, subst, ◌∙◌}
 use Rattle.std.specs.Prelude.{slice_get}
-use Rattle.e_theorem.specs.Statements.{stated}
+use Rattle.e_theorem.specs.Statements.{as_view}
 use Rattle.e_deriv.specs.declared.stop.Wanted.{Wanted}
 use Rattle.e_deriv.specs.declared.names.Names.{Names}
 use Rattle.e_deriv.specs.Naming.{names_of_steps, declared_names}
@@ -48,9 +48,9 @@ same_some x y e = cc
 -- two stops of one theorem are one
 pub one_stop_at : (known : List TitledStatement) (t : TheoremView) (p q : List ℕ) (n m : ℕ) (v w : Wanted) (x y : Names) → StopsAt known t p n v x → StopsAt known t q m w y → Unlicensed p n v x ≡ Unlicensed q m w y
 one_stop_at known t p q n m v w x y h k =
-    let s = one_stop (stated_by known) (stated t.statement) t.script n m v w h.first k.first in
+    let s = one_stop (stated_by known) (as_view t.statement) t.script n m v w h.first k.first in
     let e : p ≡ q = sym h.titled ∙ k.titled in
-    let names = names_of_steps (stated_by known) (declared_names (stated t.statement) t.names) t.script in
+    let names = names_of_steps (stated_by known) (declared_names (as_view t.statement) t.names) t.script in
     let f : x ≡ y = same_some x y (h.named ∙ ap (λ (i : ℕ). slice_get names (i - 1)) s.0 ∙ sym k.named) in
     ap (λ (l : List ℕ). Unlicensed l n v x) e ∙ ap (λ (i : ℕ). Unlicensed q i v x) s.0 ∙ ap (λ (z : Wanted). Unlicensed q m z x) s.1 ∙ ap (λ (z : Names). Unlicensed q m w z) f
 
@@ -92,7 +92,7 @@ one_end last known lines (Faulty f) (Faulty g) h k = ap Faulty (same_faulty f g 
 no_end : (last : ℕ) (known : Known) (lines after : Rest) (u : TheoremView) (a : BookOutcome) → item_from known last None lines ≡ found (OfTheorem u) after → IsLicensed known.theorems u → OutcomeAt last known lines a → ⊥
 no_end last known lines after u (Accepted n) r l h = found_not_none (OfTheorem u) after (sym r ∙ h.0)
 no_end last known lines after u (Unlicensed p i v x) r l h =
-    no_stop_of_licensed (stated_by known.theorems) (stated u.statement) u.script l.filled i v l.licensed (stop_of_same known.theorems h.0 u p i v x (same_first h.0 u h.1 after (sym h.2 ∙ r)) h.3).first
+    no_stop_of_licensed (stated_by known.theorems) (as_view u.statement) u.script l.filled i v l.licensed (stop_of_same known.theorems h.0 u p i v x (same_first h.0 u h.1 after (sym h.2 ∙ r)) h.3).first
 no_end last known lines after u (Faulty f) r l h = found_not_faulty (OfTheorem u) after f (sym r ∙ h)
 
 -- ---- definitions between theorems

@@ -4,7 +4,7 @@ use Rattle.std.proofs.lemmas.List.{append-nil}
 use Rattle.std.proofs.Math.Seq.{take-append-add}
 use Rattle.e_io.specs.Bytes.{Grew, GrewByFront}
 use Rattle.e_io.proofs.Growth.{grown, grown-nothing}
-use Rattle.e_theorem.specs.Statements.{stated}
+use Rattle.e_theorem.specs.Statements.{as_view}
 use Rattle.e_names.specs.TitledStatements.{TitledStatement, stated_by}
 use Rattle.e_book.specs.TheoremViews.{TheoremView}
 use Rattle.e_names.specs.declared.known.Known.{Known}
@@ -185,8 +185,8 @@ breaks_inside lines old new newer known rest after steps d h read k w =
 -- the next theorem is refused
 pub stops_with : (lines : Rest) (old new : Option (List ℕ)) (known : Known) (rest after : Rest) (steps : ℕ) (t : TheoremView) (step : ℕ) (wanted : Wanted) (values : Option (List (Term × ℕ))) (names : Names)
     → History lines old known rest new steps → item_from known (end_line_number lines) None rest ≡ Ok (Some (OfTheorem t, after))
-    → IsRefused (stated_by known.theorems) (stated t.statement) t.script step wanted values
-    → Some names ≡ slice_get (names_of_steps (stated_by known.theorems) (declared_names (stated t.statement) t.names) t.script) (step - 1)
+    → IsRefused (stated_by known.theorems) (as_view t.statement) t.script step wanted values
+    → Some names ≡ slice_get (names_of_steps (stated_by known.theorems) (declared_names (as_view t.statement) t.names) t.script) (step - 1)
     → BlocksUpTo lines old new (Refuses lines t.title step wanted values names)
 stops_with lines old new known rest after steps t step wanted values names h read refused named =
     ends_with lines old new known rest steps (Refuses lines t.title step wanted values names) h (t, after, read, record { titled = refl; refused = refused; named = named })
@@ -194,8 +194,8 @@ stops_with lines old new known rest after steps t step wanted values names h rea
 -- a line of the next theorem is too wide
 pub widens_with : (lines : Rest) (old new : Option (List ℕ)) (known : Known) (rest after : Rest) (steps : ℕ) (t : TheoremView) (step : ℕ) (wanted : Wanted) (width : ℕ) (names : Names)
     → History lines old known rest new steps → item_from known (end_line_number lines) None rest ≡ Ok (Some (OfTheorem t, after))
-    → IsTooWideAt (stated_by known.theorems) (stated t.statement) t.script step wanted width
-    → Some names ≡ slice_get (names_of_steps (stated_by known.theorems) (declared_names (stated t.statement) t.names) t.script) (step - 1)
+    → IsTooWideAt (stated_by known.theorems) (as_view t.statement) t.script step wanted width
+    → Some names ≡ slice_get (names_of_steps (stated_by known.theorems) (declared_names (as_view t.statement) t.names) t.script) (step - 1)
     → BlocksUpTo lines old new (Widens lines t.title step wanted width names)
 widens_with lines old new known rest after steps t step wanted width names h read too_wide named =
     ends_with lines old new known rest steps (Widens lines t.title step wanted width names) h (t, after, read, record { titled = refl; too_wide = too_wide; named = named })
@@ -210,7 +210,7 @@ front_spelled_as old new xs ys known d e f g = subst (λ (l : List ℕ). GrewByF
 -- the next theorem stops, or memory ran out
 pub stopped : (lines : Rest) (old new : Option (List ℕ)) (known : Known) (rest after any : Rest) (steps : ℕ) (t : TheoremView) (stop : Stop) (b : Book) (r : Result (Option BookResult) Failure)
     → r ≡ result_of_stop t.title stop → History lines old known rest new steps → item_from known (end_line_number lines) None rest ≡ Ok (Some (OfTheorem t, after))
-    → StopIs (stated_by known.theorems) (stated t.statement) t.script stop → HasNames (stated_by known.theorems) (stated t.statement) t.names t.script stop → Handles lines old any r b new
+    → StopIs (stated_by known.theorems) (as_view t.statement) t.script stop → HasNames (stated_by known.theorems) (as_view t.statement) t.names t.script stop → Handles lines old any r b new
 stopped lines old new known rest after any steps t (stops.Unlicensed step wanted values names) b r e h read s k =
     subst (λ (x : Result (Option BookResult) Failure). Handles lines old any x b new) (sym e) (stops_with lines old new known rest after steps t step wanted values names h read s k)
 stopped lines old new known rest after any steps t (stops.TooWide step wanted width names) b r e h read s k =

@@ -8,7 +8,7 @@ use Rattle.e_io.proofs.Growth.{grown, grown-nothing}
 use Rattle.e_text.specs.Lines.{Ahead}
 use Rattle.e_clause.specs.declared.cert.Version.{Version}
 use Rattle.e_clause.specs.declared.cert.Version.TheVariants.{One}
-use Rattle.e_theorem.specs.Statements.{stated}
+use Rattle.e_theorem.specs.Statements.{as_view}
 use Rattle.e_deriv.specs.Script.{Script}
 use Rattle.e_names.specs.TitledStatements.{TitledStatement, stated_by}
 use Rattle.e_book.specs.TheoremViews.{TheoremView}
@@ -53,7 +53,7 @@ pub is_verified : (job : Job) (v : Version) (known : List TitledStatement) (last
 is_verified job v known last lines t after first n = record { verifiable = n.verifiable; certified = n.certified; version = version_for job v t.script first n.version; new = n.spelled.fits.new }
 
 -- and trimmed, where it is of the first version
-pub trimmable : (known : List TitledStatement) (t : TheoremView) → IsVerifiable (stated_by known) (stated t.statement) t.script → IsCertified known t → has_certs_of One t.script ≡ true → IsTrimmable (stated_by known) (stated t.statement) t.script
+pub trimmable : (known : List TitledStatement) (t : TheoremView) → IsVerifiable (stated_by known) (as_view t.statement) t.script → IsCertified known t → has_certs_of One t.script ≡ true → IsTrimmable (stated_by known) (as_view t.statement) t.script
 trimmable known t v c first = record { statements = v.statements; statement = v.statement; short = v.short; scopes = v.scopes; version = first; certified = c }
 
 -- ---- one theorem more

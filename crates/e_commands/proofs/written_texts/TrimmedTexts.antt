@@ -4,7 +4,7 @@ use Rattle.std.specs.Prelude.{IsTrue}
 use Rattle.std.specs.List.{list_all}
 use Rattle.e_clause.specs.declared.cert.Version.{Version}
 use Rattle.e_clause.specs.declared.cert.Version.TheVariants.{One}
-use Rattle.e_theorem.specs.Statements.{stated}
+use Rattle.e_theorem.specs.Statements.{as_view}
 use Rattle.e_deriv.specs.Script.{Script}
 use Rattle.e_deriv.specs.Fitting.{is_small_statement}
 use Rattle.e_names.specs.TitledStatements.{TitledStatement, stated_by}
@@ -22,7 +22,7 @@ use Rattle.e_commands.specs.inner.Rewriting.{AreOfSecond}
 use Rattle.e_commands.proofs.written_texts.VerifiedAgain.{verified_again}
 
 abbrev left_of : List TitledStatement → TheoremView → Script
-left_of known t = trimmed_script (stated_by known) (stated t.statement) t.script
+left_of known t = trimmed_script (stated_by known) (as_view t.statement) t.script
 
 trimmed_spelled : (v : Version) → v ≡ One → (last : ℕ) (known : List TitledStatement) (lines after : Rest) (t : TheoremView) → ReadsNext v last known lines t after → IsCertified known t → IsTrue (list_all is_small_statement (stated_by known)) → CanBeVerified One known t (left_of known t)
 trimmed_spelled v first last known lines after t read c small =

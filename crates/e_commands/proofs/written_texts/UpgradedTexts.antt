@@ -4,7 +4,7 @@ use Rattle.std.specs.Prelude.{IsTrue, OnOk}
 use Rattle.e_clause.specs.declared.cert.Version.{Version}
 use Rattle.e_clause.specs.declared.cert.Version.TheVariants.{Two}
 use Rattle.e_literal.specs.Use.{scope_of}
-use Rattle.e_theorem.specs.Statements.{stated}
+use Rattle.e_theorem.specs.Statements.{as_view}
 use Rattle.e_deriv.specs.Script.{Script, bare_script}
 use Rattle.e_deriv.specs.Goal.{goal_of_statement, facts_of_statement}
 use Rattle.e_deriv.specs.Versions.{has_certs_of}
@@ -29,12 +29,12 @@ use Rattle.e_commands.specs.inner.Rewriting.{AreOfSecond}
 use Rattle.e_commands.proofs.written_texts.VerifiedAgain.{verified_again}
 
 abbrev placed : List TitledStatement → TheoremView → Script
-placed known t = derivation_with_places (stated_by known) (stated t.statement) t.script
+placed known t = derivation_with_places (stated_by known) (as_view t.statement) t.script
 
 placed_spelled : (v : Version) (known : List TitledStatement) (last : ℕ) (lines after : Rest) (t : TheoremView) → ReadsNext v last known lines t after → IsCertified known t → IsTrue (has_certs_of Two (placed known t)) → CanBeVerified Two known t (placed known t)
 placed_spelled v known last lines after t read certified second =
     let bs = stated_by known in
-    let st = stated t.statement in
+    let st = as_view t.statement in
     let own = read_is_formed_so v known last t lines after read in
     let same : bare_script (placed known t) ≡ bare_script t.script = numbered_erased bs t.script (scope_of st) (facts_of_statement st) (goal_of_statement st) in
     let plain : HasSpelling known (record t { script = bare_script (placed known t) }) = subst (λ (s : Script). HasSpelling known (record t { script = s })) (sym same) own.plain in

@@ -2,7 +2,7 @@
 use Rattle.std.proofs.Common.{◌≡◌, true, ℕ, suc, ◌+◌, List, [], ◌∷◌, ◌++◌, length, map, refl, sym, ap, subst, ◌∙◌, arith, length-append}
 use Rattle.e_clause.specs.declared.cert.Version.TheVariants.{One}
 use Rattle.e_deriv.specs.Script.{Script}
-use Rattle.e_theorem.specs.Statements.{stated}
+use Rattle.e_theorem.specs.Statements.{as_view}
 use Rattle.e_names.specs.TitledStatements.{TitledStatement, titled_statement, stated_by}
 use Rattle.e_names.specs.declared.known.Known.{Known}
 use Rattle.e_book.specs.TheoremViews.{TheoremView}
@@ -32,7 +32,7 @@ found_spelled : (known : List TitledStatement) (d : Derived) → HasSpelling kno
 found_spelled known d spelled h = record {
   spelled = record {
     plain = filled_has_spelling known d.theorem d.derivation spelled h.own h.certified;
-    formed = certified_formed (stated_by known) (stated d.theorem.statement) d.derivation h.certified h.written;
+    formed = certified_formed (stated_by known) (as_view d.theorem.statement) d.derivation h.certified h.written;
     version = h.version;
   };
   certified = h.certified;

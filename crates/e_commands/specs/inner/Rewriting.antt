@@ -3,7 +3,7 @@ use Rattle.std.specs.Prelude.{◌≡◌, ◌⊎◌, false, ℕ, List, [], ◌∷
 use Rattle.e_io.specs.Bytes.{Grew, GrewByFront}
 use Rattle.e_clause.specs.declared.cert.Version.{Version}
 use Rattle.e_clause.specs.declared.cert.Version.TheVariants.{One, Two}
-use Rattle.e_theorem.specs.Statements.{stated}
+use Rattle.e_theorem.specs.Statements.{as_view}
 use Rattle.e_deriv.specs.Script.{Script}
 use Rattle.e_deriv.specs.Versions.{has_certs_of}
 use Rattle.e_names.specs.TitledStatements.{TitledStatement, stated_by, is_known}
@@ -40,7 +40,7 @@ HasVersionFor Uses d = Unit {0}
 
 -- a theorem that was read and is certified
 pub record IsVerified (job : Job) (known : List TitledStatement) (t : TheoremView) : Type 0 where
-  pub verifiable : IsVerifiable (stated_by known) (stated t.statement) t.script
+  pub verifiable : IsVerifiable (stated_by known) (as_view t.statement) t.script
   pub certified : IsCertified known t
   pub version : HasVersionFor job t.script
   pub new : is_known known t.title ≡ false
@@ -49,7 +49,7 @@ pub record IsVerified (job : Job) (known : List TitledStatement) (t : TheoremVie
 abbrev pub IsOfSecond : Job → List TitledStatement → TheoremView → Type 0
 IsOfSecond Upgrade known t =
     IsTrue
-    (has_certs_of Two (derivation_with_places (stated_by known) (stated t.statement) t.script))
+    (has_certs_of Two (derivation_with_places (stated_by known) (as_view t.statement) t.script))
 IsOfSecond Trim known t = Unit {0}
 IsOfSecond Uses known t = Unit {0}
 

@@ -6,7 +6,7 @@ use Rattle.e_literal.specs.declared.object.Obj.{Obj}
 use Rattle.e_literal.specs.declared.object.Scope.{Scope}
 use Rattle.e_literal.specs.declared.literal.Lit.{Lit}
 use Rattle.e_literal.specs.Use.{StatementView}
-use Rattle.e_theorem.specs.Statements.{stated}
+use Rattle.e_theorem.specs.Statements.{as_view}
 use Rattle.e_deriv.specs.declared.names.Names.{Names}
 use Rattle.e_deriv.specs.declared.stop.Stop.{Stop}
 use Rattle.e_deriv.specs.declared.stop.Stop.TheVariants as stops
@@ -63,7 +63,7 @@ pub record SomeIsTooWide (scope : Scope) (facts : List Lit) (known : List Titled
   pub theorem : TitledStatement
   pub is_one : Contains known theorem
   pub is_asked_for : length theorem.statement.declared ≤ 6
-  pub too_wide : SomeArgsAreTooWide (stated theorem.statement) scope facts w
+  pub too_wide : SomeArgsAreTooWide (as_view theorem.statement) scope facts w
 
 -- these many lines, of the first applications, were written
 pub record AreListed (names : Names) (scope : Scope) (facts : List Lit)

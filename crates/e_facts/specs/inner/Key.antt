@@ -1,5 +1,6 @@
--- The keys by which diagram literals are looked up, and the places of metric ones.
-use Rattle.std.specs.Prelude.{◌≡◌, ℕ, ◌+◌, List, [], ◌∷◌, Bool, false, Option, Some, None}
+-- The keys by which diagram literals are looked up, and the places of metric ones with their
+-- fingerprints.
+use Rattle.std.specs.Prelude.{◌≡◌, ℕ, ◌+◌, List, [], ◌∷◌, Bool, false, Option, Some, None, ◌==◌, ◌&&◌}
 use Rattle.std.specs.Prelude.{slice_get}
 use Rattle.std.specs.Option.{option_map, option_map_or}
 use Rattle.e_literal.specs.declared.literal.Lit.{Lit}
@@ -10,8 +11,10 @@ use Rattle.e_literal.specs.declared.literal.Atom.TheVariants.{EqL, EqC, MagEq, M
 use Rattle.e_facts.specs.declared.key.Key.{Key}
 use Rattle.e_facts.specs.declared.key.Relation.{Relation}
 use Rattle.e_facts.specs.declared.key.Relation.TheVariants as relation
+use Rattle.e_facts.specs.declared.facts.Place.{Place}
 use Rattle.e_literal.specs.Same.{same_lit}
 use Rattle.e_facts.specs.Facts.{AreApart}
+use Rattle.e_facts.specs.inner.Fingerprint.{fingerprint}
 
 -- the relation and the numbers of a diagram atom, with 0 for the third of two
 abbrev pub parts_of_atom : Atom → Option (Relation × ℕ × ℕ × ℕ)
@@ -46,21 +49,28 @@ abbrev pub keys_of : List Lit → List Key
 keys_of [] = []
 keys_of (l ∷ ls) = with_key (key_of_lit l) (keys_of ls)
 
-abbrev pub with_place : Option Key → ℕ → List ℕ → List ℕ
-with_place None n ns = n ∷ ns
-with_place (Some k) n ns = ns
+abbrev pub with_place : Option Key → Place → List Place → List Place
+with_place None p ps = p ∷ ps
+with_place (Some k) p ps = ps
+
+abbrev pub place_of : ℕ → Lit → Place
+place_of n l = record { index = n; fingerprint = fingerprint l.atom }
 
 -- the places of the metric literals of a list whose first place is n
-abbrev pub metric_places : ℕ → List Lit → List ℕ
+abbrev pub metric_places : ℕ → List Lit → List Place
 metric_places n [] = []
-metric_places n (l ∷ ls) = with_place (key_of_lit l) n (metric_places (n + 1) ls)
+metric_places n (l ∷ ls) = with_place (key_of_lit l) (place_of n l) (metric_places (n + 1) ls)
 
 -- the list has no two the same, and the table and the places are those of the list
-pub record IsKept (lits : List Lit) (keys : List Key) (places : List ℕ) : Type 0 where
+pub record IsKept (lits : List Lit) (keys : List Key) (places : List Place) : Type 0 where
   pub apart : AreApart lits
   pub keyed : keys ≡ keys_of lits
   pub placed : places ≡ metric_places 0 lits
 
--- the literal at the place is the same
-abbrev pub same_at : List Lit → Lit → ℕ → Bool
-same_at ls l n = option_map_or (λ f. same_lit f l) (slice_get ls n) false
+-- the literal that stands there is the same
+abbrev pub same_in : List Lit → Lit → ℕ → Bool
+same_in ls l n = option_map_or (λ f. same_lit f l) (slice_get ls n) false
+
+-- the literal at the place has the fingerprint and is the same
+abbrev pub same_at : List Lit → Lit → Place → Bool
+same_at ls l p = (p.fingerprint == fingerprint l.atom) && same_in ls l p.index

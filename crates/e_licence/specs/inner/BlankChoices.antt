@@ -1,12 +1,11 @@
 -- Choices for the blanks of an application, number by number, and what is licensed at each.
-use Rattle.std.specs.Prelude.{◌≡◌, ℕ, List, [], ◌∷◌, Bool, true, false, Option, Some, None}
+use Rattle.std.specs.Prelude.{◌≡◌, ℕ, List, [], ◌∷◌, Bool, true, Option, Some, None}
 use Rattle.std.specs.Prelude.{map, length, IsTrue, Contains}
 use Rattle.e_literal.specs.declared.object.Obj.{Obj}
 use Rattle.e_literal.specs.declared.object.Scope.{Scope}
 use Rattle.e_literal.specs.declared.literal.Lit.{Lit}
 use Rattle.e_literal.specs.declared.map.Entry.{Entry}
 use Rattle.e_literal.specs.Literal.{obj, count_of}
-use Rattle.e_literal.specs.Facts.{is_metric}
 use Rattle.e_literal.specs.Rename.{image_in, with_images, pairs_of}
 use Rattle.e_clause.specs.Allowed.{Allowed, AllAllowed}
 use Rattle.e_clause.specs.LimitedFacts.{is_well_formed_in}
@@ -16,10 +15,6 @@ use Rattle.e_transfer.specs.declared.walk.Verdict.{Verdict}
 use Rattle.e_transfer.specs.declared.walk.Verdict.TheVariants as verdict
 use Rattle.e_transfer.specs.Choice.{FitsSpans}
 use Rattle.e_licence.specs.Contexts.{Basis}
-use Rattle.e_licence.specs.declared.blanks.Asked.{Asked}
-use Rattle.e_licence.specs.declared.blanks.Asked.TheVariants as asked
-use Rattle.e_licence.specs.declared.blanks.Relations.{Relations}
-use Rattle.e_licence.specs.declared.blanks.Relations.TheVariants as relations
 
 -- ---- arguments
 
@@ -55,27 +50,12 @@ images_of_choice s os entries c = pairs_of os (filled_arguments s os entries c)
 
 -- ---- what is licensed at the first numbers of a choice
 
-abbrev pub asks_all : Asked → Bool
-asks_all asked.All = true
-asks_all (asked.KnownWith n) = false
-
-abbrev pub are_metric : Relations → Bool
-are_metric relations.Diagram = false
-are_metric relations.Metric = true
-
 -- each literal all of whose objects are in scope is allowed
 abbrev pub AllBound : Basis → List Entry → List Lit → Type 0
 AllBound b now [] = Unit {0}
 AllBound b now (l ∷ ls) =
     (IsTrue (is_well_formed_in b.scope (with_images (image_in now) l))
     → Allowed b.scope b.facts (with_images (image_in now) l)) × AllBound b now ls
-
--- the same of the metric literals alone, or of the others
-abbrev pub AllBoundOf : Basis → List Entry → Bool → List Lit → Type 0
-AllBoundOf b now metric [] = Unit {0}
-AllBoundOf b now metric (l ∷ ls) =
-    (is_metric l ≡ metric → IsTrue (is_well_formed_in b.scope (with_images (image_in now) l))
-    → Allowed b.scope b.facts (with_images (image_in now) l)) × AllBoundOf b now metric ls
 
 -- of a whole choice each literal is allowed; of the first numbers of one nothing is known
 abbrev pub IsKeptChoice : Basis → List Obj → List (Option Obj) → List Lit → List ℕ → Type 0
@@ -126,12 +106,6 @@ KnownIs b image (verdict.TooWide w) = IsWideImage b image w
 
 abbrev pub OneIs : Basis → List Entry → Lit → Verdict (Unit {0}) → Type 0
 OneIs b now l v = KnownIs b (with_images (image_in now) l) v
-
--- what is answered on the metric ones, or on the others, where all these are asked or some
-abbrev pub AreIs : Basis → List Entry → Bool → Bool → List Lit → Verdict (Unit {0}) → Type 0
-AreIs b now metric all ls (verdict.Yes p) = all ≡ true → AllBoundOf b now metric ls
-AreIs b now metric all ls verdict.No = SomeIsRefusedAt b now ls
-AreIs b now metric all ls (verdict.TooWide w) = SomeIsWideAt b now ls w
 
 -- what is answered on all, or on some
 abbrev pub AllIs : Basis → List Entry → Bool → List Lit → Verdict (Unit {0}) → Type 0

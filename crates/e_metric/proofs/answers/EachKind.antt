@@ -3,10 +3,10 @@ use Rattle.std.proofs.Common.{◌≡◌, refl, sym, subst, false}
 use Rattle.e_literal.specs.declared.object.Kind.{Kind}
 use Rattle.e_literal.specs.declared.object.Kind.TheVariants.{Segment, Angle, Area}
 use Rattle.e_literal.specs.WellFormed.{same_kind}
-use Rattle.e_metric.specs.inner.ByKind.{arranged, at_kind, other_two}
+use Rattle.e_metric.specs.inner.ByKind.{in_kind_order, at_kind, other_two}
 use Rattle.e_metric.specs.declared.by_kind.ByKind.{ByKind}
 
-pub each_kind : {T : Type 0} (P : Kind → T → Type 0) (which : Kind) (own first second : T) → P which own → P (other_two which).0 first → P (other_two which).1 second → (k : Kind) → P k (at_kind (arranged which own first second) k)
+pub each_kind : {T : Type 0} (P : Kind → T → Type 0) (which : Kind) (own first second : T) → P which own → P (other_two which).0 first → P (other_two which).1 second → (k : Kind) → P k (at_kind (in_kind_order which own first second) k)
 each_kind P Segment own first second h f s Segment = h
 each_kind P Segment own first second h f s Angle = f
 each_kind P Segment own first second h f s Area = s
@@ -18,7 +18,7 @@ each_kind P Area own first second h f s Angle = s
 each_kind P Area own first second h f s Area = h
 
 -- and of what the code arranged
-pub each_arranged : {T : Type 0} (P : Kind → T → Type 0) (which : Kind) (kinds : Kind × Kind) (b : ByKind T) (own first second : T) → kinds ≡ other_two which → b ≡ arranged which own first second
+pub each_arranged : {T : Type 0} (P : Kind → T → Type 0) (which : Kind) (kinds : Kind × Kind) (b : ByKind T) (own first second : T) → kinds ≡ other_two which → b ≡ in_kind_order which own first second
     → P which own → P kinds.0 first → P kinds.1 second → (k : Kind) → P k (at_kind b k)
 each_arranged P which kinds b own first second is at h f s k =
     subst (λ c. P k (at_kind c k)) (sym at) (each_kind P which own first second h (subst (λ (q : Kind × Kind). P q.0 first) is f) (subst (λ (q : Kind × Kind). P q.1 second) is s) k)

@@ -10,7 +10,7 @@ use Rattle.e_clause.specs.System.{NamedRow, rows_of_term, system}
 use Rattle.e_fraction.specs.declared.row.Row.{Row as GivenRow}
 use Rattle.e_metric.specs.declared.solved_system.SolvedSystem.{SolvedSystem}
 use Rattle.e_metric.specs.AgreeingRows.{AreRows}
-use Rattle.e_metric.specs.inner.FurtherRows.{terms_added, rows_added_by_facts, joining}
+use Rattle.e_metric.specs.inner.FurtherRows.{terms_added, rows_added_by_facts, rows_brought_by_facts}
 use Rattle.e_metric.specs.SolvedSystems.{AreNamed, AreRowsOf, IsSolvedSystem}
 use Rattle.e_metric.specs.ListedTerms.{distinct_terms}
 use Rattle.e_metric.specs.RowOrder.{AreReordered}
@@ -31,7 +31,7 @@ no_rows ns names rows h e = by ns h.pairs h.are (sym h.rows_are ∙ e)
 module _ (which : Kind) (facts : List Lit) (from : ℕ) (g : SolvedSystem) (solved_system : IsSolvedSystem which (take from facts) g)
     (raised : g.raised ≡ length (flat_map (rows_of_term facts) g.terms.items)) where
   abbrev all : List NamedRow
-  all = solved_system.rows.all ++ joining which facts from
+  all = solved_system.rows.all ++ rows_brought_by_facts which facts from
 
   same_terms : flat_map (rows_of_term facts) (distinct_terms which (take from facts) None) ≡ flat_map (rows_of_term (take from facts)) (distinct_terms which (take from facts) None)
   same_terms =
@@ -39,14 +39,14 @@ module _ (which : Kind) (facts : List Lit) (from : ℕ) (g : SolvedSystem) (solv
       (subst (λ ts. length (flat_map (rows_of_term facts) ts) ≡ length (flat_map (rows_of_term (take from facts)) ts)) solved_system.terms (sym raised ∙ solved_system.raised))
 
   order : AreReordered all (system which facts None)
-  order = one_order all (system which (take from facts) None ++ joining which facts from) (system which facts None)
-      (reordered_more solved_system.rows.all (system which (take from facts) None) (joining which facts from) solved_system.rows.order) (with_joining which facts from same_terms)
+  order = one_order all (system which (take from facts) None ++ rows_brought_by_facts which facts from) (system which facts None)
+      (reordered_more solved_system.rows.all (system which (take from facts) None) (rows_brought_by_facts which facts from) solved_system.rows.order) (with_joining which facts from same_terms)
 
   -- the terms that are none of those that are kept
   fresh_is : (fresh : List Term) → fresh ≡ terms_added which g.terms.items (drop from facts) → fresh ≡ terms_added which (distinct_terms which (take from facts) None) (drop from facts)
   fresh_is fresh e = e ∙ ap (λ ts. terms_added which ts (drop from facts)) solved_system.terms
 
-  joined_rows : (fresh : List Term) → fresh ≡ terms_added which g.terms.items (drop from facts) → rows_added_by_facts which facts (drop from facts) fresh ≡ joining which facts from
+  joined_rows : (fresh : List Term) → fresh ≡ terms_added which g.terms.items (drop from facts) → rows_added_by_facts which facts (drop from facts) fresh ≡ rows_brought_by_facts which facts from
   joined_rows fresh e = ap (rows_added_by_facts which facts (drop from facts)) (fresh_is fresh e)
 
   pub joined_terms : (fresh : List Term) → fresh ≡ terms_added which g.terms.items (drop from facts) → g.terms.items ++ fresh ≡ distinct_terms which facts None
@@ -54,14 +54,14 @@ module _ (which : Kind) (facts : List Lit) (from : ℕ) (g : SolvedSystem) (solv
 
   -- the terms and the rows with their names that the facts from the place on bring
   module _ (fresh : List Term) (names : List RowName) (rows : List GivenRow) (e : fresh ≡ terms_added which g.terms.items (drop from facts)) (named : AreNamed (rows_added_by_facts which facts (drop from facts) fresh) names rows) where
-    joining_named : AreNamed (joining which facts from) names rows
+    joining_named : AreNamed (rows_brought_by_facts which facts from) names rows
     joining_named = subst (λ ns. AreNamed ns names rows) (joined_rows fresh e) named
 
     pub facts_together : AreRowsOf which facts None (g.names.items ++ names) (g.solved_rows ++ rows)
     facts_together = record {
       all = all;
       order = order;
-      named = named_append solved_system.rows.all (joining which facts from) g.names.items names g.solved_rows rows solved_system.rows.named joining_named;
+      named = named_append solved_system.rows.all (rows_brought_by_facts which facts from) g.names.items names g.solved_rows rows solved_system.rows.named joining_named;
     }
 
     -- where they bring nothing, the solved system is that of all
@@ -69,7 +69,7 @@ module _ (which : Kind) (facts : List Lit) (from : ℕ) (g : SolvedSystem) (solv
     unchanged none n = record {
       rows = record {
         all = solved_system.rows.all;
-        order = subst (λ v. AreReordered v (system which facts None)) (ap (λ v. solved_system.rows.all ++ v) (no_rows (joining which facts from) names rows joining_named (nil_from_length rows none)) ∙ none_more solved_system.rows.all) order;
+        order = subst (λ v. AreReordered v (system which facts None)) (ap (λ v. solved_system.rows.all ++ v) (no_rows (rows_brought_by_facts which facts from) names rows joining_named (nil_from_length rows none)) ∙ none_more solved_system.rows.all) order;
         named = solved_system.rows.named;
       };
       terms = sym (ap (λ v. g.terms.items ++ v) (nil_from_length fresh n) ∙ none_more g.terms.items) ∙ joined_terms fresh e;

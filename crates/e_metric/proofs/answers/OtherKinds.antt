@@ -15,7 +15,7 @@ use Rattle.e_clause.specs.Assignment.{terms_of_lits}
 use Rattle.e_clause.specs.System.{NamedRow, of_kind, against_goal, rows_named, rows_of_term, rows_of_kind, rows_of_system}
 use Rattle.e_clause.specs.Wide.{HasWidth}
 use Rattle.e_fraction.specs.Views.{views_of_rows}
-use Rattle.e_simplex.specs.Answer.{assigned, AreValuesOf}
+use Rattle.e_simplex.specs.Answer.{assigned_value, AreValuesOf}
 use Rattle.e_metric.specs.declared.consequence.Metric.TheVariants.{Yes, No, TooWide}
 use Rattle.e_metric.specs.declared.solved_system.SolvedSystem.{SolvedSystem}
 use Rattle.e_metric.specs.declared.kind_system.KindSystem.TheVariants as kind_system
@@ -35,8 +35,8 @@ same_system which facts wanted e =
 
 pub solved_alone : (g : SolvedSystem) (values : List (Term × ℕ)) → AreValuesOf (views_of_rows g.solved_rows) values → IsAnswerAlone (kind_system.Solved g) (No values)
 solved_alone g values h which facts wanted solved_system e =
-    subst (Satisfy (assigned values)) (same_system which facts wanted e)
-    (satisfied which facts None solved_system.rows.all solved_system.rows.order solved_system.rows.named.pairs solved_system.rows.named.are g.solved_rows solved_system.rows.named.rows_are (assigned values) h.satisfy)
+    subst (Satisfy (assigned_value values)) (same_system which facts wanted e)
+    (satisfied which facts None solved_system.rows.all solved_system.rows.order solved_system.rows.named.pairs solved_system.rows.named.are g.solved_rows solved_system.rows.named.rows_are (assigned_value values) h.satisfy)
 
 pub absurd_alone : (m : MetricCert) → IsAnswerAlone (kind_system.Absurd m) (Yes m)
 absurd_alone m which facts wanted h e = certified_wider facts wanted m h

@@ -23,12 +23,12 @@ use Rattle.e_fraction.specs.declared.row.Row.{Row as GivenRow}
 use Rattle.e_fraction.specs.Limits.{all_small}
 use Rattle.e_fraction.specs.Views.{view_of_row, views_of_rows}
 use Rattle.e_simplex.specs.declared.decision.Absurdity.{Absurdity}
-use Rattle.e_simplex.specs.Answer.{assigned, AreValuesOf, IsAbsurdity}
+use Rattle.e_simplex.specs.Answer.{assigned_value, AreValuesOf, IsAbsurdity}
 use Rattle.e_simplex.specs.Naming.{place_of, IsIn, FormNamed, AllNamed}
 use Rattle.e_metric.specs.declared.solved_system.SolvedSystem.{SolvedSystem}
 use Rattle.e_metric.specs.AgreeingRows.{AreRows, AllLimited}
 use Rattle.e_metric.specs.inner.Certificate.{certificate_sums}
-use Rattle.e_metric.specs.inner.FurtherRows.{terms_added, rows_added_by_goal, further}
+use Rattle.e_metric.specs.inner.FurtherRows.{terms_added, rows_added_by_goal, rows_brought_by_goal}
 use Rattle.e_metric.specs.SolvedSystems.{AreNamed, AreRowsOf, IsSolvedSystem}
 use Rattle.e_metric.specs.ListedTerms.{with_listed, distinct_terms}
 use Rattle.e_metric.specs.MetricAnswers.{IsMetricCertificate}
@@ -107,23 +107,23 @@ module _ (which : Kind) (facts : List Lit) (wanted : Option Lit) (names : List R
 
 -- ---- values, and those of more terms
 
-assigned_more : (ps qs : List (Term × ℕ)) (t : Term) → IsIn (map (λ (p : Term × ℕ). p.0) ps) t → assigned (ps ++ qs) t ≡ assigned ps t
+assigned_more : (ps qs : List (Term × ℕ)) (t : Term) → IsIn (map (λ (p : Term × ℕ). p.0) ps) t → assigned_value (ps ++ qs) t ≡ assigned_value ps t
 assigned_more [] qs t h = absurd (omega (arith, h))
 assigned_more (p ∷ ps) qs t h = by (term_eq t p.0) h (λ k. assigned_more ps qs t k)
   where
     ts : List Term
     ts = map (λ (q : Term × ℕ). q.0) ps
 
-    by : (b : Bool) → cond b 0 (suc (place_of (map (λ (q : Term × ℕ). q.0) ps) t)) < suc (length (map (λ (q : Term × ℕ). q.0) ps)) → (IsIn (map (λ (q : Term × ℕ). q.0) ps) t → assigned (ps ++ qs) t ≡ assigned ps t)
-        → cond b p.1 (assigned (ps ++ qs) t) ≡ cond b p.1 (assigned ps t)
+    by : (b : Bool) → cond b 0 (suc (place_of (map (λ (q : Term × ℕ). q.0) ps) t)) < suc (length (map (λ (q : Term × ℕ). q.0) ps)) → (IsIn (map (λ (q : Term × ℕ). q.0) ps) t → assigned_value (ps ++ qs) t ≡ assigned_value ps t)
+        → cond b p.1 (assigned_value (ps ++ qs) t) ≡ cond b p.1 (assigned_value ps t)
     by true k ih = refl
     by false k ih = ih (omega (arith, k))
 
-form_more : (ps qs : List (Term × ℕ)) (form : Summands) → FormNamed (map (λ (p : Term × ℕ). p.0) ps) form → form_value form (assigned (ps ++ qs)) ≡ form_value form (assigned ps)
+form_more : (ps qs : List (Term × ℕ)) (form : Summands) → FormNamed (map (λ (p : Term × ℕ). p.0) ps) form → form_value form (assigned_value (ps ++ qs)) ≡ form_value form (assigned_value ps)
 form_more ps qs [] h = refl
 form_more ps qs (f ∷ fs) h = ap₂ {A = ℕ} {B = ℤ} (λ n z. f.0 *ℤ pos n +ℤ z) (assigned_more ps qs f.1 h.0) (form_more ps qs fs h.1)
 
-satisfy_more : (ps qs : List (Term × ℕ)) (rs : List Row) → AllNamed (map (λ (p : Term × ℕ). p.0) ps) rs → Satisfy (assigned ps) rs → Satisfy (assigned (ps ++ qs)) rs
+satisfy_more : (ps qs : List (Term × ℕ)) (rs : List Row) → AllNamed (map (λ (p : Term × ℕ). p.0) ps) rs → Satisfy (assigned_value ps) rs → Satisfy (assigned_value (ps ++ qs)) rs
 satisfy_more ps qs [] h s = tt
 satisfy_more ps qs (r ∷ rs) h s = (subst (IsSo r.sense) (sym (form_more ps qs r.form h.0)) s.0, satisfy_more ps qs rs h.1 s.1)
 
@@ -147,17 +147,17 @@ one_so v rows i r l e h s = subst (λ rs. Satisfy v (views_of_rows rs)) (sym (at
 
 -- the values of the solved rows, and those of more terms, solve the system where they solve the rows after them
 pub false_already : (which : Kind) (facts : List Lit) (wanted : Option Lit) (names : List RowName) (solved rows : List GivenRow) → AreRowsOf which facts wanted names (solved ++ rows) → list_all is_well_formed facts ≡ true
-    → length (terms_of_lits facts) ≤ 1100 → is_well_formed_metric wanted ≡ true → (values fresh vs : List (Term × ℕ)) → vs ≡ values ++ fresh → AreValuesOf (views_of_rows solved) values → Satisfy (assigned vs) (views_of_rows rows)
-    → Satisfy (assigned vs) (rows_of_system which facts wanted)
+    → length (terms_of_lits facts) ≤ 1100 → is_well_formed_metric wanted ≡ true → (values fresh vs : List (Term × ℕ)) → vs ≡ values ++ fresh → AreValuesOf (views_of_rows solved) values → Satisfy (assigned_value vs) (views_of_rows rows)
+    → Satisfy (assigned_value vs) (rows_of_system which facts wanted)
 false_already which facts wanted names solved rows r good few good_wanted values fresh vs e h s =
-    solved_named which facts wanted names (solved ++ rows) r good few good_wanted (assigned vs)
-    (subst (Satisfy (assigned vs)) (sym (map-append view_of_row solved rows))
-    (satisfy_append (assigned vs) (views_of_rows solved) (views_of_rows rows) (subst (λ v. Satisfy (assigned v) (views_of_rows solved)) (sym e) (satisfy_more values fresh (views_of_rows solved) h.all h.satisfy)) s))
+    solved_named which facts wanted names (solved ++ rows) r good few good_wanted (assigned_value vs)
+    (subst (Satisfy (assigned_value vs)) (sym (map-append view_of_row solved rows))
+    (satisfy_append (assigned_value vs) (views_of_rows solved) (views_of_rows rows) (subst (λ v. Satisfy (assigned_value v) (views_of_rows solved)) (sym e) (satisfy_more values fresh (views_of_rows solved) h.all h.satisfy)) s))
 
 -- ---- the rows of a goal
 
 -- where its terms are set beside those that are kept
-pub asked : (which : Kind) (facts : List Lit) (l : Lit) (g : SolvedSystem) (fresh : List Term) → IsSolvedSystem which facts g → fresh ≡ terms_added which g.terms.items (l ∷ []) → rows_added_by_goal which facts fresh l ≡ further which facts l
+pub asked : (which : Kind) (facts : List Lit) (l : Lit) (g : SolvedSystem) (fresh : List Term) → IsSolvedSystem which facts g → fresh ≡ terms_added which g.terms.items (l ∷ []) → rows_added_by_goal which facts fresh l ≡ rows_brought_by_goal which facts l
 asked which facts l g fresh solved_system e = ap (λ ts. rows_added_by_goal which facts ts l) (e ∙ ap (λ ts. terms_added which ts (l ∷ [])) solved_system.terms)
 
 -- the terms are those of the facts and the goal
@@ -165,13 +165,13 @@ pub goal_terms : (which : Kind) (facts : List Lit) (l : Lit) (g : SolvedSystem) 
 goal_terms which facts l g fresh solved_system e =
     ap₂ {A = List Term} {B = List Term} (λ x y. x ++ y) solved_system.terms (e ∙ ap (λ ts. terms_added which ts (l ∷ [])) solved_system.terms) ∙ sym (all_terms which facts l)
 
-pub goal_together : (which : Kind) (facts : List Lit) (l : Lit) (g : SolvedSystem) (names : List RowName) (rows : List GivenRow) → IsSolvedSystem which facts g → AreNamed (further which facts l) names rows
+pub goal_together : (which : Kind) (facts : List Lit) (l : Lit) (g : SolvedSystem) (names : List RowName) (rows : List GivenRow) → IsSolvedSystem which facts g → AreNamed (rows_brought_by_goal which facts l) names rows
     → AreRowsOf which facts (Some l) (g.names.items ++ names) (g.solved_rows ++ rows)
 goal_together which facts l g names rows solved_system more =
     (let solved = solved_system.rows in
     record {
-      all = solved.all ++ further which facts l;
-      order = one_order (solved.all ++ further which facts l) (system which facts None ++ further which facts l) (system which facts (Some l))
-          (reordered_more solved.all (system which facts None) (further which facts l) solved.order) (with_further which facts l);
-      named = named_append solved.all (further which facts l) g.names.items names g.solved_rows rows solved.named more;
+      all = solved.all ++ rows_brought_by_goal which facts l;
+      order = one_order (solved.all ++ rows_brought_by_goal which facts l) (system which facts None ++ rows_brought_by_goal which facts l) (system which facts (Some l))
+          (reordered_more solved.all (system which facts None) (rows_brought_by_goal which facts l) solved.order) (with_further which facts l);
+      named = named_append solved.all (rows_brought_by_goal which facts l) g.names.items names g.solved_rows rows solved.named more;
     })

@@ -10,7 +10,7 @@ use Rattle.e_clause.specs.declared.cert.RowName.TheVariants.{Fact, Goal}
 use Rattle.e_clause.specs.Assignment.{terms_of_lits}
 use Rattle.e_clause.specs.System.{of_kind, against_goal, rows_named, rows_of_term, rows_of_kind, system}
 use Rattle.e_metric.specs.ListedTerms.{with_listed, distinct_terms}
-use Rattle.e_metric.specs.inner.FurtherRows.{terms_added, further}
+use Rattle.e_metric.specs.inner.FurtherRows.{terms_added, rows_brought_by_goal}
 use Rattle.e_metric.specs.RowOrder.{AreReordered}
 use Rattle.e_metric.proofs.terms.FirstTerms.{listed_first, some_wanted, none_wanted}
 use Rattle.e_metric.proofs.rows.SystemRows.{flat_append}
@@ -49,7 +49,7 @@ all_terms which facts l =
 -- ---- rows
 
 -- the rows of the facts and what the goal brings are the rows of both, in another order
-pub with_further : (which : Kind) (facts : List Lit) (l : Lit) → AreReordered (system which facts None ++ further which facts l) (system which facts (Some l))
+pub with_further : (which : Kind) (facts : List Lit) (l : Lit) → AreReordered (system which facts None ++ rows_brought_by_goal which facts l) (system which facts (Some l))
 with_further which facts l =
     let f = rows_of_term facts in
     let known = distinct_terms which facts None in
@@ -61,4 +61,4 @@ with_further which facts l =
     let r = rows_of_kind which in
     let same : (a ++ g) ++ ((t ++ n) ++ r) ≡ system which facts (Some l) =
     append_assoc a g ((t ++ n) ++ r) ∙ ap (λ v. a ++ (g ++ (v ++ r))) (sym (flat_append f known fresh) ∙ ap (flat_map f) (sym (all_terms which facts l))) in
-    subst (AreReordered (system which facts None ++ further which facts l)) same (two_after a t r g n)
+    subst (AreReordered (system which facts None ++ rows_brought_by_goal which facts l)) same (two_after a t r g n)

@@ -15,7 +15,7 @@ use Rattle.e_literal.specs.Rows.{row_of_lit}
 use Rattle.e_clause.specs.declared.cert.RowName.TheVariants.{Fact, Pos}
 use Rattle.e_clause.specs.Assignment.{terms_of_lits}
 use Rattle.e_clause.specs.System.{NamedRow, named_row, pos_row, of_kind, rows_named, rows_of_term, rows_of_kind, system}
-use Rattle.e_metric.specs.inner.FurtherRows.{terms_added, rows_added_by_facts, joining}
+use Rattle.e_metric.specs.inner.FurtherRows.{terms_added, rows_added_by_facts, rows_brought_by_facts}
 use Rattle.e_metric.specs.ListedTerms.{with_listed, distinct_terms}
 use Rattle.e_metric.proofs.terms.FirstTerms.{listed_append, listed_first, none_wanted, kind_append, lits_append}
 use Rattle.e_metric.proofs.rows.Forms.{none_more}
@@ -136,7 +136,7 @@ module _ (which : Kind) (facts : List Lit) (from : ℕ) where
       subst (λ v. length (flat_map (rows_of_term v) ts) ≡ length (flat_map (rows_of_term old) ts) → flat_map (rows_of_term v) ts ≡ flat_map (rows_of_term old) ts) (take-append-drop from facts)
       (same_raised old more ts)
 
-  pub with_joining : flat_map (rows_of_term facts) (distinct_terms which old None) ≡ flat_map (rows_of_term old) (distinct_terms which old None) → AreReordered (system which old None ++ joining which facts from) (system which facts None)
+  pub with_joining : flat_map (rows_of_term facts) (distinct_terms which old None) ≡ flat_map (rows_of_term old) (distinct_terms which old None) → AreReordered (system which old None ++ rows_brought_by_facts which facts from) (system which facts None)
   with_joining =
       subst (λ v. flat_map (rows_of_term v) (distinct_terms which old None) ≡ flat_map (rows_of_term old) (distinct_terms which old None) → AreReordered (system which old None ++ brought which old more v) (system which v None)) (take-append-drop from facts)
       (with_brought which old more)

@@ -17,7 +17,7 @@ use Rattle.e_clause.specs.declared.cert.Sums.TheVariants.{One as OneSum, Two as 
 use Rattle.e_clause.specs.System.{NamedRow}
 use Rattle.e_clause.proofs.Named.{Each}
 use Rattle.e_fraction.specs.declared.row.Row.{Row as GivenRow}
-use Rattle.e_fraction.specs.Views.{weighed}
+use Rattle.e_fraction.specs.Views.{with_multipliers}
 use Rattle.e_simplex.specs.declared.decision.Absurdity.{Absurdity}
 use Rattle.e_simplex.specs.declared.decision.Absurdity.TheVariants.{One, Two}
 use Rattle.e_metric.specs.inner.Certificate.{named_multipliers, leasts, negated_place, certificate_sum, certificate_sums}
@@ -60,8 +60,8 @@ module _ (p : RowName → Bool) where
 
   sum_has : (ns : List RowName) (gs : List GivenRow) (ms ws : List ℤ) (ts : List Term) → list_all p ns ≡ true → list_all (λ t. p (Least t)) ts ≡ true → each_in (certificate_sum ns gs ms ws ts) ≡ true
   sum_has ns gs ms ws ts h k =
-      list_all-append (λ (x : ℤ × RowName). p x.1) (named_multipliers ns ms) (leasts (total (weighed gs ws)) ts)
-      ∙ and_from (each_in (named_multipliers ns ms)) (each_in (leasts (total (weighed gs ws)) ts)) (kept_in ns ms h) (leasts_in (total (weighed gs ws)) ts k)
+      list_all-append (λ (x : ℤ × RowName). p x.1) (named_multipliers ns ms) (leasts (total (with_multipliers gs ws)) ts)
+      ∙ and_from (each_in (named_multipliers ns ms)) (each_in (leasts (total (with_multipliers gs ws)) ts)) (kept_in ns ms h) (leasts_in (total (with_multipliers gs ws)) ts k)
 
   set_in : (ns : List RowName) (k : ℕ) (n : RowName) → p n ≡ true → list_all p ns ≡ true → list_all p (set ns k n) ≡ true
   set_in [] zero n e h = refl

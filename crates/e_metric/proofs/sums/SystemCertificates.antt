@@ -28,7 +28,7 @@ use Rattle.e_clause.specs.MetricCertificate.{differing_row, above_row, below_row
 use Rattle.e_clause.proofs.Named.{Each, IsNamed, system_named, HasNot, Misses, system_misses}
 use Rattle.e_clause.proofs.Solved.{terms_of_system, system_among, first_among}
 use Rattle.e_fraction.specs.declared.row.Row.{Row as GivenRow}
-use Rattle.e_fraction.specs.Views.{views_of_rows, weighed}
+use Rattle.e_fraction.specs.Views.{views_of_rows, with_multipliers}
 use Rattle.e_simplex.specs.declared.decision.Absurdity.{Absurdity}
 use Rattle.e_simplex.specs.declared.decision.Absurdity.TheVariants.{One, Two}
 use Rattle.e_simplex.specs.Answer.{each_weighed, MayTake, AreMultipliers, TakesMore, Refutes, IsNotAt, as_more, as_less, RefutesBoth, IsAbsurdity}
@@ -130,7 +130,7 @@ not_alike (r ∷ rs) (q ∷ ss) (suc k) h n = not_alike rs ss k h.1 n
 
 -- ---- what is left of a term
 
-pub left_given : (gs : List GivenRow) (ms : List ℤ) (u : Term) → total (weighed gs ms) u ≡ total (each_weighed (views_of_rows gs) ms) u
+pub left_given : (gs : List GivenRow) (ms : List ℤ) (u : Term) → total (with_multipliers gs ms) u ≡ total (each_weighed (views_of_rows gs) ms) u
 left_given [] ms u = refl
 left_given (g ∷ gs) [] u = refl
 left_given (g ∷ gs) (m ∷ ms) u = ap (λ z. m *ℤ coefficient g.form u +ℤ z) (left_given gs ms u)
@@ -317,7 +317,7 @@ module _ (which : Kind) (facts : List Lit) (wanted : Option Lit) where
     one_sum : (ms : List ℤ) → Refutes (views_of_rows (rows_given pairs)) ms → refutes (place None None) (certificate_sum (map name_of ns) (rows_given pairs) ms ms summed) ≡ true
     one_sum ms r =
         (let rr = refutes_alike (views_of_rows (rows_given pairs)) rows ms alike r in
-        sum_refutes (place None None) (map name_of ns) rows ms (total (weighed (rows_given pairs) ms)) summed (record {
+        sum_refutes (place None None) (map name_of ns) rows ms (total (with_multipliers (rows_given pairs) ms)) summed (record {
           refutes = rr;
           named = named_taken (place None None) ns ms (all_named (place None None) refl refl) rr.taken;
           as_many = length_names;
@@ -333,7 +333,7 @@ module _ (which : Kind) (facts : List Lit) (wanted : Option Lit) where
     above_sum k ms q here r =
         (let p = place (Some (above_row q.row)) None in
         let rr = refutes_alike (as_more (views_of_rows (rows_given pairs)) k) (as_more rows k) ms (more_of_alike (views_of_rows (rows_given pairs)) rows k alike) r in
-        sum_refutes p (set (map name_of ns) k Above) (as_more rows k) ms (total (weighed (rows_given pairs) ms)) summed (record {
+        sum_refutes p (set (map name_of ns) k Above) (as_more rows k) ms (total (with_multipliers (rows_given pairs) ms)) summed (record {
           refutes = rr;
           named = named_above p ns ms k q (all_named p refl refl) here refl rr.taken;
           as_many = length_set (map name_of ns) k Above ∙ length_names ∙ sym (length_more rows k);
@@ -349,7 +349,7 @@ module _ (which : Kind) (facts : List Lit) (wanted : Option Lit) where
     below_sum k ms q here r =
         (let p = place None (Some (below_row q.row)) in
         let rr = refutes_alike (as_less (views_of_rows (rows_given pairs)) k) (as_less rows k) ms (less_of_alike (views_of_rows (rows_given pairs)) rows k alike) r in
-        sum_refutes p (set (map name_of ns) k Below) (as_less rows k) ms (total (weighed (rows_given pairs) (negated_place ms k))) summed (record {
+        sum_refutes p (set (map name_of ns) k Below) (as_less rows k) ms (total (with_multipliers (rows_given pairs) (negated_place ms k))) summed (record {
           refutes = rr;
           named = named_below p ns ms k q (all_named p refl refl) here refl rr.taken;
           as_many = length_set (map name_of ns) k Below ∙ length_names ∙ sym (length_less rows k);

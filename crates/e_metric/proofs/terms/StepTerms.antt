@@ -65,7 +65,7 @@ carried_canonical : (w : Term → ℕ) (t : Term) → values_for_all w (canonica
 carried_canonical w t =
     ap (λ b. cond b 0 (w (canonical (canonical t)))) (degenerate_canonical t) ∙ ap (λ u. cond (is_degenerate t) 0 (w u)) (canonical_twice t)
 
-among_map : (ts : List Term) (t : Term) → is_among ts t ≡ true → is_among (map canonical ts) (canonical t) ≡ true
+pub among_map : (ts : List Term) (t : Term) → is_among ts t ≡ true → is_among (map canonical ts) (canonical t) ≡ true
 among_map [] t h = absurd (true≢false (sym h))
 among_map (u ∷ us) t h = elim (or_cases (term_eq t u) (is_among us t) h) [
   | inl e ↦ or_left (term_eq (canonical t) (canonical u)) (is_among (map canonical us) (canonical t)) (equal_terms (canonical t) (canonical u) (ap canonical (term_eq_is t u e)))

@@ -5,14 +5,14 @@ use Rattle.e_literal.specs.declared.object.Kind.TheVariants.{Segment, Angle, Are
 use Rattle.e_literal.specs.declared.object.Term.{Term}
 use Rattle.e_literal.specs.Solution.{values_for_all}
 use Rattle.e_clause.specs.System.{by_kind}
-use Rattle.e_simplex.specs.Answer.{assigned}
+use Rattle.e_simplex.specs.Answer.{assigned_value}
 use Rattle.e_metric.specs.declared.by_kind.ByKind.{ByKind}
 
 -- those of each kind
 abbrev pub values_of : ByKind (List (Term × ℕ)) → Kind → Term → ℕ
-values_of values Segment = assigned values.segments
-values_of values Angle = assigned values.angles
-values_of values AreaKind = assigned values.areas
+values_of values Segment = assigned_value values.segments
+values_of values Angle = assigned_value values.angles
+values_of values AreaKind = assigned_value values.areas
 
 -- the value of a term of the step, as it is written
 abbrev pub step_value : ByKind (List (Term × ℕ)) → Term → ℕ

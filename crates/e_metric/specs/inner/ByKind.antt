@@ -16,7 +16,7 @@ other_two Angle = (Segment, AreaKind)
 other_two AreaKind = (Segment, Angle)
 
 -- one for the kind, and those for the other two in their order
-abbrev pub arranged : {T : Type 0} → Kind → T → T → T → ByKind T
-arranged Segment own first second = record { segments = own; angles = first; areas = second }
-arranged Angle own first second = record { segments = first; angles = own; areas = second }
-arranged AreaKind own first second = record { segments = first; angles = second; areas = own }
+abbrev pub in_kind_order : {T : Type 0} → Kind → T → T → T → ByKind T
+in_kind_order Segment own first second = record { segments = own; angles = first; areas = second }
+in_kind_order Angle own first second = record { segments = first; angles = own; areas = second }
+in_kind_order AreaKind own first second = record { segments = first; angles = second; areas = own }

@@ -12,7 +12,7 @@ use Rattle.e_clause.specs.declared.cert.Sums.{Sums}
 use Rattle.e_clause.specs.declared.cert.Sums.TheVariants.{One as OneSum, Two as TwoSums}
 use Rattle.e_fraction.specs.declared.row.Row.{Row as GivenRow}
 use Rattle.e_fraction.specs.Limits.{most_rows_of_system, all_small, small_multipliers}
-use Rattle.e_fraction.specs.Views.{weighed}
+use Rattle.e_fraction.specs.Views.{with_multipliers}
 use Rattle.e_simplex.specs.declared.decision.Absurdity.{Absurdity}
 use Rattle.e_simplex.specs.declared.decision.Absurdity.TheVariants.{One, Two}
 
@@ -22,7 +22,7 @@ pub record IsWeighable (rows : List GivenRow) (weights : List ℤ) : Type 0 wher
   pub few : length rows ≤ most_rows_of_system
   pub coefficients : IsTrue (all_small rows)
   pub good : IsTrue (small_multipliers weights)
-  pub left : (t : Term) → unsigned_abs (total (weighed rows weights) t) ≤ 2 ^ 80
+  pub left : (t : Term) → unsigned_abs (total (with_multipliers rows weights) t) ≤ 2 ^ 80
 
 -- the rows whose multiplier is not 0
 abbrev pub named_multipliers : List RowName → List ℤ → List (ℤ × RowName)
@@ -43,7 +43,7 @@ leasts left (t ∷ ts) =
 abbrev pub certificate_sum : List RowName → List GivenRow → List ℤ → List ℤ → List Term
     → List (ℤ × RowName)
 certificate_sum names rows multipliers weights terms =
-    named_multipliers names multipliers ++ leasts (total (weighed rows weights)) terms
+    named_multipliers names multipliers ++ leasts (total (with_multipliers rows weights)) terms
 
 -- the names, where the row at the place has another one, if one is given
 abbrev pub renamed_at : List RowName → Option (ℕ × Bor RowName) → List RowName

@@ -26,8 +26,8 @@ rows_added_by_goal which facts fresh goal =
     ++ flat_map (rows_of_term facts) fresh
 
 -- the rows that occur in the system of the facts and the goal, and not in that of the facts
-abbrev pub further : Kind → List Lit → Lit → List NamedRow
-further which facts goal =
+abbrev pub rows_brought_by_goal : Kind → List Lit → Lit → List NamedRow
+rows_brought_by_goal which facts goal =
     rows_added_by_goal which facts
     (terms_added which (distinct_terms which facts None) (goal ∷ [])) goal
 
@@ -49,7 +49,7 @@ rows_added_by_facts which facts more fresh =
     rows_named Fact (of_kind which more) ++ flat_map (rows_of_term facts) fresh
 
 -- the rows that the facts from a place on bring to the system of those before them
-abbrev pub joining : Kind → List Lit → ℕ → List NamedRow
-joining which facts from =
+abbrev pub rows_brought_by_facts : Kind → List Lit → ℕ → List NamedRow
+rows_brought_by_facts which facts from =
     rows_added_by_facts which facts (drop from facts)
     (terms_added which (distinct_terms which (take from facts) None) (drop from facts))

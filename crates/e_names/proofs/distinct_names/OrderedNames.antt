@@ -17,7 +17,7 @@ use Rattle.e_literal.specs.declared.literal.Atom.TheVariants as atoms
 use Rattle.e_literal.specs.declared.literal.Lit.{Lit}
 use Rattle.e_literal.specs.Literal.{obj, is_in_scope, objects_of_term, objects_of_sum, objects_of_atom, all_in_scope}
 use Rattle.e_deriv.specs.declared.names.Names.{Names}
-use Rattle.e_deriv.specs.Naming.{names_of_sort, named, first_names}
+use Rattle.e_deriv.specs.Naming.{names_of_sort, with_new_names, first_names}
 use Rattle.e_line.specs.declared.sum.RawTerm.{RawTerm}
 use Rattle.e_line.specs.declared.sum.RawTerm.TheVariants as rawterms
 use Rattle.e_line.specs.declared.sum.RawMono.{RawMono}
@@ -81,7 +81,7 @@ plus_in_order ns Circle n o h f =
     ordered (plus ns Circle n) o.point_names o.line_names (push_names ns.circles n o.circle_names h) o.points o.lines (distinct_last ns.circles n o.circles f.2)
     o.no_point_line (push_apart ns.points ns.circles n o.no_point_circle f.0) (push_apart ns.lines ns.circles n o.no_line_circle f.1)
 
-pub named_in_order : (ns : Names) (sorts : List Sort) (names : List (List ℕ)) → InOrder ns → AreNames names → fresh ns [] names ≡ Ok tt → InOrder (named ns sorts names)
+pub named_in_order : (ns : Names) (sorts : List Sort) (names : List (List ℕ)) → InOrder ns → AreNames names → fresh ns [] names ≡ Ok tt → InOrder (with_new_names ns sorts names)
 named_in_order ns [] names o h e = o
 named_in_order ns (sort ∷ sorts) [] o h e = o
 named_in_order ns (sort ∷ sorts) (n ∷ names) o h e =

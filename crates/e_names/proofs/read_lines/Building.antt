@@ -17,7 +17,7 @@ use Rattle.e_construct.specs.Construct.{fits_construction, sorts_made}
 use Rattle.e_construct.specs.Superposing as superposing
 pub use Rattle.e_construct.proofs.Moving.{grows}
 use Rattle.e_deriv.specs.declared.names.Names.{Names}
-use Rattle.e_deriv.specs.Naming.{names_of_sort, with_names, named, declared_names}
+use Rattle.e_deriv.specs.Naming.{names_of_sort, with_names, with_new_names, declared_names}
 use Rattle.e_deriv.specs.Fitting.{all_objects}
 use Rattle.e_line.specs.declared.fault.FaultKind.{FaultKind}
 use Rattle.e_line.specs.declared.lets.RawLet.{RawLet}
@@ -183,7 +183,7 @@ one_named ns Line n = ap (λ k. record { points = length ns.points; lines = k; c
 one_named ns Circle n = ap (λ k. record { points = length ns.points; lines = length ns.lines; circles = k }) (sym (length-append ns.circles (n ∷ [])))
 
 -- with one name for each new object the names grow as the scope does
-pub named_scope : (ns : Names) (sorts : List Sort) (names : List (List ℕ)) → length names ≡ length sorts → with_sorts (scope_of_names ns) sorts ≡ scope_of_names (named ns sorts names)
+pub named_scope : (ns : Names) (sorts : List Sort) (names : List (List ℕ)) → length names ≡ length sorts → with_sorts (scope_of_names ns) sorts ≡ scope_of_names (with_new_names ns sorts names)
 named_scope ns [] names e = refl
 named_scope ns (s ∷ sorts) [] e = absurd (omega (arith, e))
 named_scope ns (s ∷ sorts) (n ∷ names) e =

@@ -8,7 +8,7 @@ use Rattle.std.proofs.lemmas.List.Quantifiers.{position-Some}
 use Rattle.e_literal.specs.declared.object.Sort.{Sort}
 use Rattle.e_literal.specs.declared.object.Obj.{Obj}
 use Rattle.e_theorem.specs.Pattern.{are_entries, is_pattern}
-use Rattle.e_theorem.specs.Statements.{stated}
+use Rattle.e_theorem.specs.Statements.{as_view}
 use Rattle.e_deriv.specs.declared.names.Names.{Names}
 use Rattle.e_line.specs.declared.fault.FaultKind.{FaultKind}
 use Rattle.e_line.specs.declared.applies.RawApply.{RawApply}
@@ -30,7 +30,7 @@ place_is (Some i) k e = ap Some (ok_is i k e)
 pub place_within : (known : List TitledStatement) (title : List ℕ) (k : ℕ) → place_in known title ≡ Some k → k < length (stated_by known)
 place_within known title k e =
     let p = position-Some (bytes_eq title) (titles known) k [] e in
-    omega (arith, p.0, length-map known (λ (h : TitledStatement). h.title), length-map known (λ (h : TitledStatement). h.statement), length-map (statements known) stated)
+    omega (arith, p.0, length-map known (λ (h : TitledStatement). h.title), length-map known (λ (h : TitledStatement). h.statement), length-map (statements known) as_view)
 
 -- and is the title there
 pub found_title : (known : List TitledStatement) (title : List ℕ) (k : ℕ) → place_in known title ≡ Some k → title_at known k ≡ title

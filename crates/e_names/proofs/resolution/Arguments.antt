@@ -7,7 +7,7 @@ use Rattle.e_literal.specs.declared.object.Obj.{Obj}
 use Rattle.e_construct.specs.declared.construction.Shape.{Shape}
 use Rattle.e_construct.specs.Lines.{takes}
 use Rattle.e_deriv.specs.declared.names.Names.{Names}
-use Rattle.e_deriv.specs.Naming.{named}
+use Rattle.e_deriv.specs.Naming.{with_new_names}
 use Rattle.e_line.specs.declared.fault.FaultKind.{FaultKind}
 use Rattle.e_line.specs.declared.fault.FaultKind.TheVariants.{WrongSort}
 use Rattle.e_line.specs.Reading.{◌>>=◌}
@@ -38,7 +38,7 @@ argument_refused ns shapes found all name names o total is u t so_far =
     sym so_far ∙ ap (arguments_in ns shapes found) is ∙ one_more ns shapes found name names o u ∙ ap (after ns shapes found names o) t
 
 -- no name is left, or no sort
-pub none_named : (ns : Names) (sorts : List Sort) (names : List (List ℕ)) → (sorts ≡ []) ⊎ (names ≡ []) → named ns sorts names ≡ ns
+pub none_named : (ns : Names) (sorts : List Sort) (names : List (List ℕ)) → (sorts ≡ []) ⊎ (names ≡ []) → with_new_names ns sorts names ≡ ns
 none_named ns [] names e = refl
 none_named ns (s ∷ sorts) [] e = refl
 none_named ns (s ∷ sorts) (n ∷ names) (inl e) = absurd cc

@@ -3,7 +3,7 @@ use Rattle.std.proofs.Common.{◌≡◌, ℕ, zero, suc, ◌<◌, false, cond, L
 use Rattle.std.specs.List.{list_any}
 use Rattle.std.specs.Str.{bytes_eq}
 use Rattle.e_theorem.specs.declared.statement.Statement.{Statement}
-use Rattle.e_theorem.specs.Statements.{stated, all_stated}
+use Rattle.e_theorem.specs.Statements.{as_view, as_views}
 use Rattle.e_deriv.specs.PlacedSteps.{theorem_at}
 use Rattle.e_names.specs.TitledStatements.{TitledStatement, titled_statement, side_by_side, titles, statements, theorem_of}
 
@@ -25,12 +25,12 @@ length_side_by_side (t ∷ ts) [] e = absurd (omega (arith, e))
 length_side_by_side (t ∷ ts) (s ∷ ss) e = ap suc (length_side_by_side ts ss (omega (arith, e)))
 
 -- what the statement at a place says
-pub statement_at : (ts : List (List ℕ)) (ss : List Statement) (k : ℕ) (s : Statement) → length ts ≡ length ss → k < length ss → s ≡ get_or ss k s → stated s ≡ theorem_of (side_by_side ts ss) k
-statement_at ts ss k s e lt h = said ss k lt h ∙ ap (λ (l : List Statement). theorem_at (all_stated l) k) (sym (statements_of ts ss e))
+pub statement_at : (ts : List (List ℕ)) (ss : List Statement) (k : ℕ) (s : Statement) → length ts ≡ length ss → k < length ss → s ≡ get_or ss k s → as_view s ≡ theorem_of (side_by_side ts ss) k
+statement_at ts ss k s e lt h = said ss k lt h ∙ ap (λ (l : List Statement). theorem_at (as_views l) k) (sym (statements_of ts ss e))
   where
-    said : (ss : List Statement) (k : ℕ) → k < length ss → s ≡ get_or ss k s → stated s ≡ theorem_at (all_stated ss) k
+    said : (ss : List Statement) (k : ℕ) → k < length ss → s ≡ get_or ss k s → as_view s ≡ theorem_at (as_views ss) k
     said [] k lt h = absurd (omega (arith, lt))
-    said (x ∷ ss) zero lt h = ap stated h
+    said (x ∷ ss) zero lt h = ap as_view h
     said (x ∷ ss) (suc k) lt h = said ss k (omega (arith, lt)) h
 
 -- one more of each

@@ -30,7 +30,7 @@ use Rattle.e_construct.specs.Superposing as superposing
 use Rattle.e_deriv.specs.Script.{Script, Cite, Hence, Make, Apply, Claim, Superposed, Qed, Contradiction, Cases, bare_script}
 use Rattle.e_deriv.specs.Goal.{Goal, goal_of, are_for}
 use Rattle.e_deriv.specs.PlacedSteps.{PlacedStep, placed_step, placed_steps, theorem_at}
-use Rattle.e_deriv.specs.Parts.{has_no_blank, written}
+use Rattle.e_deriv.specs.Parts.{has_no_blank, args_written}
 use Rattle.e_deriv.specs.Steps.{are_over, is_applied, needs}
 use Rattle.e_deriv.specs.Certified.{is_certified}
 use Rattle.e_deriv.specs.Written.{is_written_well}
@@ -84,9 +84,9 @@ numbered_certified before (Make construction names certs rest) s facts goal h =
 numbered_certified before (Apply theorem args names certs rest) s facts goal h =
     let t : StatementView = theorem_at before theorem in
     let first : Bool = is_certified before (placed_step (Apply theorem args names certs rest) (Apply theorem args names certs rest) s facts goal) in
-    let next : List PlacedStep = placed_steps before rest rest (with_sorts s t.made) (with_facts facts (gives_of_use t (written args) s)) goal in
-    both_true _ _ (with_certs (is_applied before theorem s args (written args)) _ _ (has_no_blank args) (certs_certified s facts (needs before (placed_step (Apply theorem args names certs rest) (Apply theorem args names certs rest) s facts goal)) certs) (and_left first (are_certified before next) h))
-    (numbered_certified before rest (with_sorts s t.made) (with_facts facts (gives_of_use t (written args) s)) goal (and_right first (are_certified before next) h))
+    let next : List PlacedStep = placed_steps before rest rest (with_sorts s t.made) (with_facts facts (gives_of_use t (args_written args) s)) goal in
+    both_true _ _ (with_certs (is_applied before theorem s args (args_written args)) _ _ (has_no_blank args) (certs_certified s facts (needs before (placed_step (Apply theorem args names certs rest) (Apply theorem args names certs rest) s facts goal)) certs) (and_left first (are_certified before next) h))
+    (numbered_certified before rest (with_sorts s t.made) (with_facts facts (gives_of_use t (args_written args) s)) goal (and_right first (are_certified before next) h))
 numbered_certified before (Claim shown inner rest) s facts goal h =
     let first : Bool = is_certified before (placed_step (Claim shown inner rest) (Claim shown inner rest) s facts goal) in
     let within : List PlacedStep = placed_steps before inner inner s facts (goal_of shown) in
@@ -131,7 +131,7 @@ numbered_erased before (Cite by rest) s facts goal = ap (Cite by) (numbered_eras
 numbered_erased before (Hence lit cert rest) s facts goal = ap (Hence lit None) (numbered_erased before rest s (with_fact facts lit) goal)
 numbered_erased before (Make construction names certs rest) s facts goal = ap (Make construction names []) (numbered_erased before rest (with_sorts s (sorts_made construction)) (with_facts facts (gives_of_construction construction s)) goal)
 numbered_erased before (Apply theorem args names certs rest) s facts goal =
-    ap (Apply theorem args names []) (numbered_erased before rest (with_sorts s (theorem_at before theorem).made) (with_facts facts (gives_of_use (theorem_at before theorem) (written args) s)) goal)
+    ap (Apply theorem args names []) (numbered_erased before rest (with_sorts s (theorem_at before theorem).made) (with_facts facts (gives_of_use (theorem_at before theorem) (args_written args) s)) goal)
 numbered_erased before (Claim shown inner rest) s facts goal =
     ap₂ {A = Script} {B = Script} (Claim shown) (numbered_erased before inner s facts (goal_of shown)) (numbered_erased before rest s (with_facts facts shown) goal)
 numbered_erased before (Superposed superposition names shown certs inner rest) s facts goal =
@@ -256,7 +256,7 @@ numbered_of_second before (Make construction names certs rest) s facts goal w h 
 numbered_of_second before (Apply theorem args names certs rest) s facts goal w h =
     let k = apply_written theorem args names certs rest w in
     both_true _ _ (certs_of_second facts (few_of facts _ h) (needs before (placed_step (Apply theorem args names certs rest) (Apply theorem args names certs rest) s facts goal)) certs k.0)
-    (numbered_of_second before rest (with_sorts s (theorem_at before theorem).made) (with_facts facts (gives_of_use (theorem_at before theorem) (written args) s)) goal k.1 (and_right _ _ h))
+    (numbered_of_second before rest (with_sorts s (theorem_at before theorem).made) (with_facts facts (gives_of_use (theorem_at before theorem) (args_written args) s)) goal k.1 (and_right _ _ h))
 numbered_of_second before (Claim shown inner rest) s facts goal w h =
     let within : List PlacedStep = placed_steps before inner inner s facts (goal_of shown) in
     let next : List PlacedStep = placed_steps before rest rest s (with_facts facts shown) goal in

@@ -26,7 +26,7 @@ use Rattle.e_deriv.specs.declared.block.Close.TheVariants.{Qed as QedClose, Cont
 use Rattle.e_deriv.specs.Script.{Script, Cite, Hence, Make, Apply, Claim, Superposed, Qed, Contradiction, Cases, script_of, step_script, steps_script, close_script}
 use Rattle.e_deriv.specs.Goal.{Goal, goal_of, goal_of_statement, goal_with, are_for}
 use Rattle.e_deriv.specs.PlacedSteps.{PlacedStep, theorem_at}
-use Rattle.e_deriv.specs.Parts.{has_no_blank, written}
+use Rattle.e_deriv.specs.Parts.{has_no_blank, args_written}
 use Rattle.e_deriv.specs.Steps.{are_over, is_applied}
 use Rattle.e_deriv.specs.Certified.{Certified, derivation_steps, is_certified}
 use Rattle.e_deriv.specs.Fitting.{is_small}
@@ -60,7 +60,7 @@ make_places before construction names certs x rest goal = refl
 
 apply_places : (before : List StatementView) (theorem : ℕ) (args : List (Option Obj)) (names : List (List ℕ)) (certs : List Cert) (x : StepState) (rest : Script) (goal : Goal)
     → places_at before (Apply theorem args names certs rest) x goal
-    ≡ Apply theorem args names (certs_with_places x.facts (needs_of_use (theorem_at before theorem) (written args) x.scope) certs) (places_at before rest (after_apply (theorem_at before theorem) (written args) x) goal)
+    ≡ Apply theorem args names (certs_with_places x.facts (needs_of_use (theorem_at before theorem) (args_written args) x.scope) certs) (places_at before rest (after_apply (theorem_at before theorem) (args_written args) x) goal)
 unfolding with_places
 apply_places before theorem args names certs x rest goal = refl
 
@@ -140,14 +140,14 @@ pub apply_fits : (before : List StatementView) (theorem : ℕ) (args : List (Opt
 apply_fits before theorem args names certs x r =
     let t = theorem_at before theorem in
     let low = nat_lt theorem (length before) in
-    let choice = fills args (written args) && are_arguments t x.scope (written args) in
-    let all = certify_all x.scope x.facts (needs_of_use t (written args) x.scope) certs in
+    let choice = fills args (args_written args) && are_arguments t x.scope (args_written args) in
+    let all = certify_all x.scope x.facts (needs_of_use t (args_written args) x.scope) certs in
     let h = (first_ready before (Apply theorem args names certs r.rest) x r.goal r.ready).0 in
     let fit = and_left (low && choice) (all && has_no_blank args) h in
     record {
       place = ltb-true theorem (length before) (and_left low choice fit);
       blank = and_right all (has_no_blank args) (and_right (low && choice) (all && has_no_blank args) h);
-      fit = and_right (fills args (written args)) (are_arguments t x.scope (written args)) (and_right low choice fit);
+      fit = and_right (fills args (args_written args)) (are_arguments t x.scope (args_written args)) (and_right low choice fit);
     }
 
 -- the blocks inside
@@ -201,17 +201,17 @@ make_numbered before construction names certs x after s is end =
     })
 
 pub apply_numbered : (before : List StatementView) (theorem : ℕ) (args : List (Option Obj)) (names : List (List ℕ)) (certs : List Cert) (x after : StepState) (s : Step)
-    → s ≡ ApplyStep theorem args names (certs_with_places x.facts (needs_of_use (theorem_at before theorem) (written args) x.scope) certs) → after ≡ after_apply (theorem_at before theorem) (written args) x
+    → s ≡ ApplyStep theorem args names (certs_with_places x.facts (needs_of_use (theorem_at before theorem) (args_written args) x.scope) certs) → after ≡ after_apply (theorem_at before theorem) (args_written args) x
     → IsNumberedStep before (Apply theorem args names certs) x (step_script s) after
 apply_numbered before theorem args names certs x after s is end =
     let t = theorem_at before theorem in
-    let placed = certs_with_places x.facts (needs_of_use t (written args) x.scope) certs in
+    let placed = certs_with_places x.facts (needs_of_use t (args_written args) x.scope) certs in
     subst (λ (y : StepState). IsNumberedStep before (Apply theorem args names certs) x (step_script s) y) (sym end)
     (record {
-      same = λ rest goal. apply_places before theorem args names certs x rest goal ∙ sym (ap (λ u. step_script u (places_at before rest (after_apply t (written args) x) goal)) is ∙ step_script-Apply theorem args names placed _);
-      few = λ few rest goal h. few_line before (Apply theorem args names certs rest) x goal rest (after_apply t (written args) x) few (apply_lines before theorem args names certs x rest goal) h;
-      ready = λ rest goal h. rest_ready before (Apply theorem args names certs rest) x goal rest (after_apply t (written args) x) (apply_lines before theorem args names certs x rest goal) h;
-      kept = stay_all x.facts (gives_of_use t (written args) x.scope);
+      same = λ rest goal. apply_places before theorem args names certs x rest goal ∙ sym (ap (λ u. step_script u (places_at before rest (after_apply t (args_written args) x) goal)) is ∙ step_script-Apply theorem args names placed _);
+      few = λ few rest goal h. few_line before (Apply theorem args names certs rest) x goal rest (after_apply t (args_written args) x) few (apply_lines before theorem args names certs x rest goal) h;
+      ready = λ rest goal h. rest_ready before (Apply theorem args names certs rest) x goal rest (after_apply t (args_written args) x) (apply_lines before theorem args names certs x rest goal) h;
+      kept = stay_all x.facts (gives_of_use t (args_written args) x.scope);
     })
 
 pub qed_numbered : (before : List StatementView) (objects : List Obj) (certs : List Cert) (x : StepState) (goal : Goal) (c : Close) → c ≡ QedClose objects (certs_with_places x.facts (goal_with goal objects) certs) → close_script c ≡ places_at before (Qed objects certs) x goal

@@ -6,7 +6,7 @@ use Rattle.e_literal.specs.Use.{StatementView, are_arguments}
 use Rattle.e_deriv.specs.Script.{Script}
 use Rattle.e_deriv.specs.Goal.{Goal}
 use Rattle.e_deriv.specs.PlacedSteps.{PlacedStep, theorem_at}
-use Rattle.e_deriv.specs.Parts.{has_no_blank, written}
+use Rattle.e_deriv.specs.Parts.{has_no_blank, args_written}
 use Rattle.e_deriv.specs.Certified.{is_certified}
 use Rattle.e_deriv.specs.Fitting.{is_small}
 use Rattle.e_verify.specs.declared.step_state.StepState.{StepState}
@@ -37,7 +37,7 @@ pub record IsApplied (before : List StatementView) (theorem : ℕ) (args : List 
     (x : StepState) : Type 0 where
   pub place : theorem < length before
   pub blank : IsTrue (has_no_blank args)
-  pub fit : IsTrue (are_arguments (theorem_at before theorem) x.scope (written args))
+  pub fit : IsTrue (are_arguments (theorem_at before theorem) x.scope (args_written args))
 
 -- each fact before the step has a place of 32 bits
 abbrev pub has_few : PlacedStep → Bool

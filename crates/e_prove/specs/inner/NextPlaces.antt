@@ -13,7 +13,7 @@ use Rattle.e_construct.specs.declared.superpose.Superpose.{Superpose}
 use Rattle.e_construct.specs.Superposing as superposing
 use Rattle.e_deriv.specs.declared.names.Names.{Names}
 use Rattle.e_deriv.specs.Goal.{facts_of_statement}
-use Rattle.e_deriv.specs.Naming.{named, declared_names}
+use Rattle.e_deriv.specs.Naming.{with_new_names, declared_names}
 use Rattle.e_licence.specs.Contexts.{State, state_of}
 use Rattle.e_prove.specs.declared.place.Place.{Place}
 
@@ -38,7 +38,7 @@ after_make construction names x =
         scope = with_sorts x.context.scope (sorts_made construction);
         facts = with_facts x.context.facts (gives_of_construction construction x.context.scope);
       };
-      names = named x.names (sorts_made construction) names;
+      names = with_new_names x.names (sorts_made construction) names;
     }
 
 -- after an application of the statement at these arguments, whose new objects have these names
@@ -49,7 +49,7 @@ after_apply t args names x =
         scope = with_sorts x.context.scope t.made;
         facts = with_facts x.context.facts (gives_of_use t args x.context.scope);
       };
-      names = named x.names t.made names;
+      names = with_new_names x.names t.made names;
     }
 
 -- after a superposition, whose copied points have these names: what its block begins with
@@ -61,7 +61,7 @@ after_superposed superposition names x =
         facts = with_facts x.context.facts
             (superposing.gives_of_superposition superposition x.context.scope);
       };
-      names = named x.names superposing.sorts_copied names;
+      names = with_new_names x.names superposing.sorts_copied names;
     }
 
 -- after an inner block that shows these literals

@@ -16,7 +16,7 @@ use Rattle.e_deriv.specs.declared.names.Names.{Names}
 use Rattle.e_deriv.specs.declared.stop.Wanted.TheVariants.{Literal, Match, Contradiction}
 use Rattle.e_deriv.specs.declared.stop.Stop.{Stop}
 use Rattle.e_deriv.specs.declared.stop.Stop.TheVariants as stop
-use Rattle.e_deriv.specs.Parts.{written, has_no_blank}
+use Rattle.e_deriv.specs.Parts.{args_written, has_no_blank}
 use Rattle.e_deriv.specs.PlacedSteps.{PlacedStep}
 use Rattle.e_deriv.specs.Licensed.{Lacks as LineLacks, IsFirstNotAllowed}
 use Rattle.e_deriv.specs.Refused.{LiteralIsShown, IsShown, IsTooWide}
@@ -60,7 +60,7 @@ StepStopsFilling t x pattern NoMemory = Unit {0}
 -- blanks at their filling
 abbrev pub StepStopsApplying : StatementView → Basis → List (Option Obj) → StepStop → Type 0
 StepStopsApplying t x pattern h =
-    MatchBool (has_no_blank pattern) (StepStopsAmong x (needs_of_use t (written pattern) x.scope) h)
+    MatchBool (has_no_blank pattern) (StepStopsAmong x (needs_of_use t (args_written pattern) x.scope) h)
     (StepStopsFilling t x pattern h)
 
 -- the stop, where what is too wide is answered as a match that is

@@ -3,7 +3,7 @@ use Rattle.std.specs.Prelude.{ℕ, List, [], ◌∷◌, Option, Some, None, Resu
 use Rattle.e_literal.specs.declared.literal.Lit.{Lit}
 use Rattle.e_construct.specs.Construct.{needs_of_construction}
 use Rattle.e_construct.specs.Superposing as superposing
-use Rattle.e_theorem.specs.Statements.{stated}
+use Rattle.e_theorem.specs.Statements.{as_view}
 use Rattle.e_deriv.specs.Goal.{Goal, goal_of, goal_of_statement, goal_with}
 use Rattle.e_line.specs.declared.fault.FaultKind.{FaultKind}
 use Rattle.e_book.specs.declared.blocks.OpenBlock.{OpenBlock}
@@ -44,7 +44,7 @@ goal_or (Some shown) goal = goal_of shown
 -- the goal of the block that is open: that of the claim or superposition that it is in, and else
 -- that of the whole proof
 abbrev pub open_goal : TheoremParser → Goal
-open_goal d = goal_or (shown_around d.blocks) (goal_of_statement (stated (statement_of_parser d)))
+open_goal d = goal_or (shown_around d.blocks) (goal_of_statement (as_view (statement_of_parser d)))
 
 -- one certificate for each of these literals
 abbrev pub one_each : List Lit → Obligation

@@ -15,12 +15,12 @@ use Rattle.e_construct.specs.Construct.{sorts_made, gives_of_construction, needs
 use Rattle.e_construct.specs.Superposing as superposing
 use Rattle.e_clause.specs.declared.cert.Cert.{Cert}
 use Rattle.e_clause.specs.declared.cert.Against.{Against as Contradicts}
-use Rattle.e_theorem.specs.Statements.{stated}
+use Rattle.e_theorem.specs.Statements.{as_view}
 use Rattle.e_theorem.specs.Choice.{fills, is_choice}
 use Rattle.e_deriv.specs.declared.names.Names.{Names}
-use Rattle.e_deriv.specs.Naming.{named}
+use Rattle.e_deriv.specs.Naming.{with_new_names}
 use Rattle.e_deriv.specs.Goal.{Goal, goal_with}
-use Rattle.e_deriv.specs.Parts.{written}
+use Rattle.e_deriv.specs.Parts.{args_written}
 use Rattle.e_deriv.specs.PlainStep.{PlainStep, Cited, Inferred, Made, Applied}
 use Rattle.e_line.specs.declared.fault.FaultKind.{FaultKind}
 use Rattle.e_line.specs.declared.fault.What.TheVariants as limits
@@ -177,7 +177,7 @@ built_goes : (known : List TitledStatement) (d e : TheoremParser) (l : RawLet) (
 unfolding after_let
 built_goes known d e l read cs ks ls r c p b s h =
     let ns = d.in_scope in
-    let after : Construction → Names = λ form. named ns (sorts_made form) l.new in
+    let after : Construction → Names = λ form. with_new_names ns (sorts_made form) l.new in
     let build : Construction → Result TheoremParser FaultKind = λ form. with_step (at_names d (after form)) (Made form l.new []) (length (gives_of_construction form (scope_of_names ns))) in
     let form = bind_ok (let_in ns l) (λ form. few_objects (after form) >>= λ few. build form) e h in
     let few = bind_ok (few_objects (after form.0)) (λ few. build form.0) e form.2 in
@@ -199,10 +199,10 @@ takes_let known d e l owes ks ls p b s o h =
     (owing_certs known d e (rawlines.Let l) (needs_of_construction w.0) ks ls (λ cs c. built_goes known d e l w.0 cs ks ls w.1 c p b s h))
 
 used_goes : (known : List TitledStatement) (d e : TheoremParser) (t : StatementView) (theorem : ℕ) (args : List (Option Obj)) (new : List (List ℕ)) (js : List StepCerts) (ls : List (List ℕ)) → d.section ≡ Proving
-    → BlocksSaid known (start_of d) d.blocks (d.steps ++ Applied theorem args new [] ∷ []) js (named d.in_scope t.made new) ls → with_use d t theorem args new ≡ Ok e → Goes known d e js ls
+    → BlocksSaid known (start_of d) d.blocks (d.steps ++ Applied theorem args new [] ∷ []) js (with_new_names d.in_scope t.made new) ls → with_use d t theorem args new ≡ Ok e → Goes known d e js ls
 unfolding with_use
 used_goes known d e t theorem args new js ls p b h =
-    let after = named d.in_scope t.made new in
+    let after = with_new_names d.in_scope t.made new in
     let x : TheoremParser = at_names d after in
     let count : TheoremParser → Result TheoremParser FaultKind = λ y. terms_after y.terms t.shown >>= λ n. within (count_blanks args) most_blanks limits.Blanks >>= λ written. read_ok (with_count y n) in
     let few = bind_ok (few_objects after) (λ few. with_step x (Applied theorem args new []) (length t.shown) >>= count) e h in
@@ -225,12 +225,12 @@ applied_goes known d e raw wanted cs ks ls u c p b h =
     let need = needed_read s t entries wanted (subst (λ (x : ℕ × List (Option Obj)). of_theorem x ≡ Ok wanted) (ok_is owes.0 a.0 (sym owes.1 ∙ a.1)) owes.2) in
     let good = use_fits known ns raw a.0 a.1 in
     let formed : UseFormed known ns a.0.0 entries raw.new cs = record {
-      fits = and_from (ltb a.0.0 (length (stated_by known))) (is_choice t s entries (written entries)) (earlier known ns raw a.0.0 entries good) (and_from (fills entries (written entries)) (are_arguments t s (written entries)) (fills_written entries need.full) need.fit);
+      fits = and_from (ltb a.0.0 (length (stated_by known))) (is_choice t s entries (args_written entries)) (earlier known ns raw a.0.0 entries good) (and_from (fills entries (args_written entries)) (are_arguments t s (args_written entries)) (fills_written entries need.full) need.fit);
       full = need.full;
       count = good.count;
       certs = subst (λ (l : List Lit). certs_formed s l cs ≡ true) (sym need.lits) c;
     } in
-    let after = named ns t.made raw.new in
+    let after = with_new_names ns t.made raw.new in
     let lines = line_of (rawlines.Apply raw) ∷ certs_lines ns cs in
     let said = steps_as known ns (Applied a.0.0 a.0.1 raw.new [] ∷ []) (kept.Certs cs ∷ []) (kept.Certs cs ∷ []) after (line_of (apply_raw_line known ns a.0.0 a.0.1 raw.new) ∷ certs_lines ns cs) lines refl
     (ap (λ (f : RawLine). line_of f ∷ certs_lines ns cs) (apply_spelled known ns raw a.0 a.1)) (applied_said known ns a.0.0 a.0.1 raw.new cs formed) in
@@ -288,7 +288,7 @@ superposed_goes : (known : List TitledStatement) (d e : TheoremParser) (raw : Ra
 unfolding after_superpose
 superposed_goes known d e raw read cs ks ls r c two p b dir s h =
     let ns = d.in_scope in
-    let after = named ns superposing.sorts_copied raw.new in
+    let after = with_new_names ns superposing.sorts_copied raw.new in
     let given : Superpose → List Lit = λ superposition. superposing.gives_of_superposition superposition (scope_of_names ns) in
     let at_end : TheoremParser → ℕ → TheoremParser = λ x n. record x { in_scope = after; terms = n } in
     let rest : Superpose × List Lit → Result TheoremParser FaultKind = λ q. few_objects after >>= λ objects. inside_if_room d (kind.Superpose q.0 raw.new q.1) (length (given q.0)) >>= λ x. check_literal_limits raw.shown >>= λ few. terms_after x.terms (given q.0) >>= λ n. read_ok (at_end x n) in
@@ -375,7 +375,7 @@ takes_qed known d e ns owes ks ls p b o h =
     let s = scope_of_names d.in_scope in
     let x = bind_ok (qed_in d.in_scope sorts ns) (λ objects. read_ok (goal_with goal objects)) w.0 w.1 in
     let owed : w.0 ≡ goal_with goal os.0 = sym (ok_is (goal_with goal x.0) w.0 x.2) ∙ ap (goal_with goal) (ok_is x.0 os.0 (sym x.1 ∙ os.1)) in
-    let fit = subst (λ (l : List Sort). are_of_sorts s l os.0 ≡ true) (sym (goal_sorts (start_of d) d.blocks d.made (sorts_next (scope_of (stated (statement_of_parser d))) d.made))) (qed_fits d.in_scope sorts ns os.0 os.1) in
+    let fit = subst (λ (l : List Sort). are_of_sorts s l os.0 ≡ true) (sym (goal_sorts (start_of d) d.blocks d.made (sorts_next (scope_of (as_view (statement_of_parser d))) d.made))) (qed_fits d.in_scope sorts ns os.0 os.1) in
     let line = qed_spelled d.in_scope sorts ns os.0 os.1 in
     subst (λ (y : Obligation). Takes known d e (rawlines.Qed ns) y ks ls) (ok_is (one_each w.0) owes w.2)
     (owing_certs known d e (rawlines.Qed ns) w.0 ks ls (λ cs c.

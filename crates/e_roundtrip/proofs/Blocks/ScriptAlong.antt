@@ -20,11 +20,11 @@ use Rattle.e_construct.specs.declared.superpose.Superpose.{Superpose}
 use Rattle.e_construct.specs.Construct.{sorts_made, gives_of_construction, needs_of_construction}
 use Rattle.e_construct.specs.Superposing as superposing
 use Rattle.e_deriv.specs.PlainStep.{Cited, Inferred, Made, Applied, Claimed, Copied}
-use Rattle.e_deriv.specs.Naming.{named}
+use Rattle.e_deriv.specs.Naming.{with_new_names}
 use Rattle.e_deriv.specs.Script.{Script, Cite, Hence, Make, Apply, Claim, Superposed, Qed, Contradiction, Cases, size, depth, bare_script}
 use Rattle.e_deriv.specs.Goal.{Goal, goal_of, goal_with}
 use Rattle.e_deriv.specs.PlacedSteps.{placed_step, placed_steps}
-use Rattle.e_deriv.specs.Parts.{written as written_args}
+use Rattle.e_deriv.specs.Parts.{args_written as written_args}
 use Rattle.e_deriv.specs.Steps.{is_citation}
 use Rattle.e_book.specs.declared.blocks.BlockKind.TheVariants as kind
 use Rattle.e_book.specs.declared.steps.CloseLine.TheVariants as closes
@@ -151,7 +151,7 @@ make_next known d i construction names certs rest given goal s =
     let before = stated_by known in
     let sc = scope_of_names i.in_scope in
     let facts = with_facts given (gives_of_construction construction sc) in
-    let scope : with_sorts sc (sorts_made construction) ≡ scope_of_names (named i.in_scope (sorts_made construction) names) = named_scope i.in_scope (sorts_made construction) names s.ready.new_names.1 in
+    let scope : with_sorts sc (sorts_made construction) ≡ scope_of_names (with_new_names i.in_scope (sorts_made construction) names) = named_scope i.in_scope (sorts_made construction) names s.ready.new_names.1 in
     let here = placed_step (Make construction names certs rest) (Make construction names certs rest) sc given goal in
     record {
       ready = make_ready known d i construction names (bare_script rest) given goal s.ready;
@@ -176,7 +176,7 @@ make_along known d i construction names certs rest given goal s t =
       lines = omega (arith, t.lines);
       along = λ e h done.
           then_along known (proving d i) (proving d (constructed i construction names)) e (let_raw_line i.in_scope construction names) (one_each (needs_of_construction construction)) (flat_map (cert_lines i.in_scope) certs) (Some (kept.Certs certs))
-          (script_lines known (named i.in_scope (sorts_made construction) names) rest) (kepts rest) (record {
+          (script_lines known (with_new_names i.in_scope (sorts_made construction) names) rest) (kepts rest) (record {
             good = let_named i.in_scope construction names r.order good (list_names names (and_parts (list_all _ names) (is_plain (bare_script rest)) r.plain).0);
             strict = refl;
             apart = refl;
@@ -198,7 +198,7 @@ apply_next known d i theorem args names certs rest given goal s =
     let sc = scope_of_names i.in_scope in
     let t = theorem_of known theorem in
     let facts = with_facts given (gives_of_use t (written_args args) sc) in
-    let scope : with_sorts sc t.made ≡ scope_of_names (named i.in_scope t.made names) = named_scope i.in_scope t.made names s.ready.new_names.1 in
+    let scope : with_sorts sc t.made ≡ scope_of_names (with_new_names i.in_scope t.made names) = named_scope i.in_scope t.made names s.ready.new_names.1 in
     let here = placed_step (Apply theorem args names certs rest) (Apply theorem args names certs rest) sc given goal in
     record {
       ready = (apply_parts known d i theorem args names (bare_script rest) given goal s.ready).next;
@@ -318,7 +318,7 @@ unfolding bare_script NewNamesFit
 copy_inside known d i superposition names shown certs inner rest given goal s =
     let before = stated_by known in
     let sc = scope_of_names i.in_scope in
-    let scope : with_sorts sc superposing.sorts_copied ≡ scope_of_names (named i.in_scope superposing.sorts_copied names) = named_scope i.in_scope superposing.sorts_copied names s.ready.new_names.1 in
+    let scope : with_sorts sc superposing.sorts_copied ≡ scope_of_names (with_new_names i.in_scope superposing.sorts_copied names) = named_scope i.in_scope superposing.sorts_copied names s.ready.new_names.1 in
     record {
       ready = copy_inner known d i superposition names shown (bare_script inner) (bare_script rest) given goal s.ready;
       goal_is = refl;

@@ -6,9 +6,9 @@ use Rattle.e_literal.specs.Literal.{all_in_scope}
 use Rattle.e_construct.specs.declared.superpose.Superpose.{Superpose}
 use Rattle.e_construct.specs.Superposing as superposing
 use Rattle.e_clause.specs.declared.cert.Cert.{Cert}
-use Rattle.e_theorem.specs.Statements.{stated}
+use Rattle.e_theorem.specs.Statements.{as_view}
 use Rattle.e_deriv.specs.declared.names.Names.{Names}
-use Rattle.e_deriv.specs.Naming.{named, declared_names}
+use Rattle.e_deriv.specs.Naming.{with_new_names, declared_names}
 use Rattle.e_deriv.specs.Script.{Script, Contradiction}
 use Rattle.e_deriv.specs.Goal.{Goal, goal_of, goal_of_statement}
 use Rattle.e_deriv.specs.Steps.{are_over}
@@ -48,7 +48,7 @@ use Rattle.e_roundtrip.proofs.Blocks.SpelledSteps.{StepsSaid, ScriptSaid, no_ste
 abbrev pub Opening : List TitledStatement → Goal → Names → BlockKind → List StepCerts → Names → List (List ℕ) → Type 0
 Opening known goal ns (kind.Claim shown) ks start ls = (ks ≡ []) × (start ≡ ns) × (ls ≡ line_of (claim_raw_line ns shown) ∷ []) × (are_over (scope_of_names ns) shown ≡ true)
 Opening known goal ns (kind.Superpose superposition names shown) ks start ls =
-    (cs : List Cert) × (ks ≡ Certs cs ∷ []) × (start ≡ named ns superposing.sorts_copied names) × (ls ≡ line_of (superpose_raw_line ns superposition names shown) ∷ certs_lines ns cs) × CopyFormed ns superposition names shown cs
+    (cs : List Cert) × (ks ≡ Certs cs ∷ []) × (start ≡ with_new_names ns superposing.sorts_copied names) × (ls ≡ line_of (superpose_raw_line ns superposition names shown) ∷ certs_lines ns cs) × CopyFormed ns superposition names shown cs
 Opening known goal ns (kind.First lit) ks start ls = (ks ≡ []) × (start ≡ ns) × (ls ≡ line_of (cases_raw_line ns lit) ∷ []) × (all_in_scope (scope_of_names ns) lit ≡ true)
 Opening known goal ns (kind.Second lit first) ks start ls =
     (ms : List (List ℕ)) × ScriptSaid known ns goal first ks ms × (start ≡ ns) × (ls ≡ line_of (cases_raw_line ns lit) ∷ (ms ++ line_of else_raw_line ∷ [])) × (all_in_scope (scope_of_names ns) lit ≡ true)
@@ -133,7 +133,7 @@ blocks_open known first os o ks js start ls ms a b =
 -- ---- what is said of a proof at a place
 
 abbrev pub start_of : TheoremParser → Start
-start_of d = let t = stated (statement_of_parser d) in record { names = declared_names t d.names; goal = goal_of_statement t }
+start_of d = let t = as_view (statement_of_parser d) in record { names = declared_names t d.names; goal = goal_of_statement t }
 
 -- at the place of else its line belongs to what is said
 abbrev BodyAt : List TitledStatement → Section → Start → List OpenBlock → List PlainStep → Names → CloseLine → List StepCerts → List (List ℕ) → Type 0

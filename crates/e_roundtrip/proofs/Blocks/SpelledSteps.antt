@@ -12,7 +12,7 @@ use Rattle.e_clause.specs.declared.cert.By.{By}
 use Rattle.e_clause.specs.declared.cert.Cert.{Cert}
 use Rattle.e_clause.specs.declared.cert.Against.{Against as Contradicts}
 use Rattle.e_deriv.specs.declared.names.Names.{Names}
-use Rattle.e_deriv.specs.Naming.{named}
+use Rattle.e_deriv.specs.Naming.{with_new_names}
 use Rattle.e_deriv.specs.Script.{Script, Qed, Contradiction, Cases}
 use Rattle.e_deriv.specs.Goal.{Goal, goal_of, are_for, goal_with}
 use Rattle.e_deriv.specs.Steps.{are_over, is_citation}
@@ -108,12 +108,12 @@ inferred_said known ns lit cs w c =
     }
 
 pub made_said : (known : List TitledStatement) (ns : Names) (construction : Construction) (names : List (List ℕ)) (cs : List Cert) → MadeFormed ns construction names cs
-    → StepsSaid known ns (Made construction names [] ∷ []) (Certs cs ∷ []) (named ns (sorts_made construction) names) (line_of (let_raw_line ns construction names) ∷ certs_lines ns cs)
+    → StepsSaid known ns (Made construction names [] ∷ []) (Certs cs ∷ []) (with_new_names ns (sorts_made construction) names) (line_of (let_raw_line ns construction names) ∷ certs_lines ns cs)
 unfolding script_with_certs script_lines
 made_said known ns construction names cs m = record { spelled = λ rest more. refl; left = λ rest more. refl; formed = λ goal rest more h. made_formed known ns goal construction names cs (script_with_certs rest more).0 m h }
 
 pub applied_said : (known : List TitledStatement) (ns : Names) (theorem : ℕ) (args : List (Option Obj)) (names : List (List ℕ)) (cs : List Cert) → UseFormed known ns theorem args names cs
-    → StepsSaid known ns (Applied theorem args names [] ∷ []) (Certs cs ∷ []) (named ns (theorem_of known theorem).made names) (line_of (apply_raw_line known ns theorem args names) ∷ certs_lines ns cs)
+    → StepsSaid known ns (Applied theorem args names [] ∷ []) (Certs cs ∷ []) (with_new_names ns (theorem_of known theorem).made names) (line_of (apply_raw_line known ns theorem args names) ∷ certs_lines ns cs)
 unfolding script_with_certs script_lines
 applied_said known ns theorem args names cs u = record { spelled = λ rest more. refl; left = λ rest more. refl; formed = λ goal rest more h. applied_formed known ns goal theorem args names cs (script_with_certs rest more).0 u h }
 
@@ -133,11 +133,11 @@ claimed_said known ns shown inner ks ls w s =
           (subst (λ (k : List StepCerts). FormedHere known ns goal (script_with_certs rest k).0) (sym (s.left more)) h);
     }
 
-pub copied_said : (known : List TitledStatement) (ns : Names) (superposition : Superpose) (names : List (List ℕ)) (shown : List Lit) (cs : List Cert) (inner : Script) (ks : List StepCerts) (ls : List (List ℕ)) → CopyFormed ns superposition names shown cs → ScriptSaid known (named ns superposing.sorts_copied names) (goal_of shown) inner ks ls
+pub copied_said : (known : List TitledStatement) (ns : Names) (superposition : Superpose) (names : List (List ℕ)) (shown : List Lit) (cs : List Cert) (inner : Script) (ks : List StepCerts) (ls : List (List ℕ)) → CopyFormed ns superposition names shown cs → ScriptSaid known (with_new_names ns superposing.sorts_copied names) (goal_of shown) inner ks ls
     → StepsSaid known ns (Copied superposition names shown [] inner ∷ []) (Certs cs ∷ ks) ns (line_of (superpose_raw_line ns superposition names shown) ∷ (certs_lines ns cs ++ ls))
 unfolding script_with_certs script_lines
 copied_said known ns superposition names shown cs inner ks ls c s =
-    let start = named ns superposing.sorts_copied names in
+    let start = with_new_names ns superposing.sorts_copied names in
     record {
       spelled = λ rest more.
           ap (λ (l : List (List ℕ)). line_of (superpose_raw_line ns superposition names shown) ∷ (certs_lines ns cs ++ l))

@@ -15,7 +15,7 @@ use Rattle.e_construct.specs.Construct.{needs_of_construction}
 use Rattle.e_construct.specs.Superposing as superposing
 use Rattle.e_deriv.specs.declared.names.Names.{Names}
 use Rattle.e_deriv.specs.Goal.{Goal, goal_with}
-use Rattle.e_deriv.specs.Parts.{written, has_no_blank}
+use Rattle.e_deriv.specs.Parts.{args_written, has_no_blank}
 use Rattle.e_book.specs.declared.parser.TheoremParser.{TheoremParser}
 use Rattle.e_line.specs.Reading.{each, or_malformed}
 use Rattle.e_names.specs.TitledStatements.{TitledStatement, theorem_of}
@@ -56,17 +56,17 @@ pub let_due : (known : List TitledStatement) (d : TheoremParser) (construction :
 unfolding due_of
 let_due known d construction names o g = rw (let_number_again d.in_scope construction names o g) refl
 
-each_written : (args : List (Option Obj)) → has_no_blank args ≡ true → each or_malformed args ≡ Ok (written args)
+each_written : (args : List (Option Obj)) → has_no_blank args ≡ true → each or_malformed args ≡ Ok (args_written args)
 each_written [] h = refl
 each_written (None ∷ args) h = absurd cc
 each_written (Some o ∷ args) h = rw (each_written args h) refl
 
-needed : (s : Scope) (t : StatementView) (args : List (Option Obj)) → has_no_blank args ≡ true → are_arguments t s (written args) ≡ true → needs_in s t args ≡ Ok (needs_of_use t (written args) s)
+needed : (s : Scope) (t : StatementView) (args : List (Option Obj)) → has_no_blank args ≡ true → are_arguments t s (args_written args) ≡ true → needs_in s t args ≡ Ok (needs_of_use t (args_written args) s)
 needed s t args h fit = rw (each_written args h, fit) refl
 
 pub apply_due : (known : List TitledStatement) (d : TheoremParser) (theorem : ℕ) (args : List (Option Obj)) (names : List (List ℕ)) → InOrder d.in_scope → GoodApply known d.in_scope theorem args names → has_no_blank args ≡ true
-    → are_arguments (theorem_of known theorem) (scope_of_names d.in_scope) (written args) ≡ true
-    → due_of known d (apply_raw_line known d.in_scope theorem args names) ≡ Ok (one_each (needs_of_use (theorem_of known theorem) (written args) (scope_of_names d.in_scope)))
+    → are_arguments (theorem_of known theorem) (scope_of_names d.in_scope) (args_written args) ≡ true
+    → due_of known d (apply_raw_line known d.in_scope theorem args names) ≡ Ok (one_each (needs_of_use (theorem_of known theorem) (args_written args) (scope_of_names d.in_scope)))
 unfolding due_of needs_of_line
 apply_due known d theorem args names o g full fit = rw (apply_number_again known d.in_scope theorem args names o g, needed (scope_of_names d.in_scope) (theorem_of known theorem) args full fit) refl
 

@@ -35,7 +35,7 @@ use Rattle.e_construct.specs.Superposing as superposing
 use Rattle.e_deriv.specs.Script.{Script, Cite, Hence, Make, Apply, Claim, Superposed, Qed, Contradiction, Cases}
 use Rattle.e_deriv.specs.Goal.{Goal, goal_of, goal_of_statement, facts_of_statement}
 use Rattle.e_deriv.specs.PlacedSteps.{PlacedStep, placed_step, placed_steps, theorem_at}
-use Rattle.e_deriv.specs.Parts.{written}
+use Rattle.e_deriv.specs.Parts.{args_written}
 use Rattle.e_deriv.specs.Steps.{fits, needs}
 use Rattle.e_deriv.specs.Certified.{Certified, certs_of, is_certified}
 use Rattle.e_deriv.specs.Written.{is_written_well}
@@ -178,7 +178,7 @@ formed_lines before (Make construction names certs rest) s facts goal h w =
 formed_lines before (Apply theorem args names certs rest) s facts goal h w =
     let x = placed_step (Apply theorem args names certs rest) (Apply theorem args names certs rest) s facts goal in
     let t = theorem_at before theorem in
-    let more = with_facts facts (gives_of_use t (written args) s) in
+    let more = with_facts facts (gives_of_use t (args_written args) s) in
     let after = placed_steps before rest rest (with_sorts s t.made) more goal in
     let p = first_of (is_certified before) x after h in
     let g = apply_written theorem args names certs rest w in

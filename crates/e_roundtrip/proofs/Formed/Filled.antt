@@ -10,7 +10,7 @@ use Rattle.e_literal.specs.Use.{StatementView}
 use Rattle.e_construct.specs.Construct.{sorts_made, gives_of_construction}
 use Rattle.e_construct.specs.Superposing as superposing
 use Rattle.e_deriv.specs.declared.names.Names.{Names}
-use Rattle.e_deriv.specs.Naming.{named}
+use Rattle.e_deriv.specs.Naming.{with_new_names}
 use Rattle.e_deriv.specs.Script.{Script, Cite, Hence, Make, Apply, Claim, Superposed, Qed, Contradiction, Cases, size, depth}
 use Rattle.e_deriv.specs.PlacedSteps.{theorem_at}
 use Rattle.e_deriv.specs.Parts.{rest_of, inner_of, args_of, filled_in, filled_by}
@@ -110,13 +110,13 @@ pub filled_new_names : (before : List StatementView) (ns : Names) (s f : Script)
 unfolding NewNamesFit filled_by
 filled_new_names before ns (Cite by rest) f h = filled_new_names before ns rest (rest_of f) h
 filled_new_names before ns (Hence lit cert rest) f h = filled_new_names before ns rest (rest_of f) h
-filled_new_names before ns (Make construction names certs rest) f h = (h.0, h.1, h.2, filled_new_names before (named ns (sorts_made construction) names) rest (rest_of f) h.3)
+filled_new_names before ns (Make construction names certs rest) f h = (h.0, h.1, h.2, filled_new_names before (with_new_names ns (sorts_made construction) names) rest (rest_of f) h.3)
 filled_new_names before ns (Apply theorem args names certs rest) f h =
-    (h.0, h.1, h.2, filled_new_names before (named ns (theorem_at before theorem).made names) rest (rest_of f) h.3)
+    (h.0, h.1, h.2, filled_new_names before (with_new_names ns (theorem_at before theorem).made names) rest (rest_of f) h.3)
 filled_new_names before ns (Claim shown inner rest) f h =
     (filled_new_names before ns inner (inner_of f) h.0, filled_new_names before ns rest (rest_of f) h.1)
 filled_new_names before ns (Superposed superposition names shown certs inner rest) f h =
-    (h.0, h.1, h.2, filled_new_names before (named ns superposing.sorts_copied names) inner (inner_of f) h.3, filled_new_names before ns rest (rest_of f) h.4)
+    (h.0, h.1, h.2, filled_new_names before (with_new_names ns superposing.sorts_copied names) inner (inner_of f) h.3, filled_new_names before ns rest (rest_of f) h.4)
 filled_new_names before ns (Qed objects certs) f h = h
 filled_new_names before ns (Contradiction against) f h = h
 filled_new_names before ns (Cases lit first second) f h =

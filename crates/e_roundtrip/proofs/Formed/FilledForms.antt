@@ -17,7 +17,7 @@ use Rattle.e_theorem.specs.Choice.{fills, is_choice}
 use Rattle.e_theorem.specs.Pattern.{are_entries, is_pattern}
 use Rattle.e_deriv.specs.Script.{Script, Cite, Hence, Make, Apply, Claim, Superposed, Qed, Contradiction, Cases, bare_script}
 use Rattle.e_deriv.specs.Goal.{Goal, goal_of}
-use Rattle.e_deriv.specs.Parts.{rest_of, inner_of, args_of, written, has_no_blank}
+use Rattle.e_deriv.specs.Parts.{rest_of, inner_of, args_of, args_written, has_no_blank}
 use Rattle.e_deriv.specs.PlacedSteps.{placed_step, placed_steps, theorem_at}
 use Rattle.e_deriv.specs.Steps.{is_applied}
 use Rattle.e_deriv.specs.Certified.{is_certified}
@@ -26,24 +26,24 @@ use Rattle.e_roundtrip.proofs.Formed.PlacedScripts.{first_of, both_of, one_certi
 
 -- ---- arguments that are a pattern without blanks
 
-entries_of : (s : Scope) (sorts : List Sort) (pattern : List (Option Obj)) → has_no_blank pattern ≡ true → are_of_sorts s sorts (written pattern) ≡ true → are_entries s sorts pattern ≡ true
+entries_of : (s : Scope) (sorts : List Sort) (pattern : List (Option Obj)) → has_no_blank pattern ≡ true → are_of_sorts s sorts (args_written pattern) ≡ true → are_entries s sorts pattern ≡ true
 entries_of s [] [] n h = refl
 entries_of s [] (None ∷ ps) n h = absurd (true≢false (sym n))
 entries_of s [] (Some o ∷ ps) n h = absurd (true≢false (sym h))
 entries_of s (sort ∷ sorts) [] n h = absurd (true≢false (sym h))
 entries_of s (sort ∷ sorts) (None ∷ ps) n h = absurd (true≢false (sym n))
 entries_of s (sort ∷ sorts) (Some o ∷ ps) n h =
-    let p = and_parts (same_sort sort o.sort) (is_in_scope s o && are_of_sorts s sorts (written ps)) h in
-    let q = and_parts (is_in_scope s o) (are_of_sorts s sorts (written ps)) p.1 in
+    let p = and_parts (same_sort sort o.sort) (is_in_scope s o && are_of_sorts s sorts (args_written ps)) h in
+    let q = and_parts (is_in_scope s o) (are_of_sorts s sorts (args_written ps)) p.1 in
     and_from (same_sort sort o.sort) (is_in_scope s o && are_entries s sorts ps) p.0 (and_from (is_in_scope s o) (are_entries s sorts ps) q.0 (entries_of s sorts ps n q.1))
 
 -- an application that fits with its own arguments fits by its form
-applied_form : (before : List StatementView) (theorem : ℕ) (s : Scope) (pattern : List (Option Obj)) → is_applied before theorem s pattern (written pattern) ≡ true → has_no_blank pattern ≡ true
+applied_form : (before : List StatementView) (theorem : ℕ) (s : Scope) (pattern : List (Option Obj)) → is_applied before theorem s pattern (args_written pattern) ≡ true → has_no_blank pattern ≡ true
     → (ltb theorem (length before) && is_pattern (theorem_at before theorem) s pattern) ≡ true
 applied_form before theorem s pattern h n =
     let t = theorem_at before theorem in
-    let p = and_parts (ltb theorem (length before)) (is_choice t s pattern (written pattern)) h in
-    let q = and_parts (fills pattern (written pattern)) (are_arguments t s (written pattern)) p.1 in
+    let p = and_parts (ltb theorem (length before)) (is_choice t s pattern (args_written pattern)) h in
+    let q = and_parts (fills pattern (args_written pattern)) (are_arguments t s (args_written pattern)) p.1 in
     and_from (ltb theorem (length before)) (is_pattern t s pattern) p.0 (entries_of s t.declared pattern n q.1)
 
 -- ---- each line
@@ -67,7 +67,7 @@ forms_of_certified before (Make construction names certs rest) f s facts others 
 forms_of_certified before (Apply theorem args names certs rest) f s facts others goal h =
     let x = placed_step (Apply theorem args names certs rest) (Apply theorem args names certs rest) s facts goal in
     let t = theorem_at before theorem in
-    let after = with_facts facts (gives_of_use t (written args) s) in
+    let after = with_facts facts (gives_of_use t (args_written args) s) in
     let p = first_of (is_certified before) x (placed_steps before rest rest (with_sorts s t.made) after goal) h in
     let one = one_certified before x p.0 in
     and_from _ _ (applied_form before theorem s args one.fitting one.beside)

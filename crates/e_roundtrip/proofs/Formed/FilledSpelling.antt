@@ -1,7 +1,7 @@
 -- A theorem whose blanks are filled by a certified derivation has a spelling.
 use Rattle.std.proofs.Common.{◌≡◌, ℕ, ◌≤◌, true, List, length, sym, ap, ◌∙◌, subst}
 use Rattle.e_literal.specs.Use.{scope_of}
-use Rattle.e_theorem.specs.Statements.{stated}
+use Rattle.e_theorem.specs.Statements.{as_view}
 use Rattle.e_deriv.specs.Naming.{declared_names}
 use Rattle.e_deriv.specs.Script.{Script, size, depth, bare_script}
 use Rattle.e_deriv.specs.Goal.{goal_of_statement, facts_of_statement}
@@ -22,10 +22,10 @@ use Rattle.e_roundtrip.proofs.Formed.FilledForms.{forms_of_certified}
 without_certificates : (s d : Script) → is_plain s ≡ true → bare_script d ≡ filled_by (bare_script s) d → bare_script d ≡ filled_by s d
 without_certificates s d p e = e ∙ ap (λ (x : Script). filled_by x d) (erased_plain s p)
 
-filled_fits : (known : List TitledStatement) (t : TheoremView) (d : Script) → Fits known t → bare_script d ≡ filled_by t.script d → Certified (stated_by known) (stated t.statement) d → Fits known (record t { script = bare_script d })
+filled_fits : (known : List TitledStatement) (t : TheoremView) (d : Script) → Fits known t → bare_script d ≡ filled_by t.script d → Certified (stated_by known) (as_view t.statement) d → Fits known (record t { script = bare_script d })
 filled_fits known t d h e c =
     let before = stated_by known in
-    let st = stated t.statement in
+    let st = as_view t.statement in
     let s = t.script in
     let n = length t.statement.given in
     let m = count_monomials t.statement.given in

@@ -21,11 +21,11 @@ use Rattle.e_clause.specs.declared.cert.Cert.{Cert}
 use Rattle.e_clause.specs.declared.cert.Against.{Against}
 use Rattle.e_theorem.specs.Choice.{fills}
 use Rattle.e_deriv.specs.declared.names.Names.{Names}
-use Rattle.e_deriv.specs.Naming.{named}
+use Rattle.e_deriv.specs.Naming.{with_new_names}
 use Rattle.e_deriv.specs.Script.{Script, Cite, Hence, Make, Apply, Claim, Superposed, Qed, Contradiction, Cases}
 use Rattle.e_deriv.specs.Goal.{Goal, goal_of, are_for, goal_with}
 use Rattle.e_deriv.specs.PlacedSteps.{PlacedStep, placed_step, placed_steps}
-use Rattle.e_deriv.specs.Parts.{written, has_no_blank}
+use Rattle.e_deriv.specs.Parts.{args_written, has_no_blank}
 use Rattle.e_deriv.specs.Steps.{are_over, is_citation, is_applied, fits, needs}
 use Rattle.e_deriv.specs.Certified.{certs_of}
 use Rattle.e_line.specs.Reading.{◌>>=◌, each, or_malformed}
@@ -82,7 +82,7 @@ pub record MadeFormed (ns : Names) (construction : Construction) (names : List (
   pub count : length names ≡ length (sorts_made construction)
   pub certs : certs_formed (scope_of_names ns) (needs_of_construction construction) cs ≡ true
 
-pub made_formed : (known : List TitledStatement) (ns : Names) (goal : Goal) (construction : Construction) (names : List (List ℕ)) (cs : List Cert) (x : Script) → MadeFormed ns construction names cs → FormedHere known (named ns (sorts_made construction) names) goal x
+pub made_formed : (known : List TitledStatement) (ns : Names) (goal : Goal) (construction : Construction) (names : List (List ℕ)) (cs : List Cert) (x : Script) → MadeFormed ns construction names cs → FormedHere known (with_new_names ns (sorts_made construction) names) goal x
     → FormedHere known ns goal (Make construction names cs x)
 unfolding placed_steps
 made_formed known ns goal construction names cs x m h facts =
@@ -95,19 +95,19 @@ made_formed known ns goal construction names cs x m h facts =
 
 -- a use of an earlier theorem, with its certificates: it fits without blanks, and has one new name for each made object
 pub record UseFormed (known : List TitledStatement) (ns : Names) (theorem : ℕ) (args : List (Option Obj)) (names : List (List ℕ)) (cs : List Cert) : Type 0 where
-  pub fits : is_applied (stated_by known) theorem (scope_of_names ns) args (written args) ≡ true
+  pub fits : is_applied (stated_by known) theorem (scope_of_names ns) args (args_written args) ≡ true
   pub full : has_no_blank args ≡ true
   pub count : length names ≡ length (theorem_of known theorem).made
-  pub certs : certs_formed (scope_of_names ns) (needs_of_use (theorem_of known theorem) (written args) (scope_of_names ns)) cs ≡ true
+  pub certs : certs_formed (scope_of_names ns) (needs_of_use (theorem_of known theorem) (args_written args) (scope_of_names ns)) cs ≡ true
 
 pub applied_formed : (known : List TitledStatement) (ns : Names) (goal : Goal) (theorem : ℕ) (args : List (Option Obj)) (names : List (List ℕ)) (cs : List Cert) (x : Script) → UseFormed known ns theorem args names cs
-    → FormedHere known (named ns (theorem_of known theorem).made names) goal x → FormedHere known ns goal (Apply theorem args names cs x)
+    → FormedHere known (with_new_names ns (theorem_of known theorem).made names) goal x → FormedHere known ns goal (Apply theorem args names cs x)
 unfolding placed_steps
 applied_formed known ns goal theorem args names cs x u h facts =
     let before = stated_by known in
     let s = scope_of_names ns in
     let t = theorem_of known theorem in
-    let more = with_facts facts (gives_of_use t (written args) s) in
+    let more = with_facts facts (gives_of_use t (args_written args) s) in
     let l = placed_step (Apply theorem args names cs x) (Apply theorem args names cs x) s facts goal in
     let after = subst (λ (z : Scope). list_all (is_formed before) (placed_steps before x x z more goal) ≡ true) (sym (named_scope ns t.made names u.count)) (h more) in
     then_lines before l (placed_steps before x x (with_sorts s t.made) more goal) (one_formed before l u.fits u.certs u.full) after
@@ -131,7 +131,7 @@ pub record CopyFormed (ns : Names) (superposition : Superpose) (names : List (Li
   pub certs : certs_formed (scope_of_names ns) (superposing.needs_of_superposition superposition) cs ≡ true
 
 pub copied_formed : (known : List TitledStatement) (ns : Names) (goal : Goal) (superposition : Superpose) (names : List (List ℕ)) (shown : List Lit) (cs : List Cert) (inner x : Script) → CopyFormed ns superposition names shown cs
-    → FormedHere known (named ns superposing.sorts_copied names) (goal_of shown) inner → FormedHere known ns goal x → FormedHere known ns goal (Superposed superposition names shown cs inner x)
+    → FormedHere known (with_new_names ns superposing.sorts_copied names) (goal_of shown) inner → FormedHere known ns goal x → FormedHere known ns goal (Superposed superposition names shown cs inner x)
 unfolding placed_steps
 copied_formed known ns goal superposition names shown cs inner x c i h facts =
     let before = stated_by known in
@@ -174,7 +174,7 @@ cases_formed known ns goal lit first second w h k facts =
 
 -- ---- arguments that are all written
 
-each_is_written : (p : List (Option Obj)) (args : List Obj) → each or_malformed p ≡ Ok args → (has_no_blank p ≡ true) × (written p ≡ args)
+each_is_written : (p : List (Option Obj)) (args : List Obj) → each or_malformed p ≡ Ok args → (has_no_blank p ≡ true) × (args_written p ≡ args)
 each_is_written [] args e = (refl, ok_is [] args e)
 each_is_written (None ∷ p) args e = absurd cc
 each_is_written (Some o ∷ p) args e =
@@ -182,16 +182,16 @@ each_is_written (Some o ∷ p) args e =
     let more = each_is_written p x.0 x.1 in
     (more.0, ap (λ (l : List Obj). o ∷ l) more.1 ∙ ok_is (o ∷ x.0) args x.2)
 
-pub fills_written : (p : List (Option Obj)) → has_no_blank p ≡ true → fills p (written p) ≡ true
+pub fills_written : (p : List (Option Obj)) → has_no_blank p ≡ true → fills p (args_written p) ≡ true
 fills_written [] h = refl
 fills_written (None ∷ p) h = absurd (true≢false (sym h))
-fills_written (Some o ∷ p) h = and_from (same_obj o o) (fills p (written p)) (same_obj_self o) (fills_written p h)
+fills_written (Some o ∷ p) h = and_from (same_obj o o) (fills p (args_written p)) (same_obj_self o) (fills_written p h)
 
 -- what the line of a use owes is read
 pub record Needed (s : Scope) (t : StatementView) (pattern : List (Option Obj)) (ls : List Lit) : Type 0 where
   pub full : has_no_blank pattern ≡ true
-  pub fit : are_arguments t s (written pattern) ≡ true
-  pub lits : needs_of_use t (written pattern) s ≡ ls
+  pub fit : are_arguments t s (args_written pattern) ≡ true
+  pub lits : needs_of_use t (args_written pattern) s ≡ ls
 
 abbrev used_if : Bool → Used → Option Used
 used_if b u = cond b (Some u) None

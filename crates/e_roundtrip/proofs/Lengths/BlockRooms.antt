@@ -3,7 +3,7 @@ use Rattle.std.proofs.Common.{ℕ, List, [], ◌∷◌, ◌++◌, map, arith}
 use Rattle.e_text.specs.Lines.{AreShort}
 use Rattle.e_literal.specs.Use.{scope_of}
 use Rattle.e_clause.specs.declared.cert.Version.{Version}
-use Rattle.e_theorem.specs.Statements.{stated}
+use Rattle.e_theorem.specs.Statements.{as_view}
 use Rattle.e_deriv.specs.Script.{Script, bare_script}
 use Rattle.e_deriv.specs.Goal.{goal_of_statement, facts_of_statement}
 use Rattle.e_names.specs.TitledStatements.{TitledStatement}
@@ -27,7 +27,7 @@ use Rattle.e_roundtrip.proofs.Lengths.ScriptRooms.{AllFew, short_script}
 short_block : (v : Version) (known : List TitledStatement) (t : TheoremView) (d : Script) → AllFew known → CanBeSpelled v known t d → AreShort 262144 (spelled_lines known t d)
 short_block v known t d k c =
     let h = c.plain in
-    let st = stated t.statement in
+    let st = as_view t.statement in
     let o = in_order t.names h.point_names h.line_names h.circle_names h.fits.differ in
     let few = few_objects known (record t { script = bare_script d }) h in
     let script = script_lines known (names_of_proof t) d in

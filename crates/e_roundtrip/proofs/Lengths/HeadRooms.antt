@@ -14,7 +14,7 @@ use Rattle.e_literal.specs.Scopes.{same_sort, nothing, with_one, next_objects}
 use Rattle.e_literal.specs.Use.{scope_of}
 use Rattle.e_literal.proofs.GrownScopes.{total_grown}
 use Rattle.e_theorem.specs.declared.statement.Statement.{Statement}
-use Rattle.e_theorem.specs.Statements.{stated}
+use Rattle.e_theorem.specs.Statements.{as_view}
 use Rattle.e_deriv.specs.declared.names.Names.{Names}
 use Rattle.e_line.specs.declared.raw_line.RawLine.{RawLine}
 use Rattle.e_line.specs.declared.raw_line.RawLine.TheVariants as rawlines
@@ -46,7 +46,7 @@ IsFew t = length t.declared + length t.made ≤ 80
 -- a theorem with a spelling has few objects
 pub few_objects : (known : List TitledStatement) (t : TheoremView) → HasSpelling known t → IsFew t.statement
 few_objects known t h =
-    let s = scope_of (stated t.statement) in
+    let s = scope_of (as_view t.statement) in
     let inner : total s ≡ length t.statement.declared = omega (arith, total_grown nothing t.statement.declared) in
     omega (arith, inner, total_grown s t.statement.made, ap total h.fits.scope, h.fits.points, h.fits.lines, h.fits.circles)
 
@@ -151,7 +151,7 @@ short_head known t h =
     let given = forms_append (map declare_raw_line (sort_groups ns declared)) (map (given_raw_line ns) st.given)
     (all_declare (length declared) (sort_groups ns declared) (omega (arith, few, length_next nothing st.declared)) (groups_of ns declared o)) (all_given ns st.given o h.fits.good_given) in
     let shown = forms_append (map made_raw_line (sort_groups ns made)) (map (show_raw_line ns) st.shown)
-    (all_made (length made) (sort_groups ns made) (omega (arith, few, length_next (scope_of (stated st)) st.made)) (groups_of ns made o)) (all_shown ns st.shown o h.fits.good_shown) in
+    (all_made (length made) (sort_groups ns made) (omega (arith, few, length_next (scope_of (as_view st)) st.made)) (groups_of ns made o)) (all_shown ns st.shown o h.fits.good_shown) in
     let last : AreShortForms proof = (room_line 6 _ (omega arith) (room_word 5 0 (codes "proof") [] refl room_none), tt) in (
       room_line 33 _ (omega arith) (room_word 7 25 (codes "theorem") _ refl (room_word 24 0 t.title [] (short_title t.title h.title) room_none)),
       forms_append (given_raw_lines ns st) (shown_raw_lines ns st ++ proof) given (forms_append (shown_raw_lines ns st) proof shown last),

@@ -28,8 +28,8 @@ use Rattle.e_deriv.specs.PlainStep.{Cited, Claimed, Copied}
 use Rattle.e_deriv.specs.Script.{Script, Cite, Hence, Make, Apply, Claim, Superposed, Qed, Contradiction, Cases, size, bare_script}
 use Rattle.e_deriv.specs.Goal.{Goal, goal_of, goal_with}
 use Rattle.e_deriv.specs.PlacedSteps.{placed_step, placed_steps}
-use Rattle.e_deriv.specs.Naming.{named}
-use Rattle.e_deriv.specs.Parts.{written as written_args}
+use Rattle.e_deriv.specs.Naming.{with_new_names}
+use Rattle.e_deriv.specs.Parts.{args_written as written_args}
 use Rattle.e_roundtrip.specs.Formed.{is_formed}
 use Rattle.e_book.specs.declared.blocks.BlockKind.TheVariants as kind
 use Rattle.e_book.specs.declared.parser.TheoremParser.{TheoremParser}
@@ -131,7 +131,7 @@ make_short known d i construction names certs rest given goal s more =
     let most = leb-true _ _ (and_parts (leb n most_facts) (few_facts before n (with_sorts sc (sorts_made construction)) (bare_script rest)) r.facts).0 in
     let words = list_names names (and_parts (list_all _ names) (is_plain (bare_script rest)) r.plain).0 in
     let own = short_certs ns (needs_of_construction construction) certs r.order (good_certs ns (needs_of_construction construction) certs one.certs) in
-    (short_let ns construction names r.order words (omega (arith, most, avoided_give construction sc)), short_append (certs_lines ns certs) (script_lines known (named ns (sorts_made construction) names) rest) own more)
+    (short_let ns construction names r.order words (omega (arith, most, avoided_give construction sc)), short_append (certs_lines ns certs) (script_lines known (with_new_names ns (sorts_made construction) names) rest) own more)
 
 -- the use of an earlier theorem
 apply_short : (known : List TitledStatement) (d : TheoremParser) (i : Inside) (theorem : ℕ) (args : List (Option Obj)) (names : List (List ℕ)) (certs : List Cert) (rest : Script) (given : List Lit) (goal : Goal) → AllFew known
@@ -154,7 +154,7 @@ apply_short known d i theorem args names certs rest given goal k s more =
     let wanted = needs_of_use t (written_args args) sc in
     let own = short_certs ns wanted certs r.order (good_certs ns wanted certs one.certs) in (
       short_apply known ns theorem args names r.order title p.named (omega (arith, as_many args (written_args args) fit.0, count, few.declared)) (omega (arith, r.new_names.1, few.made)),
-      short_append (certs_lines ns certs) (script_lines known (named ns t.made names) rest) own more,
+      short_append (certs_lines ns certs) (script_lines known (with_new_names ns t.made names) rest) own more,
     )
 
 -- a claim
@@ -176,7 +176,7 @@ copy_short known d i superposition names shown certs inner rest given goal s ins
     let wanted = superposing.needs_of_superposition superposition in
     let c = (copy_formed known d i superposition names shown certs inner rest given goal s).2 in
     let own = short_certs ns wanted certs s.ready.order (good_certs ns wanted certs c) in
-    let first = script_lines known (named ns superposing.sorts_copied names) inner in
+    let first = script_lines known (with_new_names ns superposing.sorts_copied names) inner in
     let last = script_lines known ns rest in (
       short_superpose ns superposition names shown s.ready.order p.good.named p.good.plain.good (omega (arith, p.facts)) (omega (arith, p.terms)),
       short_append (certs_lines ns certs) (first ++ last) own (short_append first last inside more),

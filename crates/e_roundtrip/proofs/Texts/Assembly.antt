@@ -3,7 +3,7 @@ use Rattle.std.proofs.Common.{◌≡◌, ℕ, ◌+◌, Bool, true, false, cond, 
 use Rattle.std.specs.List.{list_all}
 use Rattle.std.proofs.lemmas.Bool.{and_from}
 use Rattle.e_text.specs.Lines.{numbered_lines}
-use Rattle.e_theorem.specs.Statements.{stated}
+use Rattle.e_theorem.specs.Statements.{as_view}
 use Rattle.e_deriv.specs.Script.{Script}
 use Rattle.e_deriv.specs.PlacedSteps.{PlacedStep, first_failure}
 use Rattle.e_deriv.specs.Certified.{is_certified, derivation_steps, verdict}
@@ -70,12 +70,12 @@ module _ (v : Version) where
     closes : Closes v last now rest j
 
   after_verdict : (last : ℕ) (known : List TitledStatement) (p : TheoremView × Script) (lines after : Rest) (j : Judgement) → ReadsNext v last known lines (entry_with p) after → JudgedFrom last (with_theorem known p.0) after j
-      → (a : Result ℕ ℕ) → verdict (stated_by known) (stated p.0.statement) p.1 ≡ a → JudgedFrom last known lines (judged_after p.0.title a j)
+      → (a : Result ℕ ℕ) → verdict (stated_by known) (as_view p.0.statement) p.1 ≡ a → JudgedFrom last known lines (judged_after p.0.title a j)
   after_verdict last known p lines after j reads more (Ok n) e = record {
     theorems = entry_with p ∷ more.theorems;
     now = more.now;
     rest = more.rest;
-    passes = (after, reads, all_pass (is_certified (stated_by known)) (derivation_steps (stated_by known) (stated p.0.statement) p.1) 1 n e, more.passes);
+    passes = (after, reads, all_pass (is_certified (stated_by known)) (derivation_steps (stated_by known) (as_view p.0.statement) p.1) 1 n e, more.passes);
     closes = more.closes;
   }
   after_verdict last known p lines after j reads more (Err step) e = record {
@@ -106,7 +106,7 @@ module _ (v : Version) where
       let reads = spelled_is_read v known last p.0 p.1 (numbered_lines k (own ++ later)) (numbered_lines front.0 later) h.0 front.1 in
       let more = judged_from last next front.0 n ps h.1 (omega (arith, e, length-append known (titled_statement p.0.title p.0.statement ∷ []))) in
       subst (λ (ls : List (List ℕ)). JudgedFrom last known (numbered_lines k ls) (judgement_of known (p ∷ ps))) (sym (append_assoc own (lines_of_blocks next ps) (last_line_of n ∷ [])))
-      (after_verdict last known p (numbered_lines k (own ++ later)) (numbered_lines front.0 later) (judgement_of next ps) reads more (verdict (stated_by known) (stated p.0.statement) p.1) refl)
+      (after_verdict last known p (numbered_lines k (own ++ later)) (numbered_lines front.0 later) (judgement_of next ps) reads more (verdict (stated_by known) (as_view p.0.statement) p.1) refl)
 
   -- ---- the whole
 
@@ -128,8 +128,8 @@ module _ (v : Version) where
   all_verified known (p ∷ ps) h =
       let next = with_theorem known p.0 in
       let n : length next + length ps ≡ length known + length (p ∷ ps) = omega (arith, length-append known (titled_statement p.0.title p.0.statement ∷ [])) in
-      passes (verdict (stated_by known) (stated p.0.statement) p.1) refl ∙ all_verified next ps h.1 ∙ ap (λ (k : ℕ). Verified k) n
+      passes (verdict (stated_by known) (as_view p.0.statement) p.1) refl ∙ all_verified next ps h.1 ∙ ap (λ (k : ℕ). Verified k) n
     where
-      passes : (a : Result ℕ ℕ) → verdict (stated_by known) (stated p.0.statement) p.1 ≡ a → judged_after p.0.title a (judgement_of (with_theorem known p.0) ps) ≡ judgement_of (with_theorem known p.0) ps
+      passes : (a : Result ℕ ℕ) → verdict (stated_by known) (as_view p.0.statement) p.1 ≡ a → judged_after p.0.title a (judgement_of (with_theorem known p.0) ps) ≡ judgement_of (with_theorem known p.0) ps
       passes (Ok m) e = refl
       passes (Err step) e = absurd (certified_no_failure known (entry_with p) step h.0.certified e)

@@ -1,6 +1,6 @@
 -- A text that is judged garbled spells no proofs.
 use Rattle.std.proofs.Common.{◌≡◌, ℕ, List, [], ◌∷◌, length, Result, Ok, Err, sym, subst}
-use Rattle.e_theorem.specs.Statements.{stated}
+use Rattle.e_theorem.specs.Statements.{as_view}
 use Rattle.e_deriv.specs.Script.{Script}
 use Rattle.e_deriv.specs.Certified.{verdict}
 use Rattle.e_names.specs.TitledStatements.{TitledStatement, stated_by}
@@ -27,7 +27,7 @@ after_verdict title (Err step) j k h e = not_bad title step k e
 never_garbled : (known : List TitledStatement) (ps : List (TheoremView × Script)) (k : ℕ) → judgement_of known ps ≡ Garbled k → ⊥
 never_garbled known [] k e = not_verified (length known) k e
 never_garbled known (p ∷ ps) k e =
-    after_verdict p.0.title (verdict (stated_by known) (stated p.0.statement) p.1) (judgement_of (with_theorem known p.0) ps) k (never_garbled (with_theorem known p.0) ps k) e
+    after_verdict p.0.title (verdict (stated_by known) (as_view p.0.statement) p.1) (judgement_of (with_theorem known p.0) ps) k (never_garbled (with_theorem known p.0) ps k) e
 
 pub garbled_spells_nothing : GarbledSpellsNothing
 garbled_spells_nothing text n k g s =

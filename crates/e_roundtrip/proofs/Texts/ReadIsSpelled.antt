@@ -13,7 +13,7 @@ use Rattle.e_text.specs.declared.line.LineEnd.{LineEnd}
 use Rattle.e_text.specs.declared.line.LineEnd.TheVariants as ends
 use Rattle.e_text.specs.declared.line.LineFault.{LineFault}
 use Rattle.e_literal.specs.declared.object.Scope.{Scope}
-use Rattle.e_theorem.specs.Statements.{stated}
+use Rattle.e_theorem.specs.Statements.{as_view}
 use Rattle.e_deriv.specs.declared.names.Names.{Names}
 use Rattle.e_deriv.specs.Goal.{goal_of_statement, facts_of_statement}
 use Rattle.e_deriv.specs.PlacedSteps.{placed_steps}
@@ -210,14 +210,14 @@ all_said known d o ks done s l =
 
 -- the derivation has the form that its lines owe, where the names of its proof are in scope
 abbrev EntryFormed : List TitledStatement → TheoremView → Type 0
-EntryFormed known t = FormedHere known (names_of_proof t) (goal_of_statement (stated t.statement)) t.script
+EntryFormed known t = FormedHere known (names_of_proof t) (goal_of_statement (as_view t.statement)) t.script
 
 all_formed : (known : List TitledStatement) (d : TheoremParser) (o : Pending) (ks : List StepCerts) (done : List (List ℕ)) → StepSaid known d o ks done → is_done d ≡ true → EntryFormed known (theorem_with_certs d ks)
 all_formed known d o ks done s l =
     let so = subst (λ (x : Pending). SaidSoFar known (Some d) x ks done) (s.last l) s.so_far in
     let i = at_done known d.section d (ks ++ []) (so.before ++ []) l (so.said None tt) in
     let t = theorem_with_certs d ks in
-    subst (λ (x : List StepCerts). FormedHere known (names_of_proof t) (goal_of_statement (stated t.statement)) (script_with_certs (entry_of_parser d).script x).0) (append-nil (ks ++ []) ∙ append-nil ks) (i.body.1.formed [])
+    subst (λ (x : List StepCerts). FormedHere known (names_of_proof t) (goal_of_statement (as_view t.statement)) (script_with_certs (entry_of_parser d).script x).0) (append-nil (ks ++ []) ∙ append-nil ks) (i.body.1.formed [])
 
 -- ---- all lines
 
@@ -311,7 +311,7 @@ formed_by_parser : (v : Version) (known : List TitledStatement) (last : ℕ) (t 
 formed_by_parser v known last t lines rest e =
     let r = whole known last (at_start v) lines rest t [] (start_said known) refl e in
     let plain = text_spelled v known last lines rest t e in
-    let st = stated t.statement in
+    let st = as_view t.statement in
     let before = stated_by known in
     let facts = facts_of_statement st in
     record {

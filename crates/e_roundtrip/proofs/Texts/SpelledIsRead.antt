@@ -11,7 +11,7 @@ use Rattle.e_literal.specs.declared.object.Scope.{Scope}
 use Rattle.e_literal.specs.declared.literal.Lit.{Lit}
 use Rattle.e_literal.specs.Use.{scope_of}
 use Rattle.e_literal.proofs.GrownScopes.{sorts_next}
-use Rattle.e_theorem.specs.Statements.{stated}
+use Rattle.e_theorem.specs.Statements.{as_view}
 use Rattle.e_deriv.specs.Script.{Script, bare_script, Cite, Hence, Make, Apply, Claim, Superposed, Qed, Contradiction, Cases}
 use Rattle.e_deriv.specs.Goal.{Goal, goal_of_statement, facts_of_statement}
 use Rattle.e_deriv.specs.PlacedSteps.{placed_steps}
@@ -73,14 +73,14 @@ use Rattle.e_roundtrip.proofs.Heads.HeadAlong.{parser_is, head_along, statement_
 abbrev plain_entry : TheoremView → Script → TheoremView
 plain_entry t d = record t { script = bare_script d }
 
-pub stood : (v : Version) (known : List TitledStatement) (t : TheoremView) (d : Script) → CanBeSpelled v known t d → InOrder t.names → Stood known (started t) (begins t) d (facts_of_statement (stated t.statement)) (goal_of_statement (stated t.statement))
+pub stood : (v : Version) (known : List TitledStatement) (t : TheoremView) (d : Script) → CanBeSpelled v known t d → InOrder t.names → Stood known (started t) (begins t) d (facts_of_statement (as_view t.statement)) (goal_of_statement (as_view t.statement))
 stood v known t d c o =
     let h = c.plain in
-    let s : Scope = scope_of (stated t.statement) in
+    let s : Scope = scope_of (as_view t.statement) in
     let before = stated_by known in
-    let facts : List Lit = facts_of_statement (stated t.statement) in
-    let goal : Goal = goal_of_statement (stated t.statement) in
-    let scope : s ≡ scope_of_names (names_of_proof t) = sym (declared_scope (stated t.statement) t.names h.fits.scope) in
+    let facts : List Lit = facts_of_statement (as_view t.statement) in
+    let goal : Goal = goal_of_statement (as_view t.statement) in
+    let scope : s ≡ scope_of_names (names_of_proof t) = sym (declared_scope (as_view t.statement) t.names h.fits.scope) in
     let ready : Ready known (started t) (begins t) (bare_script d) facts goal = record {
       order = first_in_order s t.names o;
       goal_sorts = sorts_next s t.statement.made;
@@ -119,7 +119,7 @@ record Middle (known : List TitledStatement) (t : TheoremView) (d : Script) : Ty
 
 middle_along : (v : Version) (known : List TitledStatement) (t : TheoremView) (d : Script) → CanBeSpelled v known t d → InOrder t.names → Middle known t d
 middle_along v known t d c o =
-    let proof = script_spelled known (started t) (begins t) d (facts_of_statement (stated t.statement)) (goal_of_statement (stated t.statement)) (stood v known t d c o) in
+    let proof = script_spelled known (started t) (begins t) d (facts_of_statement (as_view t.statement)) (goal_of_statement (as_view t.statement)) (stood v known t d c o) in
     let p = proving (started t) (begins t) in
     let e = shut_parser t d proof.last in
     let statement = head_along known (with_title t.title) p (stating_forms t) (run_statement known (plain_entry t d) c.plain o) (statement_heads t.names t.statement) in

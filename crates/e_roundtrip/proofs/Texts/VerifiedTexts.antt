@@ -10,7 +10,7 @@ use Rattle.e_text.specs.declared.line.LineEnd.TheVariants as ends
 use Rattle.e_text.proofs.WrittenLines.{text_of_lines-lines_of}
 use Rattle.e_clause.specs.declared.cert.Version.{Version}
 use Rattle.e_clause.specs.declared.cert.Version.TheVariants.{One, Two}
-use Rattle.e_theorem.specs.Statements.{stated}
+use Rattle.e_theorem.specs.Statements.{as_view}
 use Rattle.e_deriv.specs.Script.{Script}
 use Rattle.e_deriv.proofs.Agreement.{proof_of_certified}
 use Rattle.e_names.specs.TitledStatements.{TitledStatement, titled_statement, stated_by}
@@ -73,7 +73,7 @@ module _ (v : Version) where
   all_proved : (last : ℕ) (known : List TitledStatement) (lines : Rest) (ts : List TheoremView) (now : List TitledStatement) (rest : Rest) → Passes v last known lines ts now rest → AllProved known (pairs ts)
   all_proved last known lines [] now rest p = tt
   all_proved last known lines (t ∷ ts) now rest p =
-      (proof_of_certified (stated_by known) (stated t.statement) t.script p.2, all_proved last (with_theorem known t) p.0 ts now rest p.3)
+      (proof_of_certified (stated_by known) (as_view t.statement) t.script p.2, all_proved last (with_theorem known t) p.0 ts now rest p.3)
 
   -- and what is read can be spelled
   all_spelled : (last : ℕ) (known : List TitledStatement) (lines : Rest) (ts : List TheoremView) (now : List TitledStatement) (rest : Rest) → Passes v last known lines ts now rest → AllCanBeSpelled v known (pairs ts)

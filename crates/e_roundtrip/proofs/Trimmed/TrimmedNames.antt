@@ -15,7 +15,7 @@ use Rattle.e_literal.specs.Use.{StatementView}
 use Rattle.e_construct.specs.Construct.{sorts_made, gives_of_construction}
 use Rattle.e_construct.specs.Superposing as superposing
 use Rattle.e_deriv.specs.declared.names.Names.{Names}
-use Rattle.e_deriv.specs.Naming.{with_names, named}
+use Rattle.e_deriv.specs.Naming.{with_names, with_new_names}
 use Rattle.e_deriv.specs.Script.{Script, Cite, Hence, Make, Apply, Claim, Superposed, Qed, Contradiction, Cases, bare_script}
 use Rattle.e_deriv.specs.Goal.{Goal, goal_of}
 use Rattle.e_deriv.specs.PlacedSteps.{theorem_at}
@@ -68,7 +68,7 @@ pub fewer_own : (ns : Names) → Fewer ns ns
 fewer_own ns = record { points = part_own ns.points; lines = part_own ns.lines; circles = part_own ns.circles }
 
 -- the names of a step that is not kept
-wider : (less ns : Names) (sorts : List Sort) (names : List (List ℕ)) → Fewer less ns → Fewer less (named ns sorts names)
+wider : (less ns : Names) (sorts : List Sort) (names : List (List ℕ)) → Fewer less ns → Fewer less (with_new_names ns sorts names)
 wider less ns [] names f = f
 wider less ns (x ∷ sorts) [] f = f
 wider less ns (Point ∷ sorts) (n ∷ names) f = wider less (with_names ns Point (ns.points ++ n ∷ [])) sorts names (record { points = part_wide less.points ns.points n f.points; lines = f.lines; circles = f.circles })
@@ -76,7 +76,7 @@ wider less ns (Line ∷ sorts) (n ∷ names) f = wider less (with_names ns Line 
 wider less ns (Circle ∷ sorts) (n ∷ names) f = wider less (with_names ns Circle (ns.circles ++ n ∷ [])) sorts names (record { points = f.points; lines = f.lines; circles = part_wide less.circles ns.circles n f.circles })
 
 -- and those of one that is
-both_named : (less ns : Names) (sorts : List Sort) (names : List (List ℕ)) → Fewer less ns → Fewer (named less sorts names) (named ns sorts names)
+both_named : (less ns : Names) (sorts : List Sort) (names : List (List ℕ)) → Fewer less ns → Fewer (with_new_names less sorts names) (with_new_names ns sorts names)
 both_named less ns [] names f = f
 both_named less ns (x ∷ sorts) [] f = f
 both_named less ns (Point ∷ sorts) (n ∷ names) f =
@@ -134,8 +134,8 @@ names_left before (Make construction names certs rest) kept s facts goal less ns
     let wide = with_sorts s (sorts_made construction) in
     let both = both_named less ns (sorts_made construction) names f in
     either (λ x. NewNamesFit before less (bare_script x)) (is_kept before (Make construction names certs rest) s facts (wants before rest wide after goal)) _ _
-    (still_fresh less ns [] names f h.0, h.1, still_few (named less (sorts_made construction) names) (named ns (sorts_made construction) names) both h.2, names_left before rest (kept ++ next_objects s (sorts_made construction)) wide after goal (named less (sorts_made construction) names) (named ns (sorts_made construction) names) both h.3)
-    (names_left before rest kept wide after goal less (named ns (sorts_made construction) names) (wider less ns (sorts_made construction) names f) h.3)
+    (still_fresh less ns [] names f h.0, h.1, still_few (with_new_names less (sorts_made construction) names) (with_new_names ns (sorts_made construction) names) both h.2, names_left before rest (kept ++ next_objects s (sorts_made construction)) wide after goal (with_new_names less (sorts_made construction) names) (with_new_names ns (sorts_made construction) names) both h.3)
+    (names_left before rest kept wide after goal less (with_new_names ns (sorts_made construction) names) (wider less ns (sorts_made construction) names f) h.3)
 names_left before (Apply theorem args names certs rest) kept s facts goal less ns f h =
     let here = Apply theorem args names certs rest in
     let new = (theorem_at before theorem).made in
@@ -143,8 +143,8 @@ names_left before (Apply theorem args names certs rest) kept s facts goal less n
     let wide = with_sorts s new in
     let both = both_named less ns new names f in
     either (λ x. NewNamesFit before less (bare_script x)) (is_kept before here s facts (wants before rest wide after goal)) _ _
-    (still_fresh less ns [] names f h.0, h.1, still_few (named less new names) (named ns new names) both h.2, names_left before rest (kept ++ next_objects s new) wide after goal (named less new names) (named ns new names) both h.3)
-    (names_left before rest kept wide after goal less (named ns new names) (wider less ns new names f) h.3)
+    (still_fresh less ns [] names f h.0, h.1, still_few (with_new_names less new names) (with_new_names ns new names) both h.2, names_left before rest (kept ++ next_objects s new) wide after goal (with_new_names less new names) (with_new_names ns new names) both h.3)
+    (names_left before rest kept wide after goal less (with_new_names ns new names) (wider less ns new names f) h.3)
 names_left before (Claim shown inner rest) kept s facts goal less ns f h =
     let r = names_left before rest kept s (with_facts facts shown) goal less ns f h.1 in
     either (λ x. NewNamesFit before less (bare_script x)) (is_kept before (Claim shown inner rest) s facts (wants before rest s (with_facts facts shown) goal)) _ _ (names_left before inner kept s facts (goal_of shown) less ns f h.0, r) r
@@ -155,8 +155,8 @@ names_left before (Superposed superposition names shown certs inner rest) kept s
     either (λ x. NewNamesFit before less (bare_script x)) (is_kept before (Superposed superposition names shown certs inner rest) s facts (wants before rest s (with_facts facts shown) goal)) _ _ (
       still_fresh less ns [] names f h.0,
       h.1,
-      still_few (named less superposing.sorts_copied names) (named ns superposing.sorts_copied names) both h.2,
-      names_left before inner (kept ++ next_objects s superposing.sorts_copied) (with_sorts s superposing.sorts_copied) kind (goal_of shown) (named less superposing.sorts_copied names) (named ns superposing.sorts_copied names) both h.3,
+      still_few (with_new_names less superposing.sorts_copied names) (with_new_names ns superposing.sorts_copied names) both h.2,
+      names_left before inner (kept ++ next_objects s superposing.sorts_copied) (with_sorts s superposing.sorts_copied) kind (goal_of shown) (with_new_names less superposing.sorts_copied names) (with_new_names ns superposing.sorts_copied names) both h.3,
       r,
     )
     r

@@ -18,7 +18,7 @@ use Rattle.e_clause.specs.declared.cert.Version.TheVariants.{One}
 use Rattle.e_construct.specs.Construct.{sorts_made, gives_of_construction}
 use Rattle.e_construct.specs.Superposing as superposing
 use Rattle.e_construct.proofs.Moving.{every}
-use Rattle.e_theorem.specs.Statements.{stated}
+use Rattle.e_theorem.specs.Statements.{as_view}
 use Rattle.e_deriv.specs.Naming.{declared_names}
 use Rattle.e_deriv.specs.Script.{Script, Cite, Hence, Make, Apply, Claim, Superposed, Qed, Contradiction, Cases, bare_script, depth}
 use Rattle.e_deriv.specs.Goal.{Goal, goal_of, goal_of_statement, facts_of_statement}
@@ -142,16 +142,16 @@ are_statements : (ts : List StatementView) → list_all is_small_statement ts �
 are_statements ts h = every is_small_statement is_statement (λ t k. (and_parts (is_statement t) (is_small (all_objects t)) k).0) ts h
 
 -- a theorem that can be spelled states something small
-states : (known : List TitledStatement) (t : TheoremView) → HasSpelling known (record t { script = bare_script t.script }) → is_statement (stated t.statement) ≡ true
-states known t h = (and_parts (is_statement (stated t.statement)) (is_small (all_objects (stated t.statement))) (small_statement known (record t { script = bare_script t.script }) h.fits)).0
+states : (known : List TitledStatement) (t : TheoremView) → HasSpelling known (record t { script = bare_script t.script }) → is_statement (as_view t.statement) ≡ true
+states known t h = (and_parts (is_statement (as_view t.statement)) (is_small (all_objects (as_view t.statement))) (small_statement known (record t { script = bare_script t.script }) h.fits)).0
 
 abbrev left_of : List TitledStatement → TheoremView → Script
-left_of known t = trimmed_script (stated_by known) (stated t.statement) t.script
+left_of known t = trimmed_script (stated_by known) (as_view t.statement) t.script
 
-trimmed_fits : (known : List TitledStatement) (t : TheoremView) → Fits known (record t { script = bare_script t.script }) → has_well_formed_literals t.script ≡ true → Certified (stated_by known) (stated t.statement) (left_of known t) → Fits known (record t { script = bare_script (left_of known t) })
+trimmed_fits : (known : List TitledStatement) (t : TheoremView) → Fits known (record t { script = bare_script t.script }) → has_well_formed_literals t.script ≡ true → Certified (stated_by known) (as_view t.statement) (left_of known t) → Fits known (record t { script = bare_script (left_of known t) })
 trimmed_fits known t h good c =
     let before = stated_by known in
-    let st = stated t.statement in
+    let st = as_view t.statement in
     let d = t.script in
     let left = left_of known t in
     let kept = declared_of st in
@@ -185,7 +185,7 @@ trimmed_fits known t h good c =
 pub trimmed_has_spelling : TrimmedHasSpelling
 trimmed_has_spelling known t small h first c =
     let before = stated_by known in
-    let st = stated t.statement in
+    let st = as_view t.statement in
     let d = t.script in
     let s = scope_of st in
     let facts = facts_of_statement st in
@@ -205,10 +205,10 @@ trimmed_has_spelling known t small h first c =
 
 -- what is left of a theorem that was read and is certified can be verified
 pub trimmed_can_be_verified : (known : List TitledStatement) (last : ℕ) (t : TheoremView) (lines after : List (Result LineView LineFault)) → IsTrue (list_all is_small_statement (stated_by known)) → piece_from known last (at_start One) lines ≡ derives t after
-    → Certified (stated_by known) (stated t.statement) t.script → CanBeVerified One known t (left_of known t)
+    → Certified (stated_by known) (as_view t.statement) t.script → CanBeVerified One known t (left_of known t)
 trimmed_can_be_verified known last t lines after small read c =
     let before = stated_by known in
-    let st = stated t.statement in
+    let st = as_view t.statement in
     let d = t.script in
     let left = left_of known t in
     let own = read_is_formed_so One known last t lines after read in

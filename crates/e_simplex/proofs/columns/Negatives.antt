@@ -12,37 +12,37 @@ use Rattle.e_fraction.specs.Tableau.{unit}
 use Rattle.e_simplex.specs.Entries.{AllSmall}
 use Rattle.e_simplex.specs.Constraints.{form_at, value_of_monomials, FormWithin, IsSmallConstraint, AllSmallConstraints, AllFormsWithin, IsSolution, ConstraintHolds}
 use Rattle.e_simplex.specs.Solved.{IsSolved, IsFit, columns_of, constraints_of, AreBelow, WideFurther}
-use Rattle.e_simplex.specs.inner.Tried.{negated, negative_constraint, AreFoundValues}
+use Rattle.e_simplex.specs.inner.Tried.{neg_form, negative_constraint, AreFoundValues}
 use Rattle.e_literal.proofs.Arith.{sums, neg_mul, size_negative}
 use Rattle.e_simplex.proofs.outcomes.Deciding.{forms_push}
 
-negated_push : (xs : List Monomial) (x : Monomial) → negated (xs ++ x ∷ []) ≡ negated xs ++ record { coefficient = neg_ℤ x.coefficient; column = x.column } ∷ []
+negated_push : (xs : List Monomial) (x : Monomial) → neg_form (xs ++ x ∷ []) ≡ neg_form xs ++ record { coefficient = neg_ℤ x.coefficient; column = x.column } ∷ []
 negated_push [] x = refl
 negated_push (y ∷ ys) x = ap (λ v. record { coefficient = neg_ℤ y.coefficient; column = y.column } ∷ v) (negated_push ys x)
 
 one_monomial : (r x : Monomial) → r.coefficient ≡ neg_ℤ x.coefficient → r.column ≡ x.column → r ≡ record { coefficient = neg_ℤ x.coefficient; column = x.column }
 one_monomial r x e f = ap₂ {A = ℤ} {B = ℕ} (λ a b. let m : Monomial = record { coefficient = a; column = b } in m) e f
 
-pub negated_more : (xs : List Monomial) (i : ℕ) (d r : Monomial) (old new : List Monomial) → i < length xs → old ≡ negated (take i xs) → new ≡ old ++ r ∷ []
-    → r.coefficient ≡ neg_ℤ (get_or xs i d).coefficient → r.column ≡ (get_or xs i d).column → new ≡ negated (take (i + 1) xs)
+pub negated_more : (xs : List Monomial) (i : ℕ) (d r : Monomial) (old new : List Monomial) → i < length xs → old ≡ neg_form (take i xs) → new ≡ old ++ r ∷ []
+    → r.coefficient ≡ neg_ℤ (get_or xs i d).coefficient → r.column ≡ (get_or xs i d).column → new ≡ neg_form (take (i + 1) xs)
 negated_more xs i d r old new l e n a b =
-    n ∙ ap₂ (λ u v. u ++ v ∷ []) e (one_monomial r (get_or xs i d) a b) ∙ sym (negated_push (take i xs) (get_or xs i d)) ∙ ap negated (sym (take_more xs i d l))
+    n ∙ ap₂ (λ u v. u ++ v ∷ []) e (one_monomial r (get_or xs i d) a b) ∙ sym (negated_push (take i xs) (get_or xs i d)) ∙ ap neg_form (sym (take_more xs i d l))
 
-length-negated : (xs : List Monomial) → length (negated xs) ≡ length xs
+length-negated : (xs : List Monomial) → length (neg_form xs) ≡ length xs
 length-negated [] = refl
 length-negated (x ∷ xs) = ap suc (length-negated xs)
 
 get_or-negated : (xs : List Monomial) (k : ℕ) (d : Monomial) → k < length xs
-    → get_or (negated xs) k d ≡ record { coefficient = neg_ℤ (get_or xs k d).coefficient; column = (get_or xs k d).column }
+    → get_or (neg_form xs) k d ≡ record { coefficient = neg_ℤ (get_or xs k d).coefficient; column = (get_or xs k d).column }
 get_or-negated [] k d l = absurd (omega (arith, l))
 get_or-negated (x ∷ xs) zero d l = refl
 get_or-negated (x ∷ xs) (suc k) d l = get_or-negated xs k d (omega (arith, l))
 
-pub negated_value : (xs : List Monomial) (values : List ℤ) → value_of_monomials (negated xs) values ≡ neg_ℤ (value_of_monomials xs values)
+pub negated_value : (xs : List Monomial) (values : List ℤ) → value_of_monomials (neg_form xs) values ≡ neg_ℤ (value_of_monomials xs values)
 negated_value [] values = refl
 negated_value (x ∷ xs) values = omega (arith, sums, neg_mul x.coefficient (get_or values x.column (pos 0)), negated_value xs values)
 
-pub negated_at : (xs : List Monomial) (c : ℕ) → form_at (negated xs) c ≡ neg_ℤ (form_at xs c)
+pub negated_at : (xs : List Monomial) (c : ℕ) → form_at (neg_form xs) c ≡ neg_ℤ (form_at xs c)
 negated_at [] c = refl
 negated_at (x ∷ xs) c = omega (arith, sums, neg_mul x.coefficient (unit x.column c), negated_at xs c)
 
@@ -54,7 +54,7 @@ negative_small l h = record {
   sums = λ c. omega (arith, ap unsigned_abs (negated_at l.form c), size_negative (form_at l.form c), h.sums c);
 }
 
-pub negative_within : (w : ℕ) (l : Constraint) → FormWithin w l.form → FormWithin w (negated l.form)
+pub negative_within : (w : ℕ) (l : Constraint) → FormWithin w l.form → FormWithin w (neg_form l.form)
 negative_within w l h k d m =
     (let n : k < length l.form = omega (arith, m, length-negated l.form) in
     (omega (arith, ap (λ x. x.column) (get_or-negated l.form k d n), (h k d n).0), omega (arith, ap (λ x. x.column) (get_or-negated l.form k d n), (h k d n).1)))
@@ -135,5 +135,5 @@ module _ (w : ℕ) (constraints : List Constraint) (l : Constraint) (s : Table) 
       turned : value_of_monomials l.form values ≡ neg_ℤ (value_of_monomials k.form values)
       turned = ap (λ v. value_of_monomials v.form values) e ∙ negated_value k.form values
 
-pub one_constraint : (l k : Constraint) → l.sense ≡ More → l.form ≡ negated k.form → l ≡ negative_constraint k
+pub one_constraint : (l k : Constraint) → l.sense ≡ More → l.form ≡ neg_form k.form → l ≡ negative_constraint k
 one_constraint l k e f = ap₂ {A = ConstraintSense} {B = List Monomial} (λ a b. let m : Constraint = record { sense = a; form = b } in m) e f

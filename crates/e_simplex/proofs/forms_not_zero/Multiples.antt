@@ -9,7 +9,7 @@ use lib.IntN.{ℤ, pos, ◌+ℤ◌, ◌*ℤ◌, *ℤ-zero}
 use borrow.Author.Differences.{abs_is}
 use Rattle.std.proofs.Common.{[], ◌∷◌, ◌++◌, ◌∙◌, Option, None, Some}
 use Rattle.std.proofs.lemmas.List.{length_push, get_or_push, get_or_append_left}
-use Rattle.e_simplex.specs.inner.Multiple.{IsBad, NoneIsZero, added, AddedTo}
+use Rattle.e_simplex.specs.inner.Multiple.{IsBad, NoneIsZero, entry_with_multiple, AddedTo}
 use Rattle.e_literal.proofs.Arith.{sums}
 use Rattle.e_simplex.proofs.forms_not_zero.Disequal.{some_good, one_bad}
 
@@ -53,7 +53,7 @@ module _ (first second : List ℤ) (k : ℕ) (before : (j : ℕ) → j < k → g
 
 -- the first bad place below k, if there is one
 pub bad_found : (first second : List ℤ) (k t : ℕ) (r : Option ℕ)
-    → MatchOption r ((j : ℕ) → 0 ≤ j → j < k → added first second t j ≢ pos 0) (λ i. (0 ≤ i) × (i < k) × (added first second t i ≡ pos 0) × ((j : ℕ) → 0 ≤ j → j < i → added first second t j ≢ pos 0))
+    → MatchOption r ((j : ℕ) → 0 ≤ j → j < k → entry_with_multiple first second t j ≢ pos 0) (λ i. (0 ≤ i) × (i < k) × (entry_with_multiple first second t i ≡ pos 0) × ((j : ℕ) → 0 ≤ j → j < i → entry_with_multiple first second t j ≢ pos 0))
     → MatchOption r (NoneIsZero first second k t) (IsBad first second k t)
 bad_found first second k t None h = λ j less. h j (omega arith) less
 bad_found first second k t (Some i) h = record { here = h.1; is_none = h.2 }
@@ -65,12 +65,12 @@ bad_more first second k t j h b s z l = elim (cases_eq s t) [
   | inr d ↦ h s z (omega (arith, l, d))
 ]
 
-pub added_more : (n : ℕ) (first second : List ℤ) (t : ℕ) (xs ys : List ℤ) (v : ℤ) → ys ≡ xs ++ v ∷ [] → AddedTo n first second t xs → v ≡ added first second t n
+pub added_more : (n : ℕ) (first second : List ℤ) (t : ℕ) (xs ys : List ℤ) (v : ℤ) → ys ≡ xs ++ v ∷ [] → AddedTo n first second t xs → v ≡ entry_with_multiple first second t n
     → AddedTo (n + 1) first second t ys
 added_more n first second t xs ys v g h e = subst (AddedTo (n + 1) first second t) (sym g) (record {
   shape = omega (arith, length_push xs v, h.shape);
   each = λ j l. elim (cases_eq j n) [
-    | inl q ↦ get_or_push xs v (pos 0) j (omega (arith, h.shape, q)) ∙ e ∙ ap (added first second t) (sym q)
+    | inl q ↦ get_or_push xs v (pos 0) j (omega (arith, h.shape, q)) ∙ e ∙ ap (entry_with_multiple first second t) (sym q)
     | inr d ↦ get_or_append_left xs (v ∷ []) (pos 0) j (omega (arith, l, d, h.shape)) ∙ h.each j (omega (arith, l, d))
   ];
 })

@@ -2,7 +2,7 @@
 use Rattle.std.proofs.Common.{◌≡◌, ◌≢◌, ℕ, ◌<◌, ◌≤◌, List, [], ◌∷◌, refl, ap, arith, sym, ◌∙◌, length, set, subst, ◌⊎◌, inl, inr}
 use lib.IntN.{ℤ, pos, negsuc, ◌+ℤ◌, ◌-ℤ◌, ◌*ℤ◌, neg_ℤ, *ℤ-zero, zero-*ℤ}
 use Rattle.e_fraction.specs.Det.{det}
-use Rattle.e_fraction.specs.Tableau.{Slacked, unit, full, full_rows}
+use Rattle.e_fraction.specs.Tableau.{Slacked, unit, full_row, full_rows}
 use Rattle.e_literal.proofs.Arith.{sums, minus_one, add_mul, sub_mul, mul_add, mul_assoc, mul_swap}
 use Rattle.e_fraction.proofs.Columns.{replaced}
 use Rattle.e_fraction.proofs.Cramer.{Linear, EachRow, InColumns-det, Adds_nothing, rows_add_nothing, cramer}
@@ -43,16 +43,16 @@ abbrev pub In : Slacked → List Slacked → Type 0
 In q [] = ⊥
 In q (p ∷ ps) = (q ≡ p) ⊎ In q ps
 
-full_far : (n : ℕ) (q : Slacked) (e : ℕ) → ((c : ℕ) → n ≤ c → q.row c ≡ pos 0) → n ≤ e → q.slack ≢ e → full q e ≡ pos 0
+full_far : (n : ℕ) (q : Slacked) (e : ℕ) → ((c : ℕ) → n ≤ c → q.row c ≡ pos 0) → n ≤ e → q.slack ≢ e → full_row q e ≡ pos 0
 full_far n q e h l d = omega (arith, sums, h e l, unit-other q.slack e d)
 
-full_own : (n : ℕ) (q : Slacked) → ((c : ℕ) → n ≤ c → q.row c ≡ pos 0) → n ≤ q.slack → full q q.slack ≡ negsuc 0
+full_own : (n : ℕ) (q : Slacked) → ((c : ℕ) → n ≤ c → q.row c ≡ pos 0) → n ≤ q.slack → full_row q q.slack ≡ negsuc 0
 full_own n q h l = omega (arith, sums, h q.slack l, unit-same q.slack)
 
-full_near : (n : ℕ) (q : Slacked) (c : ℕ) → n ≤ q.slack → c < n → full q c ≡ q.row c
+full_near : (n : ℕ) (q : Slacked) (c : ℕ) → n ≤ q.slack → c < n → full_row q c ≡ q.row c
 full_near n q c l m = omega (arith, sums, unit-other q.slack c (omega arith))
 
-weigh_far : (n : ℕ) (q : Slacked) → ((c : ℕ) → n ≤ c → q.row c ≡ pos 0) → (ps : List Slacked) → Within n ps → Lacks q.slack ps → (c : ℕ) → weigh ps (full q) c ≡ pos 0
+weigh_far : (n : ℕ) (q : Slacked) → ((c : ℕ) → n ≤ c → q.row c ≡ pos 0) → (ps : List Slacked) → Within n ps → Lacks q.slack ps → (c : ℕ) → weigh ps (full_row q) c ≡ pos 0
 weigh_far n q h [] w k c = refl
 weigh_far n q h (p ∷ ps) w k c =
     omega (arith, sums, ap (λ v. v *ℤ p.row c) (full_far n q p.slack h w.1 (λ e. k.0 (sym e))), zero-*ℤ (p.row c), weigh_far n q h ps w.2 k.1 c)
@@ -72,11 +72,11 @@ within_slack n q [] w i = absurd i
 within_slack n q (p ∷ ps) w (inl s) = omega (arith, w.1, ap (λ x. x.slack) s)
 within_slack n q (p ∷ ps) w (inr i) = within_slack n q ps w.2 i
 
-weigh_own : (n : ℕ) (q : Slacked) (ps : List Slacked) → Within n ps → Apart ps → In q ps → (c : ℕ) → weigh ps (full q) c ≡ neg_ℤ (q.row c)
+weigh_own : (n : ℕ) (q : Slacked) (ps : List Slacked) → Within n ps → Apart ps → In q ps → (c : ℕ) → weigh ps (full_row q) c ≡ neg_ℤ (q.row c)
 weigh_own n q [] w a i c = absurd i
 weigh_own n q (p ∷ ps) w a (inl s) c =
     let h = within_row n q (p ∷ ps) w (inl s) in
-    let t : full q p.slack ≡ negsuc 0 = ap (λ x. full q x.slack) (sym s) ∙ full_own n q h (within_slack n q (p ∷ ps) w (inl s)) in
+    let t : full_row q p.slack ≡ negsuc 0 = ap (λ x. full_row q x.slack) (sym s) ∙ full_own n q h (within_slack n q (p ∷ ps) w (inl s)) in
     omega (
       arith,
       sums,
@@ -94,7 +94,7 @@ weigh_own n q (p ∷ ps) w a (inr i) c =
       weigh_own n q ps w.2 a.1 i c,
     )
 
-each_in : (N : (ℕ → ℤ) → Type 0) (ps : List Slacked) → ((q : Slacked) → In q ps → N (full q)) → EachRow N (full_rows ps)
+each_in : (N : (ℕ → ℤ) → Type 0) (ps : List Slacked) → ((q : Slacked) → In q ps → N (full_row q)) → EachRow N (full_rows ps)
 each_in N [] h = tt
 each_in N (p ∷ ps) h = (h p (inl refl), each_in N ps (λ q i. h q (inr i)))
 
@@ -133,9 +133,9 @@ replaced-row_scale a r j f (c ∷ cs) =
 abbrev pub value : List (ℕ → ℤ) → ℤ → List ℕ → ℕ → ℤ
 value rows a basis c = replaced (unit c) 0 (λ ds. a *ℤ det rows ds) basis
 
-adds_nothing_in : (ps : List Slacked) (q : Slacked) (all : List (ℕ → ℤ)) → EachRow (Adds_nothing all) (full_rows ps) → In q ps → Adds_nothing all (full q)
+adds_nothing_in : (ps : List Slacked) (q : Slacked) (all : List (ℕ → ℤ)) → EachRow (Adds_nothing all) (full_rows ps) → In q ps → Adds_nothing all (full_row q)
 adds_nothing_in [] q all e i = absurd i
-adds_nothing_in (p ∷ ps) q all e (inl s) = subst (λ x. Adds_nothing all (full x)) (sym s) e.0
+adds_nothing_in (p ∷ ps) q all e (inl s) = subst (λ x. Adds_nothing all (full_row x)) (sym s) e.0
 adds_nothing_in (p ∷ ps) q all e (inr i) = adds_nothing_in ps q all e.1 i
 
 -- the row q, at the values, is its constant plus the value of its slack column
@@ -143,14 +143,14 @@ pub row_value : (n : ℕ) (ps : List Slacked) → Within n ps → 0 < n → (q :
     → replaced q.row 0 (λ ds. a *ℤ det (full_rows ps) ds) basis ≡ q.row 0 *ℤ (a *ℤ det (full_rows ps) basis) +ℤ value (full_rows ps) a basis q.slack
 row_value n ps w z q i a basis =
     let rows = full_rows ps in
-    let e : full q 0 *ℤ det (full_rows ps) basis ≡ replaced (full q) 0 (det (full_rows ps)) basis
-    = cramer (full_rows ps) (full q) (adds_nothing_in ps q (full_rows ps) (rows_add_nothing (full_rows ps)) i) basis 0 in
-    let f : full q 0 ≡ q.row 0 = full_near n q 0 (within_slack n q ps w i) z in
+    let e : full_row q 0 *ℤ det (full_rows ps) basis ≡ replaced (full_row q) 0 (det (full_rows ps)) basis
+    = cramer (full_rows ps) (full_row q) (adds_nothing_in ps q (full_rows ps) (rows_add_nothing (full_rows ps)) i) basis 0 in
+    let f : full_row q 0 ≡ q.row 0 = full_near n q 0 (within_slack n q ps w i) z in
     omega (
       arith,
       sums,
       replaced-row_sub q.row (unit q.slack) 0 (λ ds. a *ℤ det (full_rows ps) ds) basis,
-      replaced-scale (full q) 0 a (det (full_rows ps)) basis,
+      replaced-scale (full_row q) 0 a (det (full_rows ps)) basis,
       ap (λ v. a *ℤ v) e,
       ap (λ v. a *ℤ (v *ℤ det (full_rows ps) basis)) f,
       mul_swap a (q.row 0) (det (full_rows ps) basis),

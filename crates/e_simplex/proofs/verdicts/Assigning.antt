@@ -15,7 +15,7 @@ use Rattle.e_simplex.specs.declared.constraints.Constraint.{Constraint}
 use Rattle.e_simplex.specs.declared.constraints.ConstraintSense.TheVariants.{More as SenseMore}
 use Rattle.e_simplex.specs.Constraints.{value_of_monomials, ConstraintHolds, IsSolution, IsAbsurd}
 use Rattle.e_simplex.specs.Naming.{place_of, IsIn, AreOnce, FormNamed, AllNamed, named_form, named_constraint, named_constraints, constraint_sense, keeps}
-use Rattle.e_simplex.specs.Answer.{assigned, AreValuesOf}
+use Rattle.e_simplex.specs.Answer.{assigned_value, AreValuesOf}
 use Rattle.e_simplex.specs.inner.Paired.{PairedTo}
 use Rattle.e_simplex.specs.inner.Disequalities.{AreUnequal, AreBothRefuted}
 use Rattle.e_simplex.specs.inner.Tried.{negative_constraint}
@@ -41,12 +41,12 @@ main_cons ts r rs = by r.sense
 
 assigned_at : (ts : List Term) (pairs : List (Term × ℕ)) (f : ℕ → ℕ) (t : Term) → length pairs ≡ length ts
     → ((c : ℕ) → c < length ts → (get_or {A = Term × ℕ} pairs c (Right, 0)).0 ≡ get_or ts c Right) → ((c : ℕ) → c < length ts → (get_or {A = Term × ℕ} pairs c (Right, 0)).1 ≡ f c)
-    → IsIn ts t → assigned pairs t ≡ f (place_of ts t)
+    → IsIn ts t → assigned_value pairs t ≡ f (place_of ts t)
 assigned_at [] pairs f t n a b h = absurd (omega (arith, h))
 assigned_at (x ∷ xs) [] f t n a b h = absurd (omega (arith, n))
 assigned_at (x ∷ xs) (p ∷ ps) f t n a b h = elim (cases_Bool (term_eq t x)) [
-  | inl e ↦ ap (λ k. cond k p.1 (assigned ps t)) (ap (term_eq t) (a 0 (omega arith)) ∙ e) ∙ b 0 (omega arith) ∙ sym (ap (λ k. f (cond k 0 (suc (place_of xs t)))) e)
-  | inr m ↦ ap (λ k. cond k p.1 (assigned ps t)) (ap (term_eq t) (a 0 (omega arith)) ∙ m)
+  | inl e ↦ ap (λ k. cond k p.1 (assigned_value ps t)) (ap (term_eq t) (a 0 (omega arith)) ∙ e) ∙ b 0 (omega arith) ∙ sym (ap (λ k. f (cond k 0 (suc (place_of xs t)))) e)
+  | inr m ↦ ap (λ k. cond k p.1 (assigned_value ps t)) (ap (term_eq t) (a 0 (omega arith)) ∙ m)
       ∙ assigned_at xs ps (λ c. f (suc c)) t (omega (arith, n)) (λ c l. a (suc c) (omega (arith, l))) (λ c l. b (suc c) (omega (arith, l)))
       (omega (arith, h, ap (λ k. cond k 0 (suc (place_of xs t))) m))
       ∙ sym (ap (λ k. f (cond k 0 (suc (place_of xs t)))) m)
@@ -146,13 +146,13 @@ values_answered ts rows w values pairs room o a h p =
     record {
       once = subst AreOnce (sym e) o;
       all = subst (λ vs. AllNamed vs rows) (sym e) a;
-      satisfy = satisfied ts values (assigned pairs) same rows a h.solution.holds h.unequal;
+      satisfy = satisfied ts values (assigned_value pairs) same rows a h.solution.holds h.unequal;
     })
   where
     whole : (z : ℤ) → pos 0 ≤ℤ z → pos (unsigned_abs z) ≡ z
     whole z h = omega (arith, sums, h, abs_is z)
 
-    same : (t : Term) → IsIn ts t → pos (assigned pairs t) ≡ get_or values (suc (place_of ts t)) (pos 0)
+    same : (t : Term) → IsIn ts t → pos (assigned_value pairs t) ≡ get_or values (suc (place_of ts t)) (pos 0)
     same t i = ap pos (assigned_at ts pairs (λ c. unsigned_abs (get_or values (suc c) (pos 0))) t p.shape p.term p.number i)
         ∙ whole (get_or values (suc (place_of ts t)) (pos 0)) (h.solution.not_negative (suc (place_of ts t)) (omega (arith, i, room)))
 

@@ -24,11 +24,11 @@ use Rattle.e_simplex.specs.Solved.{IsSolved, columns_of, constraints_of}
 use Rattle.e_simplex.specs.declared.table.Table.{Table}
 use Rattle.e_literal.specs.Minor.{IsWide}
 use Rattle.e_literal.specs.Solution.{HasSolution}
-use Rattle.e_simplex.specs.Answer.{IsVerdict, IsHolds, assigned}
+use Rattle.e_simplex.specs.Answer.{IsVerdict, IsHolds, assigned_value}
 use Rattle.e_simplex.specs.Answer.{IsAbsurd as IsAbsurdVerdict}
 use Rattle.e_simplex.specs.declared.decision.Verdict.{Verdict}
 use Rattle.e_simplex.specs.declared.decision.Verdict.TheVariants.{Absurd, Holds, TooWide}
-use Rattle.e_simplex.specs.inner.Tried.{negated, negative_constraint}
+use Rattle.e_simplex.specs.inner.Tried.{neg_form, negative_constraint}
 use Rattle.e_literal.proofs.Arith.{sums}
 use Rattle.e_literal.proofs.Valued.{coefficient_negative}
 use Rattle.e_fraction.proofs.Minors.{unit-other}
@@ -426,7 +426,7 @@ module _ (ts : List Term) (rows : List GivenRow) (k : ℕ) (above below : List �
         (more_constraints ts (views_of_rows rows) k some_constraint h.here) (within_constraints true ts (views_of_rows rows) a k some_constraint h.here) (λ t s q. coefficient_is ts s t o q) (h.above_absurd some_constraint)));
     below_refutes = subst (Refutes (as_less (views_of_rows rows) p)) (sym (v ∙ ap (λ j. row_multipliers (views_of_rows rows) below 0 j (get_or below n (pos 0))) (omega arith)))
         (subst (λ rs. Refutes rs (row_multipliers (views_of_rows rows) below 0 (suc k) (get_or below n (pos 0)))) (sym (as_less_is rows p k i c))
-        (refutes_form ts (views_of_rows rows) below k some_constraint (negative_constraint (get_or (named_constraints true ts (views_of_rows rows)) k some_constraint)) n negative negated o a h.here (omega (arith, f, below_long)) refl
+        (refutes_form ts (views_of_rows rows) below k some_constraint (negative_constraint (get_or (named_constraints true ts (views_of_rows rows)) k some_constraint)) n negative neg_form o a h.here (omega (arith, f, below_long)) refl
         refl (negative_within (length ts + 1) (get_or (named_constraints true ts (views_of_rows rows)) k some_constraint) (within_constraints true ts (views_of_rows rows) a k some_constraint h.here))
         (λ t s q. coefficient_negative s t ∙ ap neg_ℤ (coefficient_is ts s t o q) ∙ sym (negated_at (named_form ts s) (suc (place_of ts t)))) (h.below_absurd some_constraint)));
   }
@@ -444,7 +444,7 @@ law_holds rows TooWide h n s = n h.0
 
 law_absurd : (rows : List Row) (v : Verdict) → IsVerdict rows v → (IsWide rows → ⊥) → (HasSolution rows → ⊥) → IsAbsurdVerdict v
 law_absurd rows (Absurd x) h n s = tt
-law_absurd rows (Holds x) h n s = s (record { values = assigned x; satisfy = h.satisfy })
+law_absurd rows (Holds x) h n s = s (record { values = assigned_value x; satisfy = h.satisfy })
 law_absurd rows TooWide h n s = n h.0
 
 pub each_law_holds : {E : Type 0} (rows : List Row) (r : Result Verdict E) → IfOk r (IsVerdict rows) → IfOk r (λ v. (IsWide rows → ⊥) → HasSolution rows → IsHolds v)

@@ -12,13 +12,13 @@ use Rattle.e_simplex.specs.declared.unequal.Tried.{Tried}
 use Rattle.e_simplex.specs.declared.unequal.Tried.TheVariants.{Found, BothRefuted, TooWide}
 
 -- the form with each coefficient negated
-abbrev pub negated : List Monomial → List Monomial
-negated [] = []
-negated (x ∷ xs) = record { coefficient = neg_ℤ x.coefficient; column = x.column } ∷ negated xs
+abbrev pub neg_form : List Monomial → List Monomial
+neg_form [] = []
+neg_form (x ∷ xs) = record { coefficient = neg_ℤ x.coefficient; column = x.column } ∷ neg_form xs
 
 -- the constraint that says that the form is less than 0
 abbrev pub negative_constraint : Constraint → Constraint
-negative_constraint l = record { sense = More; form = negated l.form }
+negative_constraint l = record { sense = More; form = neg_form l.form }
 
 -- whole values that satisfy the constraints, at which the form of l is not 0
 pub record AreFoundValues (w : ℕ) (constraints : List Constraint) (l : Constraint)

@@ -24,7 +24,7 @@ use Rattle.e_clause.specs.declared.cert.Against.TheVariants.{Clash, Metric as Me
 use Rattle.e_clause.specs.declared.cert.Cert.{Cert}
 use Rattle.e_clause.specs.declared.cert.Cert.TheVariants.{Plain, Transfer}
 use Rattle.e_deriv.specs.declared.names.Names.{Names}
-use Rattle.e_deriv.specs.Naming.{named}
+use Rattle.e_deriv.specs.Naming.{with_new_names}
 use Rattle.e_deriv.specs.Script.{Script}
 use Rattle.e_deriv.specs.PlainStep.{PlainStep, Cited, Inferred, Made as MadeStep, Applied, Claimed}
 use Rattle.e_deriv.specs.PlainStep.{Copied}
@@ -138,16 +138,16 @@ step_text known ns (Claimed shown inner) =
     raw_line_text (claim_raw_line ns shown) ++ script_text known ns inner
 step_text known ns (Copied superposition names shown certs inner) =
     superposition_text ns superposition names shown
-    ++ (certs_text ns certs ++ script_text known (named ns superposing.sorts_copied names) inner)
+    ++ (certs_text ns certs ++ script_text known (with_new_names ns superposing.sorts_copied names) inner)
 
 -- the names in scope after a step: those of an inner block are gone
 abbrev pub names_after_step : List TitledStatement → Names → PlainStep → Names
 names_after_step known ns (Cited by) = ns
 names_after_step known ns (Inferred lit cert) = ns
 names_after_step known ns (MadeStep construction names certs) =
-    named ns (sorts_made construction) names
+    with_new_names ns (sorts_made construction) names
 names_after_step known ns (Applied theorem args names certs) =
-    named ns (theorem_of known theorem).made names
+    with_new_names ns (theorem_of known theorem).made names
 names_after_step known ns (Claimed shown inner) = ns
 names_after_step known ns (Copied superposition names shown certs inner) = ns
 

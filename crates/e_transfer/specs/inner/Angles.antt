@@ -9,7 +9,7 @@ use Rattle.e_literal.specs.Rename.{term_at}
 use Rattle.e_clause.specs.Instance.{number}
 use Rattle.e_clause.specs.Metric.{MetricConsequence}
 use Rattle.e_clause.specs.Views.{row_of}
-use Rattle.e_transfer.specs.declared.models.Filling.TheVariants.{Ones}
+use Rattle.e_transfer.specs.declared.models.Filling.TheVariants.{Each}
 use Rattle.e_transfer.specs.declared.numbers.Numbers.{Numbers}
 use Rattle.e_transfer.specs.Models.{value_by}
 use Rattle.e_transfer.specs.inner.PartsOfChoices.{chosen_arguments}
@@ -36,7 +36,7 @@ IsKnown n v k = (rest : List ℕ) → later_number n rest v ≡ k
 
 -- an angle with the value 1
 abbrev pub IsOneAngle : List (Term × ℕ) → Term → Type 0
-IsOneAngle values (Ang a b c) = value_by Ones values (Ang a b c) ≡ 1
+IsOneAngle values (Ang a b c) = value_by (Each 1) values (Ang a b c) ≡ 1
 IsOneAngle values _ = ⊥
 
 -- the term is such an angle, whatever numbers come next

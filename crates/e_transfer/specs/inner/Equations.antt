@@ -1,6 +1,7 @@
 -- What a goal says of the variables of a rule: each is named by its place among the rule's
 -- arguments.
-use Rattle.std.specs.Prelude.{ℕ, ◌+◌, List, [], ◌∷◌, Bool, ◌==◌, Option, Some, None}
+use Rattle.std.specs.Prelude.{ℕ, ◌+◌, List, [], ◌∷◌, Bool, false, not, ◌==◌, ◌&&◌, Option}
+use Rattle.std.specs.Prelude.{Some, None}
 use Rattle.std.specs.List.{list_all, list_any}
 use Rattle.e_literal.specs.declared.literal.Atom.{Atom}
 use Rattle.e_literal.specs.declared.literal.Atom.TheVariants.{On, OnC, Inside, Center, Between}
@@ -19,6 +20,14 @@ agrees f (equation.Same v w) = f v == f w
 
 abbrev pub all_agree : (ℕ → ℕ) → List Equation → Bool
 all_agree f bs = list_all (agrees f) bs
+
+-- the two give one variable two numbers
+abbrev pub contrary : Equation → Equation → Bool
+contrary (equation.Is v n) (equation.Is w m) = v == w && not (n == m)
+contrary _ _ = false
+
+abbrev pub have_contrary : List Equation → List Equation → Bool
+have_contrary first second = list_any (λ a. list_any (contrary a) second) first
 
 -- they are as one of the matches says
 abbrev pub some_agree : (ℕ → ℕ) → List (List Equation) → Bool

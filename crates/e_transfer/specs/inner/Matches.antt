@@ -66,6 +66,11 @@ cancelling_matches (m ∷ ms) y = (if m.coeff == 0 then [] ∷ [] else cancellat
 abbrev pub match_product : List (List Equation) → List (List Equation) → List (List Equation)
 match_product first second = flat_map (λ a. map (λ b. a ++ b) second) first
 
+-- variables that are as one of the first matches says are as one of the second says
+abbrev pub AgreeAlso : List (List Equation) → List (List Equation) → Type 0
+AgreeAlso first second =
+    (f : ℕ → ℕ) → IsTrue (some_agree f first) → IsTrue (some_agree f second)
+
 -- the term does not occur in x - y
 abbrev pub cancels : List Mono → List Mono → Term → Bool
 cancels x y t = coeff_of x t == coeff_of y t

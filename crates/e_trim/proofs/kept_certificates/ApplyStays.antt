@@ -21,7 +21,7 @@ use Rattle.e_clause.specs.declared.cert.Version.TheVariants as version
 use Rattle.e_clause.specs.Versions.{is_cert_of}
 use Rattle.e_clause.specs.Certify.{certify_all}
 use Rattle.e_deriv.specs.Script.{Script, Apply}
-use Rattle.e_deriv.specs.Parts.{written, has_no_blank}
+use Rattle.e_deriv.specs.Parts.{args_written, has_no_blank}
 use Rattle.e_deriv.specs.Goal.{Goal}
 use Rattle.e_deriv.specs.PlacedSteps.{placed_steps, theorem_at}
 use Rattle.e_deriv.specs.Certified.{is_certified}
@@ -41,7 +41,7 @@ use Rattle.e_trim.proofs.kept_scripts.TrimmedScripts.{certified_from, Goes, firs
 
 -- ---- arguments
 
-written_at : (kept : List Obj) (args : List (Option Obj)) → written (args_at kept args) ≡ map (obj_at kept) (written args)
+written_at : (kept : List Obj) (args : List (Option Obj)) → args_written (args_at kept args) ≡ map (obj_at kept) (args_written args)
 written_at kept [] = refl
 written_at kept (None ∷ args) = written_at kept args
 written_at kept (Some o ∷ args) = ap (λ xs. obj_at kept o ∷ xs) (written_at kept args)
@@ -52,10 +52,10 @@ blanks_at kept (None ∷ args) = refl
 blanks_at kept (Some o ∷ args) = blanks_at kept args
 
 -- what is written fills itself
-fills_own : (args : List (Option Obj)) → has_no_blank args ≡ true → fills args (written args) ≡ true
+fills_own : (args : List (Option Obj)) → has_no_blank args ≡ true → fills args (args_written args) ≡ true
 fills_own [] h = refl
 fills_own (None ∷ args) h = absurd (true≢false (sym h))
-fills_own (Some o ∷ args) h = and_from (same_obj o o) (fills args (written args)) (same_obj_self o) (fills_own args h)
+fills_own (Some o ∷ args) h = and_from (same_obj o o) (fills args (args_written args)) (same_obj_self o) (fills_own args h)
 
 -- ---- a theorem before is a statement
 
@@ -103,7 +103,7 @@ apply_goes before st kept s facts goal theorem args names certs rest v h more no
     th = theorem_at before theorem
 
     os : List Obj
-    os = written args
+    os = args_written args
 
     given : List Lit
     given = gives_of_use th os s
@@ -163,12 +163,12 @@ apply_goes before st kept s facts goal theorem args names certs rest v h more no
         = subst (OverLits wide) (sym (use_pairs th os s th.shown fit)) (vars_over wide (sources th) (targets th os s) th.shown (sorts_agree th os s fit) (speak_all th th.shown shown_scope) targets_kept) in
         let next = more wide (with_facts now (map (lit_among_kept wide) given)) goal' (made_ready kept s th.made facts now given goal goal' w given_over (first kept s facts now goal goal' w (both own no_wants) k)) in
         let args' = written_at kept args in
-        let filled : is_choice th (scope_kept kept) (args_at kept args) (written (args_at kept args)) ≡ true
-        = and_from (fills (args_at kept args) (written (args_at kept args))) (are_arguments th (scope_kept kept) (written (args_at kept args))) (fills_own (args_at kept args) (blanks_at kept args ∙ q.1)) (ap (are_arguments th (scope_kept kept)) args' ∙ fit') in
+        let filled : is_choice th (scope_kept kept) (args_at kept args) (args_written (args_at kept args)) ≡ true
+        = and_from (fills (args_at kept args) (args_written (args_at kept args))) (are_arguments th (scope_kept kept) (args_written (args_at kept args))) (fills_own (args_at kept args) (blanks_at kept args ∙ q.1)) (ap (are_arguments th (scope_kept kept)) args' ∙ fit') in
         and_from (is_certified before (as_step (Apply theorem (args_at kept args) names (map (cert_at kept) certs) t) (scope_kept kept) now goal')) _
-        (and_from (ltb theorem (length before) && is_choice th (scope_kept kept) (args_at kept args) (written (args_at kept args))) _ (and_from (ltb theorem (length before)) _ f.0 filled)
+        (and_from (ltb theorem (length before) && is_choice th (scope_kept kept) (args_at kept args) (args_written (args_at kept args))) _ (and_from (ltb theorem (length before)) _ f.0 filled)
         (and_from _ (has_no_blank (args_at kept args)) (ap (λ xs. certify_all (scope_kept kept) now (needs_of_use th xs (scope_kept kept)) (map (cert_at kept) certs)) args' ∙ ap (λ ls. certify_all (scope_kept kept) now ls (map (cert_at kept) certs)) needs_move ∙ done) (blanks_at kept args ∙ q.1)))
-        (ap (λ sc. certified_from before t sc (with_facts now (gives_of_use th (written (args_at kept args)) (scope_kept kept))) goal') (sym (scope_more kept s th.made))
+        (ap (λ sc. certified_from before t sc (with_facts now (gives_of_use th (args_written (args_at kept args)) (scope_kept kept))) goal') (sym (scope_more kept s th.made))
         ∙ ap (λ xs. certified_from before t (scope_kept wide) (with_facts now (gives_of_use th xs (scope_kept kept))) goal') args'
         ∙ ap (λ ls. certified_from before t (scope_kept wide) (with_facts now ls) goal') gives_move ∙ next)
     by false e k =

@@ -20,7 +20,7 @@ use Rattle.e_clause.specs.declared.cert.Against.{Against}
 use Rattle.e_clause.specs.declared.cert.By.{By}
 use Rattle.e_clause.specs.declared.cert.Cert.{Cert}
 use Rattle.e_theorem.specs.declared.statement.Statement.{Statement}
-use Rattle.e_theorem.specs.Statements.{stated, all_stated}
+use Rattle.e_theorem.specs.Statements.{as_view, as_views}
 use Rattle.e_theorem.specs.Choice.{fills, is_choice}
 use Rattle.e_deriv.specs.declared.block.Block.{Block}
 use Rattle.e_deriv.specs.declared.block.Close.{Close}
@@ -30,7 +30,7 @@ use Rattle.e_deriv.specs.declared.block.Step.TheVariants.{Cite as CiteStep, Henc
 use Rattle.e_deriv.specs.Script.{Script, Cite, Hence, Make, Apply, Claim, Superposed, Qed, Contradiction, Cases, step_script, close_script, script_of}
 use Rattle.e_deriv.specs.Goal.{Goal}
 use Rattle.e_deriv.specs.PlacedSteps.{theorem_at, no_statement}
-use Rattle.e_deriv.specs.Parts.{written}
+use Rattle.e_deriv.specs.Parts.{args_written}
 use Rattle.e_deriv.specs.Fitting.{is_small, is_small_statement}
 use Rattle.e_deriv.proofs.Smallness.{few_of_small, few_objects}
 use Rattle.e_deriv.proofs.Scripts.{scripts, step_script-Claim, step_script-Superposed, close_script-Cases}
@@ -44,8 +44,8 @@ use Rattle.e_trim.proofs.kept_scripts.BuiltSteps.{few_makes}
 pub apply_fits : (before : List StatementView) (theorem : ℕ) (args : List (Option Obj)) (names : List (List ℕ)) (certs : List Cert) (s : Scope) → StepFits before (ApplyStep theorem args names certs) s → IsApplied before theorem args s
 unfolding step_script
 apply_fits before theorem args names certs s r =
-    let p = and_parts (ltb theorem (length before)) (is_choice (theorem_at before theorem) s args (written args)) r.fits in
-    let q = and_parts (fills args (written args)) (are_arguments (theorem_at before theorem) s (written args)) p.1 in
+    let p = and_parts (ltb theorem (length before)) (is_choice (theorem_at before theorem) s args (args_written args)) r.fits in
+    let q = and_parts (fills args (args_written args)) (are_arguments (theorem_at before theorem) s (args_written args)) p.1 in
     record { place = ltb-true theorem (length before) p.0; fit = q.1 }
 
 pub qed_sorts : (objects : List Obj) (certs : List Cert) (s : Scope) (goal : Goal) → CloseFits (QedClose objects certs) s goal → sorts goal.made ≡ sorts objects
@@ -68,12 +68,12 @@ pub made_by_theorem : (before : List StatementView) (step : Step) (theorem : ℕ
 unfolding step_script
 made_by_theorem before step theorem args names certs rest is = ap (λ s. makes_at before (step_script s rest)) is
 
-pub theorem_there : (before : List Statement) (theorem : ℕ) (t : Statement) → theorem < length before → t ≡ get_or before theorem t → theorem_at (all_stated before) theorem ≡ stated t
+pub theorem_there : (before : List Statement) (theorem : ℕ) (t : Statement) → theorem < length before → t ≡ get_or before theorem t → theorem_at (as_views before) theorem ≡ as_view t
 theorem_there before theorem t low at =
-    ap (λ o. unwrap_or o no_statement) (slice_get-map stated before theorem ∙ ap (option_map stated) (slice_get-get_or before theorem t low ∙ ap Some (sym at)))
+    ap (λ o. unwrap_or o no_statement) (slice_get-map as_view before theorem ∙ ap (option_map as_view) (slice_get-get_or before theorem t low ∙ ap Some (sym at)))
 
-pub all_as_many : (before : List Statement) → length (all_stated before) ≡ length before
-all_as_many before = length-map before stated
+pub all_as_many : (before : List Statement) → length (as_views before) ≡ length before
+all_as_many before = length-map before as_view
 
 -- ---- an application
 
@@ -83,13 +83,13 @@ small_at (t ∷ before) zero h l = and_left (is_small_statement t) (list_all is_
 small_at (t ∷ before) (suc k) h l = small_at before k (and_right (is_small_statement t) (list_all is_small_statement before) h) (omega (arith, l))
 
 -- the objects of a use have numbers of 16 bits
-pub use_room : (before : List Statement) (theorem : ℕ) (t : Statement) (s : Scope) → is_small s ≡ true → list_all is_small_statement (all_stated before) ≡ true → theorem < length before → t ≡ get_or before theorem t
+pub use_room : (before : List Statement) (theorem : ℕ) (t : Statement) (s : Scope) → is_small s ≡ true → list_all is_small_statement (as_views before) ≡ true → theorem < length before → t ≡ get_or before theorem t
     → (length t.declared + length t.made < 2 ^ 16) × (s.points + length t.made < 2 ^ 16) × (s.lines + length t.made < 2 ^ 16) × (s.circles + length t.made < 2 ^ 16)
 use_room before theorem t s small all low at =
     let there = theorem_there before theorem t low at in
     let many = all_as_many before in
-    let own = ap is_small_statement (sym there) ∙ small_at (all_stated before) theorem all (omega (arith, many, low)) in
-    let n = few_objects (stated t) own in
+    let own = ap is_small_statement (sym there) ∙ small_at (as_views before) theorem all (omega (arith, many, low)) in
+    let n = few_objects (as_view t) own in
     let f = few_of_small s small in
     (omega (arith, n), omega (arith, f.points, n), omega (arith, f.lines, n), omega (arith, f.circles, n))
 
@@ -115,7 +115,7 @@ unfolding step_script
 make_joins before step construction names certs rest s is = ap (λ x. joins_at before (step_script x rest) s) is
 
 pub apply_joins : (before : List StatementView) (step : Step) (theorem : ℕ) (args : List (Option Obj)) (names : List (List ℕ)) (certs : List Cert) (rest : Script) (s : Scope) → step ≡ ApplyStep theorem args names certs
-    → joins_at before (step_script step rest) s ≡ gives_of_use (theorem_at before theorem) (written args) s
+    → joins_at before (step_script step rest) s ≡ gives_of_use (theorem_at before theorem) (args_written args) s
 unfolding step_script
 apply_joins before step theorem args names certs rest s is = ap (λ x. joins_at before (step_script x rest) s) is
 
@@ -177,7 +177,7 @@ pub and_so : {T E : Type 0} {P Q : Type 0} (r : Result T E) → (P → Q) → On
 and_so (Ok x) f h = f h
 and_so (Err e) f h = tt
 
-pub none_there : (before : List Statement) (k : ℕ) → length before ≤ k → theorem_at (all_stated before) k ≡ no_statement
-none_there before k h = let n = all_as_many before in nothing_at (all_stated before) k (omega (arith, n, h))
+pub none_there : (before : List Statement) (k : ℕ) → length before ≤ k → theorem_at (as_views before) k ≡ no_statement
+none_there before k h = let n = all_as_many before in nothing_at (as_views before) k (omega (arith, n, h))
 
 pub ruleset by_step = (common_steps, scripts)

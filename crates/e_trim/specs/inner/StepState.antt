@@ -15,7 +15,7 @@ use Rattle.e_deriv.specs.Steps.{fits, fits_at}
 use Rattle.e_deriv.specs.declared.block.Step.{Step}
 use Rattle.e_deriv.specs.declared.block.Close.{Close}
 use Rattle.e_deriv.specs.Fitting.{is_small}
-use Rattle.e_deriv.specs.Parts.{args_of, written}
+use Rattle.e_deriv.specs.Parts.{args_of, args_written}
 use Rattle.e_trim.specs.Looked.{Wants, both, of_step}
 use Rattle.e_trim.specs.Trimmed.{joins_at, makes_at, is_kept, as_step, wants_with_step}
 use Rattle.e_trim.specs.inner.Flags.{flag, inside_of, step_flags}
@@ -64,7 +64,7 @@ CloseFits close s goal =
 pub record IsApplied (before : List StatementView) (theorem : ℕ) (args : List (Option Obj))
     (s : Scope) : Type 0 where
   pub place : theorem < length before
-  pub fit : IsTrue (are_arguments (theorem_at before theorem) s (written args))
+  pub fit : IsTrue (are_arguments (theorem_at before theorem) s (args_written args))
 
 -- with something after it and some goal the step is ready
 pub record IsReadyToTrim (before : List StatementView) (step : Step) (x : StepState) : Type 0 where

@@ -36,7 +36,7 @@ use Rattle.std.specs.Option.{option_map}
 use Rattle.std.proofs.lemmas.Option.{slice_get-map, same_Some, none-some, slice_get-get_or}
 use mathlib.Core.Bool.{and-false}
 use Rattle.e_theorem.specs.declared.statement.Statement.{Statement}
-use Rattle.e_theorem.specs.Statements.{stated, all_stated}
+use Rattle.e_theorem.specs.Statements.{as_view, as_views}
 use Rattle.e_verify.specs.declared.step_state.StepState.{StepState}
 use Rattle.e_verify.specs.StepStates.{state_with_facts, state_after_make}
 use Rattle.e_verify.specs.Checking.{IsChecked}
@@ -47,7 +47,7 @@ use Rattle.e_theorem.specs.Choice.{fills}
 use Rattle.e_theorem.proofs.Uses.{needs_good as use_needs_good}
 use Rattle.e_deriv.specs.Fitting.{is_small_statement, all_objects}
 use Rattle.e_deriv.specs.PlacedSteps.{theorem_at, no_statement}
-use Rattle.e_deriv.specs.Parts.{has_no_blank, written}
+use Rattle.e_deriv.specs.Parts.{has_no_blank, args_written}
 use Rattle.e_deriv.specs.Steps.{is_applied, are_over}
 use Rattle.e_deriv.specs.Certified.{is_certified}
 use Rattle.e_verify.specs.Checking.{step_in_state}
@@ -121,47 +121,47 @@ pub refused : (before : List StatementView) (whole : Script → Script) (x after
 refused before whole x after h =
     record { test = λ rest goal. sym (h rest goal); next = λ t. absurd (true≢false (sym t)); kept = λ t. absurd (true≢false (sym t)); formed = λ t g. absurd (true≢false (sym t)) }
 
-fills_written : (args : List (Option Obj)) → has_no_blank args ≡ true → fills args (written args) ≡ true
+fills_written : (args : List (Option Obj)) → has_no_blank args ≡ true → fills args (args_written args) ≡ true
 fills_written [] h = refl
 fills_written (None ∷ args) h = absurd (true≢false (sym h))
-fills_written (Some o ∷ args) h = ap (λ b. b && fills args (written args)) (same_obj_self o) ∙ fills_written args h
+fills_written (Some o ∷ args) h = ap (λ b. b && fills args (args_written args)) (same_obj_self o) ∙ fills_written args h
 
 pub checked_apply : (before : List StatementView) (theorem : ℕ) (args : List (Option Obj)) (names : List (List ℕ)) (certs : List Cert) (t : StatementView) (x after : StepState) → is_small_statement t ≡ true → slice_get before theorem ≡ Some t → has_no_blank args ≡ true
-    → are_arguments t x.scope (written args) ≡ true → certify_all x.scope x.facts (needs_of_use t (written args) x.scope) certs ≡ true → after ≡ after_apply t (written args) x
+    → are_arguments t x.scope (args_written args) ≡ true → certify_all x.scope x.facts (needs_of_use t (args_written args) x.scope) certs ≡ true → after ≡ after_apply t (args_written args) x
     → IsChecked before (Apply theorem args names certs) x after true
 checked_apply before theorem args names certs t x after small at blank fit k e =
     let is : theorem_at before theorem ≡ t = ap (λ o. unwrap_or o no_statement) at in
     let low = lt-ltb theorem (length before) (in_range before theorem t at) in
-    let fit' = ap (λ u. are_arguments u x.scope (written args)) is ∙ fit in
-    let k' = ap (λ u. certify_all x.scope x.facts (needs_of_use u (written args) x.scope) certs) is ∙ k in
-    checked before (Apply theorem args names certs) x (after_apply (theorem_at before theorem) (written args) x) after true
+    let fit' = ap (λ u. are_arguments u x.scope (args_written args)) is ∙ fit in
+    let k' = ap (λ u. certify_all x.scope x.facts (needs_of_use u (args_written args) x.scope) certs) is ∙ k in
+    checked before (Apply theorem args names certs) x (after_apply (theorem_at before theorem) (args_written args) x) after true
     (λ rest goal. rw (low, fills_written args blank, fit', k', blank) refl) (apply_lines before theorem args names certs x)
-    (stay_all x.facts (gives_of_use (theorem_at before theorem) (written args) x.scope))
-    (λ g. all_joined_formed x.facts (gives_of_use (theorem_at before theorem) (written args) x.scope) g
-    (ap (λ u. all_formed (gives_of_use u (written args) x.scope)) is ∙ use_gives_formed t (written args) x.scope small fit))
-    (e ∙ ap (λ u. after_apply u (written args) x) (sym is))
+    (stay_all x.facts (gives_of_use (theorem_at before theorem) (args_written args) x.scope))
+    (λ g. all_joined_formed x.facts (gives_of_use (theorem_at before theorem) (args_written args) x.scope) g
+    (ap (λ u. all_formed (gives_of_use u (args_written args) x.scope)) is ∙ use_gives_formed t (args_written args) x.scope small fit))
+    (e ∙ ap (λ u. after_apply u (args_written args) x) (sym is))
 
 pub no_arguments : (before : List StatementView) (theorem : ℕ) (args : List (Option Obj)) (names : List (List ℕ)) (certs : List Cert) (t : StatementView) (x after : StepState) → slice_get before theorem ≡ Some t
-    → are_arguments t x.scope (written args) ≡ false → IsChecked before (Apply theorem args names certs) x after false
+    → are_arguments t x.scope (args_written args) ≡ false → IsChecked before (Apply theorem args names certs) x after false
 no_arguments before theorem args names certs t x after at h =
     let is : theorem_at before theorem ≡ t = ap (λ o. unwrap_or o no_statement) at in
     let low = nat_lt theorem (length before) in
-    let k = certify_all x.scope x.facts (needs_of_use (theorem_at before theorem) (written args) x.scope) certs && has_no_blank args in
+    let k = certify_all x.scope x.facts (needs_of_use (theorem_at before theorem) (args_written args) x.scope) certs && has_no_blank args in
     refused before (Apply theorem args names certs) x after
-    (λ rest goal. ap (λ b. (low && (fills args (written args) && b)) && k) (ap (λ u. are_arguments u x.scope (written args)) is ∙ h)
-    ∙ ap (λ b. (low && b) && k) (and-false (fills args (written args))) ∙ ap (λ b. b && k) (and-false low))
+    (λ rest goal. ap (λ b. (low && (fills args (args_written args) && b)) && k) (ap (λ u. are_arguments u x.scope (args_written args)) is ∙ h)
+    ∙ ap (λ b. (low && b) && k) (and-false (fills args (args_written args))) ∙ ap (λ b. b && k) (and-false low))
 
 pub not_certified : (before : List StatementView) (theorem : ℕ) (args : List (Option Obj)) (names : List (List ℕ)) (certs : List Cert) (t : StatementView) (x after : StepState) → slice_get before theorem ≡ Some t
-    → certify_all x.scope x.facts (needs_of_use t (written args) x.scope) certs ≡ false → IsChecked before (Apply theorem args names certs) x after false
+    → certify_all x.scope x.facts (needs_of_use t (args_written args) x.scope) certs ≡ false → IsChecked before (Apply theorem args names certs) x after false
 not_certified before theorem args names certs t x after at h =
     let is : theorem_at before theorem ≡ t = ap (λ o. unwrap_or o no_statement) at in
-    let form = is_applied before theorem x.scope args (written args) in
+    let form = is_applied before theorem x.scope args (args_written args) in
     refused before (Apply theorem args names certs) x after
-    (λ rest goal. ap (λ b. form && (b && has_no_blank args)) (ap (λ u. certify_all x.scope x.facts (needs_of_use u (written args) x.scope) certs) is ∙ h) ∙ and-false form)
+    (λ rest goal. ap (λ b. form && (b && has_no_blank args)) (ap (λ u. certify_all x.scope x.facts (needs_of_use u (args_written args) x.scope) certs) is ∙ h) ∙ and-false form)
 
 -- an application whose arguments fit, by whether what it needs is certified
 pub use_checked : (before : List StatementView) (theorem : ℕ) (args : List (Option Obj)) (names : List (List ℕ)) (certs : List Cert) (t : StatementView) (x after : StepState) (b : Bool) → is_small_statement t ≡ true → slice_get before theorem ≡ Some t → has_no_blank args ≡ true
-    → are_arguments t x.scope (written args) ≡ true → b ≡ certify_all x.scope x.facts (needs_of_use t (written args) x.scope) certs → (b ≡ true → after ≡ after_apply t (written args) x)
+    → are_arguments t x.scope (args_written args) ≡ true → b ≡ certify_all x.scope x.facts (needs_of_use t (args_written args) x.scope) certs → (b ≡ true → after ≡ after_apply t (args_written args) x)
     → IsChecked before (Apply theorem args names certs) x after b
 use_checked before theorem args names certs t x after true small at blank fit test end = checked_apply before theorem args names certs t x after small at blank fit (sym test) (end refl)
 use_checked before theorem args names certs t x after false small at blank fit test end = not_certified before theorem args names certs t x after at (sym test)
@@ -180,8 +180,8 @@ pub use_formed : (t : StatementView) (args : List Obj) (s : Scope) → is_small_
 use_formed t args s h k =
     each (all_in_scope s) is_well_formed (λ l m. and_right (all_in_scope s l) (is_well_formed l) m) (needs_of_use t args s) (use_needs_good t args s (and_left (is_statement t) (is_small (all_objects t)) h) k)
 
-pub theorem_there : (before : List Statement) (theorem : ℕ) (t : Statement) → theorem < length before → t ≡ get_or before theorem t → slice_get (all_stated before) theorem ≡ Some (stated t)
-theorem_there before theorem t low at = slice_get-map stated before theorem ∙ ap (option_map stated) (slice_get-get_or before theorem t low ∙ ap Some (sym at))
+pub theorem_there : (before : List Statement) (theorem : ℕ) (t : Statement) → theorem < length before → t ≡ get_or before theorem t → slice_get (as_views before) theorem ≡ Some (as_view t)
+theorem_there before theorem t low at = slice_get-map as_view before theorem ∙ ap (option_map as_view) (slice_get-get_or before theorem t low ∙ ap Some (sym at))
 
 -- the arguments and the theorem of an application that fits
 pub record Fits (before : List StatementView) (theorem : ℕ) (args : List (Option Obj)) (t : StatementView) : Type 0 where
@@ -189,11 +189,11 @@ pub record Fits (before : List StatementView) (theorem : ℕ) (args : List (Opti
   pub small : is_small_statement t ≡ true
   pub blank : has_no_blank args ≡ true
 
-pub fits_of : (before : List Statement) (theorem : ℕ) (args : List (Option Obj)) (t : Statement) (objects : List Obj) → list_all is_small_statement (all_stated before) ≡ true → theorem < length before → t ≡ get_or before theorem t
-    → Some objects ≡ (if has_no_blank args then Some (written args) else None) → Fits (all_stated before) theorem args (stated t)
+pub fits_of : (before : List Statement) (theorem : ℕ) (args : List (Option Obj)) (t : Statement) (objects : List Obj) → list_all is_small_statement (as_views before) ≡ true → theorem < length before → t ≡ get_or before theorem t
+    → Some objects ≡ (if has_no_blank args then Some (args_written args) else None) → Fits (as_views before) theorem args (as_view t)
 fits_of before theorem args t objects h low at e =
     let slice_get-get_or = theorem_there before theorem t low at in
-    record { at = slice_get-get_or; small = small_theorem (all_stated before) theorem (stated t) h slice_get-get_or; blank = (all_are_written objects (written args) (has_no_blank args) e).0 }
+    record { at = slice_get-get_or; small = small_theorem (as_views before) theorem (as_view t) h slice_get-get_or; blank = (all_are_written objects (args_written args) (has_no_blank args) e).0 }
 
 pub few_new_of : (s : Scope) (t : StatementView) → is_small s ≡ true → is_small_statement t ≡ true
     → (length t.declared + length t.made < 2 ^ 16) × (s.points + length t.made < 2 ^ 16) × (s.lines + length t.made < 2 ^ 16) × (s.circles + length t.made < 2 ^ 16)

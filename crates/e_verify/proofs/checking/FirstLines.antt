@@ -15,7 +15,7 @@ use Rattle.e_construct.specs.Construct.{sorts_made, gives_of_construction}
 use Rattle.e_deriv.specs.Script.{Script, Cite, Hence, Make, Apply, Claim, Superposed, Qed, Contradiction, Cases}
 use Rattle.e_deriv.specs.Goal.{Goal, goal_of}
 use Rattle.e_deriv.specs.PlacedSteps.{PlacedStep, placed_steps, theorem_at}
-use Rattle.e_deriv.specs.Parts.{written}
+use Rattle.e_deriv.specs.Parts.{args_written}
 use Rattle.e_deriv.specs.Certified.{is_certified}
 use Rattle.e_verify.specs.declared.step_state.StepState.{StepState}
 use Rattle.e_verify.specs.StepStates.{state_with_facts, state_after_make, state_after_superposed}
@@ -43,7 +43,7 @@ abbrev pub after_apply : StatementView → List Obj → StepState → StepState
 after_apply t args x = record { scope = with_sorts x.scope t.made; facts = with_facts x.facts (gives_of_use t args x.scope) }
 
 pub apply_lines : (before : List StatementView) (theorem : ℕ) (args : List (Option Obj)) (names : List (List ℕ)) (certs : List Cert) (x : StepState) (rest : Script) (goal : Goal)
-    → steps_in_state before (Apply theorem args names certs rest) x goal ≡ step_in_state (Apply theorem args names certs rest) x goal ∷ steps_in_state before rest (after_apply (theorem_at before theorem) (written args) x) goal
+    → steps_in_state before (Apply theorem args names certs rest) x goal ≡ step_in_state (Apply theorem args names certs rest) x goal ∷ steps_in_state before rest (after_apply (theorem_at before theorem) (args_written args) x) goal
 unfolding placed_steps
 apply_lines before theorem args names certs x rest goal = refl
 

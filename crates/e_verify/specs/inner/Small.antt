@@ -6,13 +6,13 @@ use Rattle.e_verify.specs.declared.rows.LitRow.{LitRow}
 use Rattle.e_verify.specs.declared.rows.Row.{Row}
 use Rattle.e_verify.specs.declared.rows.Row.TheVariants.{Sums}
 
--- at most 32 monomials, with coefficients of at most 1,000,000
+-- at most 32 monomials, with coefficients of at most 1,000,000: the limits of the language
 abbrev pub are_small_monomials : List Mono → Bool
 are_small_monomials ms = nat_le (length ms) 32 && list_all (λ m. nat_le m.coeff 1000000) ms
 
 -- the sums that are compared are small
-abbrev pub is_short : LitRow → Bool
-is_short c = are_small_monomials c.plus.now && are_small_monomials c.minus.now
+abbrev pub is_small_lit_row : LitRow → Bool
+is_small_lit_row c = are_small_monomials c.plus.now && are_small_monomials c.minus.now
 
 -- the sums of the row are small
 abbrev pub is_small_row : Row → Bool

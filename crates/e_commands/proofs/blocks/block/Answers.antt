@@ -1,4 +1,4 @@
-use Rattle.e_theorem.specs.Statements.{stated}
+use Rattle.e_theorem.specs.Statements.{as_view}
 use Rattle.e_deriv.specs.Certified.{Certified}
 use Rattle.e_deriv.specs.Script.{script_of}
 use Rattle.e_deriv.proofs.Agreement.{proof_of_certified}
@@ -8,7 +8,7 @@ use Rattle.e_commands.proofs.blocks.block.Goals as goal
 pub returns-clause-block : goal.returns-clause-block
 returns-clause-block c =
     let before = stated_by c.args.known.now in
-    let statement = stated c.args.theorem.now.statement in
+    let statement = as_view c.args.theorem.now.statement in
     let derivation = script_of c.in_ok-derivation.derivation in
     let certified : Certified before statement derivation = rw c.statements.ensures at c.in_ok-derivation.ensures.certified in
     record {

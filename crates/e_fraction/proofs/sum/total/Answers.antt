@@ -8,7 +8,7 @@ use Rattle.e_literal.specs.Absurd.{total}
 use Rattle.e_literal.proofs.Arith.{fits_wide}
 use Rattle.e_fraction.specs.declared.row.Row.{Row}
 use Rattle.e_fraction.specs.Limits.{has_small_coefficients}
-use Rattle.e_fraction.specs.Views.{weighed}
+use Rattle.e_fraction.specs.Views.{with_multipliers}
 use Rattle.e_fraction.proofs.Sums.{small_row, good_multiplier, total_step, sum_size}
 use Rattle.e_fraction.proofs.sum.total.Goals as goal
 
@@ -42,6 +42,6 @@ loop-row-preserved c =
       value =
           total_step c.args.rows.now c.args.multipliers.now passed row c.args.term (to_z w128 c.loop-row.sum-bits) c.weigh-sum.result here.0 here.1 c.loop-row.invariant.value
           (v ∙ ap₂ (λ (m : ℤ) (r : Row). m *ℤ coefficient r.form c.args.term) (here.3 (pos 0)) (here.2 row))
-          ∙ ap (λ n. total (weighed (take n c.args.rows.now) (take n c.args.multipliers.now)) c.args.term) next;
+          ∙ ap (λ n. total (with_multipliers (take n c.args.rows.now) (take n c.args.multipliers.now)) c.args.term) next;
       size = subst (λ n. unsigned_abs (to_z w128 c.loop-row.sum-bits +ℤ c.weigh-sum.result) ≤ n * 2 ^ 110) next s;
     })

@@ -1,17 +1,17 @@
 use Rattle.std.proofs.Common.{ap, sym, ◌∙◌, rules}
-use Rattle.e_theorem.specs.Statements.{stated}
+use Rattle.e_theorem.specs.Statements.{as_view}
 use Rattle.e_licence.proofs.BlankChoices.{has_empty}
 use Rattle.e_licence.proofs.ChoicesInOrder.{none_first, swept_all, swept_full, swept_wide}
 use Rattle.e_licence.proofs.choices.choices_of_prepared.Goals as goal
 
 pub returns-then-has_empty-clause-choices : goal.returns-then-has_empty-clause-choices
 returns-then-has_empty-clause-choices c =
-    none_first c.args.context.now (stated c.args.statement.now) c.args.pattern.now c.args.most c.in_ok-declared.declared.items c.in_ok-spans.spans.items c.empty.result
+    none_first c.args.context.now (as_view c.args.statement.now) c.args.pattern.now c.args.most c.in_ok-declared.declared.items c.in_ok-spans.spans.items c.empty.result
     (search rules) (search rules) (search rules) (search rules)
 
 pub returns-in-Done-clause-choices : goal.returns-in-Done-clause-choices
 returns-in-Done-clause-choices c =
-    swept_all c.as_found.result c.args.context.now (stated c.args.statement.now) c.args.pattern.now c.in_ok-declared.declared.items c.deref-6.result.now c.args.most c.new-chosen.result.items c.sweep.new.chosen.items
+    swept_all c.as_found.result c.args.context.now (as_view c.args.statement.now) c.args.pattern.now c.in_ok-declared.declared.items c.deref-6.result.now c.args.most c.new-chosen.result.items c.sweep.new.chosen.items
     c.empty-found.result c.sweep.new.found c.in_ok-sweep.field-0
     (record { states = c.requires.states; fits = c.requires.fits })
     (record { objects = search rules; spans = search rules; starts = search rules })
@@ -19,7 +19,7 @@ returns-in-Done-clause-choices c =
 
 pub returns-in-Full-clause-choices : goal.returns-in-Full-clause-choices
 returns-in-Full-clause-choices c =
-    swept_full c.as_found-in-Full.result c.args.context.now (stated c.args.statement.now) c.args.pattern.now c.in_ok-declared.declared.items c.deref-6.result.now c.args.most c.new-chosen.result.items c.sweep.new.chosen.items
+    swept_full c.as_found-in-Full.result c.args.context.now (as_view c.args.statement.now) c.args.pattern.now c.in_ok-declared.declared.items c.deref-6.result.now c.args.most c.new-chosen.result.items c.sweep.new.chosen.items
     c.empty-found.result c.sweep.new.found c.in_ok-sweep.field-0
     (record { states = c.requires.states; fits = c.requires.fits })
     (record { objects = search rules; spans = search rules; starts = search rules })
@@ -27,7 +27,7 @@ returns-in-Full-clause-choices c =
 
 pub returns-clause-choices : goal.returns-clause-choices
 returns-clause-choices c =
-    swept_wide c.args.context.now (stated c.args.statement.now) c.args.pattern.now c.in_ok-declared.declared.items c.deref-6.result.now c.args.most c.new-chosen.result.items c.sweep.new.chosen.items
+    swept_wide c.args.context.now (as_view c.args.statement.now) c.args.pattern.now c.in_ok-declared.declared.items c.deref-6.result.now c.args.most c.new-chosen.result.items c.sweep.new.chosen.items
     c.empty-found.result c.sweep.new.found c.in_ok-sweep.field-0 c.in-TooWide.width
     (record { states = c.requires.states; fits = c.requires.fits })
     (record { objects = search rules; spans = search rules; starts = search rules })

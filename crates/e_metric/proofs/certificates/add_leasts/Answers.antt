@@ -1,7 +1,7 @@
 use Rattle.std.proofs.Common.{◌≡◌, ◌++◌, ◌≤◌, ◌^◌, List, OnOk, ℤ, sym, subst}
 use Rattle.std.specs.Prelude.{unsigned_abs}
 use Rattle.e_clause.specs.declared.cert.RowName.{RowName}
-use Rattle.e_fraction.specs.Views.{weighed}
+use Rattle.e_fraction.specs.Views.{with_multipliers}
 use Rattle.e_literal.specs.Absurd.{total}
 use Rattle.e_metric.specs.inner.TermTotals.{kept_total}
 use Rattle.e_metric.proofs.sums.TermTotals.{leasts_alike}
@@ -13,4 +13,4 @@ add_leasts_of-requires c t = subst (λ (z : ℤ). unsigned_abs z ≤ 2 ^ 80) (sy
 pub returns : goal.returns
 returns c =
     subst (λ (l : List (ℤ × RowName)). OnOk c.add_leasts_of.result (c.add_leasts_of.new.sum.items ≡ c.args.sum.now.items ++ l))
-    (leasts_alike (kept_total c.in_ok-totals.totals.entries) (total (weighed c.args.rows.now c.args.weights.now)) c.args.terms.now c.in_ok-totals.ensures) c.add_leasts_of.ensures
+    (leasts_alike (kept_total c.in_ok-totals.totals.entries) (total (with_multipliers c.args.rows.now c.args.weights.now)) c.args.terms.now c.in_ok-totals.ensures) c.add_leasts_of.ensures

@@ -6,7 +6,7 @@ use Rattle.e_metric.specs.ListedTerms.{with_listed, distinct_terms}
 use Rattle.e_metric.specs.inner.Certificate.{certificate_sums}
 use Rattle.std.specs.Prelude.{option_copied}
 use Rattle.e_fraction.specs.Views.{views_of_rows}
-use Rattle.e_simplex.specs.Answer.{IsVerdict, AreValuesOf, IsRefuted, assigned}
+use Rattle.e_simplex.specs.Answer.{IsVerdict, AreValuesOf, IsRefuted, assigned_value}
 use Rattle.e_clause.specs.System.{system}
 use Rattle.e_metric.proofs.rows.RowOrder.{same_order}
 use Rattle.e_metric.proofs.answers.KindAnswers.{few_rows, small_rows, solved, has_width, refuted, system_width}
@@ -28,7 +28,7 @@ pub returns-in-Holds : goal.returns-in-Holds
 returns-in-Holds c =
     let v : IsVerdict (views_of_rows c.deref.result.now) c.in_ok-values.field-0 = c.in_ok-values.ensures.verdict in
     let h : AreValuesOf (views_of_rows c.deref.result.now) c.in-Holds.values = subst (IsVerdict (views_of_rows c.deref.result.now)) c.in-Holds.is v in
-    solved c.args.which c.args.facts.now (option_copied c.args.wanted) (system c.args.which c.args.facts.now (option_copied c.args.wanted)) (same_order (system c.args.which c.args.facts.now (option_copied c.args.wanted))) c.in_ok-named.named.items c.in_ok-named.ensures.rows c.in_ok-named.ensures.limited c.requires.facts c.requires.few c.requires.wanted c.deref.result.now (c.deref.ensures.value ∙ c.in_ok-names.ensures.rows) (assigned c.in-Holds.values) h.satisfy
+    solved c.args.which c.args.facts.now (option_copied c.args.wanted) (system c.args.which c.args.facts.now (option_copied c.args.wanted)) (same_order (system c.args.which c.args.facts.now (option_copied c.args.wanted))) c.in_ok-named.named.items c.in_ok-named.ensures.rows c.in_ok-named.ensures.limited c.requires.facts c.requires.few c.requires.wanted c.deref.result.now (c.deref.ensures.value ∙ c.in_ok-names.ensures.rows) (assigned_value c.in-Holds.values) h.satisfy
 
 pub returns-in-TooWide : goal.returns-in-TooWide
 returns-in-TooWide c =

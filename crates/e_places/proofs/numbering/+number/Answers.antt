@@ -3,7 +3,7 @@ use Rattle.std.specs.Prelude.{IfOk}
 use Rattle.e_literal.specs.Literal.{negation}
 use Rattle.e_literal.specs.Facts.{with_fact}
 use Rattle.e_construct.specs.Construct.{needs_of_construction}
-use Rattle.e_theorem.specs.Statements.{all_stated}
+use Rattle.e_theorem.specs.Statements.{as_views}
 use Rattle.e_deriv.specs.declared.block.Close.TheViews.{the_lemmas}
 use Rattle.e_deriv.specs.Script.{Cite, Hence, Make, Apply, Claim, Superposed, script_of, step_script, steps_script, close_script}
 use Rattle.e_deriv.specs.Goal.{goal_view, goal_with, are_for}
@@ -19,7 +19,7 @@ use Rattle.e_places.proofs.numbering.+number.Goals as goal
 
 pub number_block-loop-step-init : goal.number_block-loop-step-init
 number_block-loop-step-init t c = record {
-  same = ap (λ ss. steps_script ss (places_at (all_stated c.args.before.now) (script_of c.args.block.now) c.args.state.now (goal_view c.args.goal.now))) c.new-steps.ensures.items;
+  same = ap (λ ss. steps_script ss (places_at (as_views c.args.before.now) (script_of c.args.block.now) c.args.state.now (goal_view c.args.goal.now))) c.new-steps.ensures.items;
   few = λ h. h;
   ready = c.requires.ready;
   kept = all_stay c.args.state.now.facts;
@@ -27,7 +27,7 @@ number_block-loop-step-init t c = record {
 
 pub number_block-loop-step-preserved : goal.number_block-loop-step-preserved
 number_block-loop-step-preserved t c =
-    let before = all_stated c.args.before.now in
+    let before = as_views c.args.before.now in
     let items = c.args.block.now.steps.items in
     let seen = c.deref-step-items.result.now in
     let close = close_script c.args.block.now.close in
@@ -47,7 +47,7 @@ pub number_block-number_step-requires : goal.number_block-number_step-requires
 number_block-number_step-requires t c = (
   search (rules, the_lemmas),
   (
-    step_ready (all_stated c.args.before.now) c.args.block.now.steps.items c.deref-step-items.result.now (close_script c.args.block.now.close) c.loop-step.step-index c.step-item.result c.loop-step.state (goal_view c.args.goal.now)
+    step_ready (as_views c.args.before.now) c.args.block.now.steps.items c.deref-step-items.result.now (close_script c.args.block.now.close) c.loop-step.step-index c.step-item.result c.loop-step.state (goal_view c.args.goal.now)
         c.deref-step-items.ensures.value c.loop-step-test.true c.step-item.is c.loop-step.invariant.ready,
     c.requires.statements,
   ),
@@ -57,12 +57,12 @@ pub number_block-number_close-requires : goal.number_block-number_close-requires
 number_block-number_close-requires t c =
     let end = steps_end c.args.block.now.steps.items c.deref-step-items.result.now (close_script c.args.block.now.close) c.loop-step.step-index c.deref-step-items.ensures.value c.loop-step-test.false in (
       search (rules, the_lemmas),
-      (subst (λ d. IsReady (all_stated c.args.before.now) d c.loop-step.state (goal_view c.args.goal.now)) end c.loop-step.invariant.ready, c.requires.statements),
+      (subst (λ d. IsReady (as_views c.args.before.now) d c.loop-step.state (goal_view c.args.goal.now)) end c.loop-step.invariant.ready, c.requires.statements),
     )
 
 pub number_block-returns-in-Ok-number_close-clause-same : goal.number_block-returns-in-Ok-number_close-clause-same
 number_block-returns-in-Ok-number_close-clause-same t c =
-    let before = all_stated c.args.before.now in
+    let before = as_views c.args.before.now in
     let g = goal_view c.args.goal.now in
     let close = close_script c.args.block.now.close in
     let end = steps_end c.args.block.now.steps.items c.deref-step-items.result.now close c.loop-step.step-index c.deref-step-items.ensures.value c.loop-step-test.false in
@@ -70,7 +70,7 @@ number_block-returns-in-Ok-number_close-clause-same t c =
 
 pub number_block-returns-in-Ok-number_close-clause-few : goal.number_block-returns-in-Ok-number_close-clause-few
 number_block-returns-in-Ok-number_close-clause-few t c =
-    let before = all_stated c.args.before.now in
+    let before = as_views c.args.before.now in
     let g = goal_view c.args.goal.now in
     let end = steps_end c.args.block.now.steps.items c.deref-step-items.result.now (close_script c.args.block.now.close) c.loop-step.step-index c.deref-step-items.ensures.value c.loop-step-test.false in
     c.loop-step.invariant.few (subst (λ d. HaveFew before d c.loop-step.state g) (sym end) c.in-Ok-number_close.ensures.few)
@@ -87,18 +87,18 @@ pub number_step-make-requires-clause-few : goal.number_step-make-requires-clause
 number_step-make-requires-clause-few t c = omega (arith, c.len.ensures, c.if-len-ge-PLACES.false)
 
 pub number_step-make-requires-clause-scope : goal.number_step-make-requires-clause-scope
-number_step-make-requires-clause-scope t c = small_scope (all_stated c.args.before.now) (step_script c.args.step.now) c.args.state.now c.requires.ready
+number_step-make-requires-clause-scope t c = small_scope (as_views c.args.before.now) (step_script c.args.step.now) c.args.state.now c.requires.ready
 
 pub number_step-apply-requires-clause-few : goal.number_step-apply-requires-clause-few
 number_step-apply-requires-clause-few t c = omega (arith, c.len.ensures, c.if-len-ge-PLACES.false)
 
 pub number_step-apply-requires-clause-scope : goal.number_step-apply-requires-clause-scope
-number_step-apply-requires-clause-scope t c = small_scope (all_stated c.args.before.now) (step_script c.args.step.now) c.args.state.now c.requires.ready
+number_step-apply-requires-clause-scope t c = small_scope (as_views c.args.before.now) (step_script c.args.step.now) c.args.state.now c.requires.ready
 
 pub number_step-apply-requires-clause-applied : goal.number_step-apply-requires-clause-applied
 number_step-apply-requires-clause-applied t c =
     let y = c.in-Apply in
-    let before = all_stated c.args.before.now in
+    let before = as_views c.args.before.now in
     let x = c.args.state.now in
     subst (λ os. IsApplied before y.theorem os x) (sym c.items-in-Apply.ensures)
     (apply_fits before y.theorem y.args y.names y.certs x (ready_as before (step_script c.args.step.now) (Apply y.theorem y.args y.names y.certs) x (apply_is c.args.step.now y.theorem y.args y.names y.certs y.is) c.requires.ready))
@@ -108,20 +108,20 @@ number_step-number_claim-requires t c =
     let y = c.in-Claim in (
       search (rules, the_lemmas),
       (
-        ready_as (all_stated c.args.before.now) (step_script c.args.step.now) (Claim c.items-in-Claim.result.now (script_of c.deref.result.now)) c.args.state.now
+        ready_as (as_views c.args.before.now) (step_script c.args.step.now) (Claim c.items-in-Claim.result.now (script_of c.deref.result.now)) c.args.state.now
             (claim_is c.args.step.now y.shown c.items-in-Claim.result.now y.inner c.deref.result.now y.is c.items-in-Claim.ensures c.deref.ensures) c.requires.ready,
         c.requires.statements,
       ),
     )
 
 pub number_claim-number_block-requires : goal.number_claim-number_block-requires
-number_claim-number_block-requires t c = (search (rules, the_lemmas), (claim_ready (all_stated c.args.before.now) c.args.shown.now (script_of c.args.inner.now) c.args.state.now c.requires.ready, c.requires.statements))
+number_claim-number_block-requires t c = (search (rules, the_lemmas), (claim_ready (as_views c.args.before.now) c.args.shown.now (script_of c.args.inner.now) c.args.state.now c.requires.ready, c.requires.statements))
 
 pub number_step-number_superposed-requires : goal.number_step-number_superposed-requires
 number_step-number_superposed-requires t c =
     let y = c.in-Superposed in
     let ready =
-    ready_as (all_stated c.args.before.now) (step_script c.args.step.now)
+    ready_as (as_views c.args.before.now) (step_script c.args.step.now)
     (Superposed y.superposition c.items-in-Superposed.result.now c.items-in-Superposed-2.result.now c.items-in-Superposed-3.result.now (script_of c.deref-in-Superposed.result.now)) c.args.state.now
     (λ rest. superposed_is c.args.step.now y.superposition y.names y.shown c.items-in-Superposed-2.result.now y.certs c.items-in-Superposed-3.result.now y.inner c.deref-in-Superposed.result.now y.is c.items-in-Superposed-2.ensures c.items-in-Superposed-3.ensures
     c.deref-in-Superposed.ensures rest
@@ -131,14 +131,14 @@ number_step-number_superposed-requires t c =
 pub number_superposed-superpose-requires-clause-scope : goal.number_superposed-superpose-requires-clause-scope
 number_superposed-superpose-requires-clause-scope t c =
     let h = c.args.parts.now in
-    small_scope (all_stated c.args.before.now) (Superposed h.superposition.now h.names.now h.shown.now h.certs.now (script_of c.args.inner.now)) c.args.state.now c.requires.ready
+    small_scope (as_views c.args.before.now) (Superposed h.superposition.now h.names.now h.shown.now h.certs.now (script_of c.args.inner.now)) c.args.state.now c.requires.ready
 
 pub number_superposed-number_block-requires : goal.number_superposed-number_block-requires
 number_superposed-number_block-requires t c =
     let h = c.args.parts.now in (
       search (rules, the_lemmas),
       (
-        superposed_ready (all_stated c.args.before.now) h.superposition.now h.names.now h.shown.now h.certs.now (script_of c.args.inner.now) c.args.state.now c.superpose.new.state c.in-Ok.ensures.after c.requires.ready,
+        superposed_ready (as_views c.args.before.now) h.superposition.now h.names.now h.shown.now h.certs.now (script_of c.args.inner.now) c.args.state.now c.superpose.new.state c.in-Ok.ensures.after c.requires.ready,
         c.requires.statements,
       ),
     )
@@ -147,18 +147,18 @@ number_superposed-number_block-requires t c =
 
 pub number_step-returns-in-Cite-clause-step : goal.number_step-returns-in-Cite-clause-step
 number_step-returns-in-Cite-clause-step t c =
-    let before = all_stated c.args.before.now in
+    let before = as_views c.args.before.now in
     step_ok before c.args.step.now (Cite c.in-Cite.by) c.args.state.now c.cite.new.state c.cite.result (cite_is c.args.step.now c.in-Cite.by c.in-Cite.is) (all_before before (Cite c.in-Cite.by) c.args.state.now c.cite.new.state c.cite.result c.cite.ensures)
 
 pub number_step-returns-in-Hence-clause-step : goal.number_step-returns-in-Hence-clause-step
 number_step-returns-in-Hence-clause-step t c =
-    let before = all_stated c.args.before.now in
+    let before = as_views c.args.before.now in
     let y = c.in-Hence in
     step_ok before c.args.step.now (Hence y.lit y.cert) c.args.state.now c.hence.new.state c.hence.result (hence_is c.args.step.now y.lit y.cert y.is) (all_before before (Hence y.lit y.cert) c.args.state.now c.hence.new.state c.hence.result c.hence.ensures)
 
 pub number_step-returns-in-Make-clause-step : goal.number_step-returns-in-Make-clause-step
 number_step-returns-in-Make-clause-step t c =
-    let before = all_stated c.args.before.now in
+    let before = as_views c.args.before.now in
     let y = c.in-Make in
     let x = c.args.state.now in
     let after = c.make.new.state in
@@ -168,7 +168,7 @@ number_step-returns-in-Make-clause-step t c =
 
 pub number_step-returns-in-Apply-clause-step : goal.number_step-returns-in-Apply-clause-step
 number_step-returns-in-Apply-clause-step t c =
-    let before = all_stated c.args.before.now in
+    let before = as_views c.args.before.now in
     let y = c.in-Apply in
     let x = c.args.state.now in
     let after = c.apply.new.state in
@@ -182,13 +182,13 @@ number_step-returns-in-Apply-clause-step t c =
 pub number_step-returns-in-Claim-clause-step : goal.number_step-returns-in-Claim-clause-step
 number_step-returns-in-Claim-clause-step t c =
     let y = c.in-Claim in
-    step_ok (all_stated c.args.before.now) c.args.step.now (Claim c.items-in-Claim.result.now (script_of c.deref.result.now)) c.args.state.now c.number_claim.new.state c.number_claim.result
+    step_ok (as_views c.args.before.now) c.args.step.now (Claim c.items-in-Claim.result.now (script_of c.deref.result.now)) c.args.state.now c.number_claim.new.state c.number_claim.result
     (claim_is c.args.step.now y.shown c.items-in-Claim.result.now y.inner c.deref.result.now y.is c.items-in-Claim.ensures c.deref.ensures) c.number_claim.ensures
 
 pub number_step-returns-in-Superposed-clause-step : goal.number_step-returns-in-Superposed-clause-step
 number_step-returns-in-Superposed-clause-step t c =
     let y = c.in-Superposed in
-    step_ok (all_stated c.args.before.now) c.args.step.now (Superposed y.superposition c.items-in-Superposed.result.now c.items-in-Superposed-2.result.now c.items-in-Superposed-3.result.now (script_of c.deref-in-Superposed.result.now)) c.args.state.now
+    step_ok (as_views c.args.before.now) c.args.step.now (Superposed y.superposition c.items-in-Superposed.result.now c.items-in-Superposed-2.result.now c.items-in-Superposed-3.result.now (script_of c.deref-in-Superposed.result.now)) c.args.state.now
     c.number_superposed.new.state c.number_superposed.result
     (λ rest. superposed_is c.args.step.now y.superposition y.names y.shown c.items-in-Superposed-2.result.now y.certs c.items-in-Superposed-3.result.now y.inner c.deref-in-Superposed.result.now y.is c.items-in-Superposed-2.ensures c.items-in-Superposed-3.ensures
     c.deref-in-Superposed.ensures rest
@@ -197,14 +197,14 @@ number_step-returns-in-Superposed-clause-step t c =
 pub number_claim-returns-in-Ok : goal.number_claim-returns-in-Ok
 number_claim-returns-in-Ok t c =
     ok_with c.end_claim.result c.end_claim.ensures.step c.end_claim.ensures.after
-    (λ s made end. claim_numbered (all_stated c.args.before.now) c.args.shown.now (script_of c.args.inner.now) c.in-Ok.numbered c.args.state.now c.number_block.new.state c.end_claim.new.state c.checkpoint-outer.result s
+    (λ s made end. claim_numbered (as_views c.args.before.now) c.args.shown.now (script_of c.args.inner.now) c.in-Ok.numbered c.args.state.now c.number_block.new.state c.end_claim.new.state c.checkpoint-outer.result s
     c.in-Ok.ensures.same c.in-Ok.ensures.few c.checkpoint-outer.ensures c.in-Ok.ensures.kept made end)
 
 pub number_superposed-returns-in-Ok-number_block : goal.number_superposed-returns-in-Ok-number_block
 number_superposed-returns-in-Ok-number_block t c =
     let h = c.args.parts.now in
     ok_with c.end_superposition.result c.end_superposition.ensures.step c.end_superposition.ensures.after
-    (λ s made end. superposed_numbered (all_stated c.args.before.now) h.superposition.now h.names.now h.shown.now h.certs.now c.in-Ok.certs (script_of c.args.inner.now) c.in-Ok-number_block.numbered c.args.state.now c.superpose.new.state
+    (λ s made end. superposed_numbered (as_views c.args.before.now) h.superposition.now h.names.now h.shown.now h.certs.now c.in-Ok.certs (script_of c.args.inner.now) c.in-Ok-number_block.numbered c.args.state.now c.superpose.new.state
     c.number_block.new.state c.end_superposition.new.state c.checkpoint-outer.result s c.in-Ok.ensures.certs c.in-Ok.ensures.after c.in-Ok-number_block.ensures.same c.in-Ok-number_block.ensures.few c.checkpoint-outer.ensures
     c.in-Ok-number_block.ensures.kept made end)
 
@@ -217,7 +217,7 @@ pub number_close-number_qed-requires-clause-objects : goal.number_close-number_q
 number_close-number_qed-requires-clause-objects t c =
     let y = c.in-Qed in
     let g = goal_view c.args.goal.now in
-    ap (are_for g c.args.state.now.scope) c.items.ensures ∙ qed_fits (all_stated c.args.before.now) c.args.close.now y.objects y.certs c.args.state.now g y.is c.requires.ready
+    ap (are_for g c.args.state.now.scope) c.items.ensures ∙ qed_fits (as_views c.args.before.now) c.args.close.now y.objects y.certs c.args.state.now g y.is c.requires.ready
 
 pub number_close-number_contradiction-requires : goal.number_close-number_contradiction-requires
 number_close-number_contradiction-requires t c = omega (arith, c.len.ensures, c.if-len-ge-PLACES.false)
@@ -227,7 +227,7 @@ number_close-number_block-requires t c =
     let y = c.in-Cases in
     let x = c.args.state.now in
     let g = goal_view c.args.goal.now in
-    let before = all_stated c.args.before.now in (
+    let before = as_views c.args.before.now in (
       search (rules, the_lemmas),
       (
         block_ready before c.deref.result.now y.first (state_with_facts (with_fact x.facts y.lit) x) c.assume.new.self g c.deref.ensures c.in_ok-assume-in-Cases.ensures (cases_ready before c.args.close.now y.lit y.first y.second x g y.is c.requires.ready).0,
@@ -240,7 +240,7 @@ number_close-number_block-requires-in-Cases t c =
     let y = c.in-Cases in
     let x = c.args.state.now in
     let g = goal_view c.args.goal.now in
-    let before = all_stated c.args.before.now in
+    let before = as_views c.args.before.now in
     let back =
     after_cases x c.assume.new.self c.number_block.new.state c.restore.new.self c.assume_not.new.self y.lit c.checkpoint-outer.result c.in_ok-assume-in-Cases.ensures c.checkpoint-outer.ensures c.in-Ok.ensures.kept c.restore.ensures
     c.in-Ok-assume_not.ensures
@@ -254,30 +254,30 @@ number_close-number_block-requires-in-Cases t c =
 
 pub number_close-returns-in-Qed-clause-same : goal.number_close-returns-in-Qed-clause-same
 number_close-returns-in-Qed-clause-same t c =
-    let before = all_stated c.args.before.now in
+    let before = as_views c.args.before.now in
     let y = c.in-Qed in
     if_ok c.number_qed.result c.number_qed.ensures
     (λ k e. qed_same before c.args.close.now k y.objects c.items.result.now y.certs c.items-in-Qed.result.now c.args.state.now (goal_view c.args.goal.now) y.is c.items.ensures c.items-in-Qed.ensures (e before))
 
 pub number_close-returns-in-Qed-clause-few : goal.number_close-returns-in-Qed-clause-few
 number_close-returns-in-Qed-clause-few t c =
-    where_ok c.number_qed.result (qed_few (all_stated c.args.before.now) c.args.close.now c.in-Qed.objects c.in-Qed.certs c.args.state.now (goal_view c.args.goal.now) c.in-Qed.is (omega (arith, c.len.ensures, c.if-len-ge-PLACES.false)))
+    where_ok c.number_qed.result (qed_few (as_views c.args.before.now) c.args.close.now c.in-Qed.objects c.in-Qed.certs c.args.state.now (goal_view c.args.goal.now) c.in-Qed.is (omega (arith, c.len.ensures, c.if-len-ge-PLACES.false)))
 
 pub number_close-returns-in-Contradiction-clause-same : goal.number_close-returns-in-Contradiction-clause-same
 number_close-returns-in-Contradiction-clause-same t c =
     if_ok c.number_contradiction.result c.number_contradiction.ensures
-    (λ k e. contradiction_same (all_stated c.args.before.now) c.args.close.now k c.in-Contradiction.against c.args.state.now (goal_view c.args.goal.now) c.in-Contradiction.is e)
+    (λ k e. contradiction_same (as_views c.args.before.now) c.args.close.now k c.in-Contradiction.against c.args.state.now (goal_view c.args.goal.now) c.in-Contradiction.is e)
 
 pub number_close-returns-in-Contradiction-clause-few : goal.number_close-returns-in-Contradiction-clause-few
 number_close-returns-in-Contradiction-clause-few t c =
     where_ok c.number_contradiction.result
-    (contradiction_few (all_stated c.args.before.now) c.args.close.now c.in-Contradiction.against c.args.state.now (goal_view c.args.goal.now) c.in-Contradiction.is (omega (arith, c.len.ensures, c.if-len-ge-PLACES.false)))
+    (contradiction_few (as_views c.args.before.now) c.args.close.now c.in-Contradiction.against c.args.state.now (goal_view c.args.goal.now) c.in-Contradiction.is (omega (arith, c.len.ensures, c.if-len-ge-PLACES.false)))
 
 -- ---- a split
 
 pub number_close-returns-in-Ok-number_block-clause-same : goal.number_close-returns-in-Ok-number_block-clause-same
 number_close-returns-in-Ok-number_block-clause-same t c =
-    let before = all_stated c.args.before.now in
+    let before = as_views c.args.before.now in
     let y = c.in-Cases in
     let x = c.args.state.now in
     let back =
@@ -298,7 +298,7 @@ number_close-returns-in-Ok-number_block-clause-few t c =
     c.in-Ok-assume_not.ensures
     in
     where_ok c.cases.result
-    (cases_few (all_stated c.args.before.now) c.args.close.now y.lit y.first y.second c.deref.result.now c.deref-in-Cases.result.now x c.assume.new.self c.assume_not.new.self (goal_view c.args.goal.now) (omega (arith, c.len.ensures, c.if-len-ge-PLACES.false))
+    (cases_few (as_views c.args.before.now) c.args.close.now y.lit y.first y.second c.deref.result.now c.deref-in-Cases.result.now x c.assume.new.self c.assume_not.new.self (goal_view c.args.goal.now) (omega (arith, c.len.ensures, c.if-len-ge-PLACES.false))
     y.is c.deref.ensures c.deref-in-Cases.ensures c.in_ok-assume-in-Cases.ensures c.in-Ok.ensures.few back c.in-Ok-number_block.ensures.few)
 
 pub number_close-returns-in-Ok-number_block-clause-kept : goal.number_close-returns-in-Ok-number_block-clause-kept

@@ -1,5 +1,5 @@
 use Rattle.std.proofs.Common.{◌≡◌, ◌+◌, ◌*◌, drop}
-use Rattle.e_theorem.specs.Statements.{all_stated}
+use Rattle.e_theorem.specs.Statements.{as_views}
 use Rattle.e_deriv.specs.Script.{script_of, steps_script, close_script}
 use Rattle.e_deriv.specs.Goal.{goal_view}
 use Rattle.e_places.specs.inner.Numbering.{HaveFew, IsReady, places_at}
@@ -25,9 +25,9 @@ decreases-number_superposed l = 2 * goal.size-number_superposed l + 1
 abbrev pub invariant-number_block-loop-step : goal.invariant-number_block-loop-step
 invariant-number_block-loop-step l =
     record {
-      same : steps_script l.steps.items (places_at (all_stated l.before) (steps_script (drop l.step-index l.block.steps.items) (close_script l.block.close)) l.state (goal_view l.goal))
-          ≡ places_at (all_stated l.before) (script_of l.block) l.initial.state (goal_view l.goal);
-      few : HaveFew (all_stated l.before) (steps_script (drop l.step-index l.block.steps.items) (close_script l.block.close)) l.state (goal_view l.goal) → HaveFew (all_stated l.before) (script_of l.block) l.initial.state (goal_view l.goal);
-      ready : IsReady (all_stated l.before) (steps_script (drop l.step-index l.block.steps.items) (close_script l.block.close)) l.state (goal_view l.goal);
+      same : steps_script l.steps.items (places_at (as_views l.before) (steps_script (drop l.step-index l.block.steps.items) (close_script l.block.close)) l.state (goal_view l.goal))
+          ≡ places_at (as_views l.before) (script_of l.block) l.initial.state (goal_view l.goal);
+      few : HaveFew (as_views l.before) (steps_script (drop l.step-index l.block.steps.items) (close_script l.block.close)) l.state (goal_view l.goal) → HaveFew (as_views l.before) (script_of l.block) l.initial.state (goal_view l.goal);
+      ready : IsReady (as_views l.before) (steps_script (drop l.step-index l.block.steps.items) (close_script l.block.close)) l.state (goal_view l.goal);
       kept : KeepsFirstFacts l.initial.state l.state;
     }

@@ -7,7 +7,7 @@ use Rattle.e_literal.specs.declared.literal.Lit.{Lit}
 use Rattle.e_literal.specs.Scopes.{next_objects, with_sorts, nothing}
 use Rattle.e_literal.specs.Use.{StatementView, scope_of}
 use Rattle.e_clause.specs.declared.cert.Version.TheVariants as version
-use Rattle.e_theorem.specs.Statements.{stated, all_stated}
+use Rattle.e_theorem.specs.Statements.{as_view, as_views}
 use Rattle.e_deriv.specs.declared.block.Block.{Block}
 use Rattle.e_deriv.specs.Script.{Script, script_of, bare_script}
 use Rattle.e_deriv.specs.Goal.{Goal, goal_of_statement, facts_of_statement}
@@ -26,28 +26,28 @@ abbrev as_goal : List Obj → List Lit → Goal
 as_goal made shown = record { made = made; shown = shown }
 
 pub with_sorts-scope-requires-clause-points : goal.with_sorts-scope-requires-clause-points
-with_sorts-scope-requires-clause-points c = omega (arith, ap length c.items.ensures, few_declared (stated c.args.statement.now) c.requires.verifiable.statement)
+with_sorts-scope-requires-clause-points c = omega (arith, ap length c.items.ensures, few_declared (as_view c.args.statement.now) c.requires.verifiable.statement)
 
 pub with_sorts-scope-requires-clause-lines : goal.with_sorts-scope-requires-clause-lines
-with_sorts-scope-requires-clause-lines c = omega (arith, ap length c.items.ensures, few_declared (stated c.args.statement.now) c.requires.verifiable.statement)
+with_sorts-scope-requires-clause-lines c = omega (arith, ap length c.items.ensures, few_declared (as_view c.args.statement.now) c.requires.verifiable.statement)
 
 pub with_sorts-scope-requires-clause-circles : goal.with_sorts-scope-requires-clause-circles
-with_sorts-scope-requires-clause-circles c = omega (arith, ap length c.items.ensures, few_declared (stated c.args.statement.now) c.requires.verifiable.statement)
+with_sorts-scope-requires-clause-circles c = omega (arith, ap length c.items.ensures, few_declared (as_view c.args.statement.now) c.requires.verifiable.statement)
 
 pub next_objects-requires-clause-points : goal.next_objects-requires-clause-points
 next_objects-requires-clause-points c =
     subst (λ (s : Scope). s.points + length c.items-2.result.now < 2 ^ 16) (sym (c.with_sorts-scope.ensures ∙ ap (with_sorts nothing) c.items.ensures))
-    (subst (λ n. (scope_of (stated c.args.statement.now)).points + n < 2 ^ 16) (sym (ap length c.items-2.ensures)) (few_more (stated c.args.statement.now) c.requires.verifiable.statement).0)
+    (subst (λ n. (scope_of (as_view c.args.statement.now)).points + n < 2 ^ 16) (sym (ap length c.items-2.ensures)) (few_more (as_view c.args.statement.now) c.requires.verifiable.statement).0)
 
 pub next_objects-requires-clause-lines : goal.next_objects-requires-clause-lines
 next_objects-requires-clause-lines c =
     subst (λ (s : Scope). s.lines + length c.items-2.result.now < 2 ^ 16) (sym (c.with_sorts-scope.ensures ∙ ap (with_sorts nothing) c.items.ensures))
-    (subst (λ n. (scope_of (stated c.args.statement.now)).lines + n < 2 ^ 16) (sym (ap length c.items-2.ensures)) (few_more (stated c.args.statement.now) c.requires.verifiable.statement).1)
+    (subst (λ n. (scope_of (as_view c.args.statement.now)).lines + n < 2 ^ 16) (sym (ap length c.items-2.ensures)) (few_more (as_view c.args.statement.now) c.requires.verifiable.statement).1)
 
 pub next_objects-requires-clause-circles : goal.next_objects-requires-clause-circles
 next_objects-requires-clause-circles c =
     subst (λ (s : Scope). s.circles + length c.items-2.result.now < 2 ^ 16) (sym (c.with_sorts-scope.ensures ∙ ap (with_sorts nothing) c.items.ensures))
-    (subst (λ n. (scope_of (stated c.args.statement.now)).circles + n < 2 ^ 16) (sym (ap length c.items-2.ensures)) (few_more (stated c.args.statement.now) c.requires.verifiable.statement).2)
+    (subst (λ n. (scope_of (as_view c.args.statement.now)).circles + n < 2 ^ 16) (sym (ap length c.items-2.ensures)) (few_more (as_view c.args.statement.now) c.requires.verifiable.statement).2)
 
 pub state_at_start-requires : goal.state_at_start-requires
 state_at_start-requires c = c.with_sorts-scope.ensures ∙ ap (with_sorts nothing) c.items.ensures
@@ -62,9 +62,9 @@ goal_is t made shown m e = ap (λ ms. as_goal ms shown) m ∙ ap (as_goal (next_
 
 pub number_block-requires-clause-ready : goal.number_block-requires-clause-ready
 number_block-requires-clause-ready c =
-    let t = stated c.args.statement.now in
+    let t = as_view c.args.statement.now in
     let made = made_is t c.with_sorts-scope.result c.items.result.now c.items-2.result.now c.deref.result.now c.in_ok-made.made.items c.with_sorts-scope.ensures c.items.ensures c.items-2.ensures c.in_ok-made.ensures c.deref.ensures.value in
-    start_ready (all_stated c.args.before.now) t (script_of c.args.deriv.now) c.in_ok-state.state (as_goal c.deref.result.now c.items-3.result.now) c.requires.certified c.requires.verifiable.scopes c.in_ok-state.ensures
+    start_ready (as_views c.args.before.now) t (script_of c.args.deriv.now) c.in_ok-state.state (as_goal c.deref.result.now c.items-3.result.now) c.requires.certified c.requires.verifiable.scopes c.in_ok-state.ensures
     (goal_is t c.deref.result.now c.items-3.result.now made c.items-3.ensures)
 
 -- with places from the start of the statement
@@ -81,8 +81,8 @@ both_ok (Err e) h a f = h
 
 pub returns-clause-numbered : goal.returns-clause-numbered
 returns-clause-numbered c =
-    let before = all_stated c.args.before.now in
-    let t = stated c.args.statement.now in
+    let before = as_views c.args.before.now in
+    let t = as_view c.args.statement.now in
     let d = script_of c.args.deriv.now in
     let x = c.in_ok-state.state in
     let g = as_goal c.deref.result.now c.items-3.result.now in
@@ -92,8 +92,8 @@ returns-clause-numbered c =
 
 pub returns-clause-script : goal.returns-clause-script
 returns-clause-script c =
-    let before = all_stated c.args.before.now in
-    let t = stated c.args.statement.now in
+    let before = as_views c.args.before.now in
+    let t = as_view c.args.statement.now in
     let d = script_of c.args.deriv.now in
     let x = c.in_ok-state.state in
     let g = as_goal c.deref.result.now c.items-3.result.now in
@@ -103,8 +103,8 @@ returns-clause-script c =
 
 pub returns-clause-certified : goal.returns-clause-certified
 returns-clause-certified c =
-    let before = all_stated c.args.before.now in
-    let t = stated c.args.statement.now in
+    let before = as_views c.args.before.now in
+    let t = as_view c.args.statement.now in
     let d = script_of c.args.deriv.now in
     let x = c.in_ok-state.state in
     let g = as_goal c.deref.result.now c.items-3.result.now in
@@ -115,8 +115,8 @@ returns-clause-certified c =
 
 pub returns-clause-version : goal.returns-clause-version
 returns-clause-version c =
-    let before = all_stated c.args.before.now in
-    let t = stated c.args.statement.now in
+    let before = as_views c.args.before.now in
+    let t = as_view c.args.statement.now in
     let d = script_of c.args.deriv.now in
     let x = c.in_ok-state.state in
     let g = as_goal c.deref.result.now c.items-3.result.now in

@@ -1,5 +1,5 @@
 use Rattle.std.proofs.Common.{ap, ◌∙◌}
-use Rattle.e_theorem.specs.Statements.{stated}
+use Rattle.e_theorem.specs.Statements.{as_view}
 use Rattle.e_deriv.specs.declared.block.Step.TheVariants.{Apply as ApplyStep}
 use Rattle.e_places.specs.Numbered.{certs_with_places}
 use Rattle.e_verify.specs.StepStates.{state_after_use}
@@ -16,4 +16,4 @@ returns-in-Ok-clause-step c =
     ∙ ap (ApplyStep y.theorem args names) (c.in_ok-certs.ensures ∙ ap (λ ls. certs_with_places c.args.state.now.facts ls y.certs.now) c.items.ensures)
 
 pub returns-in-Ok-clause-after : goal.returns-in-Ok-clause-after
-returns-in-Ok-clause-after c = c.in-Ok.ensures ∙ ap (λ ls. state_after_use (stated c.args.statement.now) ls c.args.state.now) c.items-2.ensures
+returns-in-Ok-clause-after c = c.in-Ok.ensures ∙ ap (λ ls. state_after_use (as_view c.args.statement.now) ls c.args.state.now) c.items-2.ensures

@@ -1,5 +1,5 @@
 use Rattle.std.proofs.Common.{◌≡◌, length, refl, ap, ◌∙◌, arith}
-use Rattle.e_theorem.specs.Statements.{stated}
+use Rattle.e_theorem.specs.Statements.{as_view}
 use Rattle.e_prove.proofs.NextPlaces.{applied_after, good_applied}
 use Rattle.e_prove.proofs.Applications.{room_for}
 use Rattle.e_prove.proofs.application.take_use.Goals as goal
@@ -7,21 +7,21 @@ use Rattle.e_prove.proofs.application.take_use.Goals as goal
 pub grow-requires-clause-points : goal.grow-requires-clause-points
 grow-requires-clause-points c =
     let s = c.args.state.now.context.scope in
-    let room = room_for (stated c.args.statement.now) s s c.requires.apply.statement c.requires.apply.scope refl in
+    let room = room_for (as_view c.args.statement.now) s s c.requires.apply.statement c.requires.apply.scope refl in
     let same : length c.items.result.now ≡ length c.args.statement.now.made = ap length c.items.ensures in
     omega (arith, same, room.points)
 
 pub grow-requires-clause-lines : goal.grow-requires-clause-lines
 grow-requires-clause-lines c =
     let s = c.args.state.now.context.scope in
-    let room = room_for (stated c.args.statement.now) s s c.requires.apply.statement c.requires.apply.scope refl in
+    let room = room_for (as_view c.args.statement.now) s s c.requires.apply.statement c.requires.apply.scope refl in
     let same : length c.items.result.now ≡ length c.args.statement.now.made = ap length c.items.ensures in
     omega (arith, same, room.lines)
 
 pub grow-requires-clause-circles : goal.grow-requires-clause-circles
 grow-requires-clause-circles c =
     let s = c.args.state.now.context.scope in
-    let room = room_for (stated c.args.statement.now) s s c.requires.apply.statement c.requires.apply.scope refl in
+    let room = room_for (as_view c.args.statement.now) s s c.requires.apply.statement c.requires.apply.scope refl in
     let same : length c.items.result.now ≡ length c.args.statement.now.made = ap length c.items.ensures in
     omega (arith, same, room.circles)
 
@@ -29,11 +29,11 @@ pub join_equal-requires : goal.join_equal-requires
 join_equal-requires c =
     let u = c.args.used.now in
     let lits = c.requires.apply.lits u.args c.requires.used.least.good.is_choice in
-    good_applied (stated c.args.statement.now) u.args c.args.state.now.context c.grow.new.self.context c.items.result.now c.items-2.result.now c.items.ensures
+    good_applied (as_view c.args.statement.now) u.args c.args.state.now.context c.grow.new.self.context c.items.result.now c.items-2.result.now c.items.ensures
     (c.items-2.ensures ∙ c.requires.used.gives) c.in_ok-grow.ensures.scope lits.after
 
 pub returns-clause-after : goal.returns-clause-after
 returns-clause-after c =
     let u = c.args.used.now in
-    applied_after (stated c.args.statement.now) u.args c.args.application.now.names.now c.args.state.now c.grow.new.self c.join_equal.new.self c.items.result.now c.items-2.result.now c.items.ensures
+    applied_after (as_view c.args.statement.now) u.args c.args.application.now.names.now c.args.state.now c.grow.new.self c.join_equal.new.self c.items.result.now c.items-2.result.now c.items.ensures
     (c.items-2.ensures ∙ c.requires.used.gives) c.in_ok-grow.ensures.scope c.in_ok-grow.ensures.names c.in_ok-join_equal.ensures

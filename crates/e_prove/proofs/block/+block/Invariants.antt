@@ -1,5 +1,5 @@
 use Rattle.std.specs.Prelude.{◌+◌, ◌*◌, take}
-use Rattle.e_theorem.specs.Statements.{all_stated}
+use Rattle.e_theorem.specs.Statements.{as_views}
 use Rattle.e_deriv.specs.Script.{steps_script}
 use Rattle.e_prove.specs.inner.PassedSteps.{IsPassed}
 use Rattle.e_prove.proofs.block.+block.Given as goal
@@ -23,5 +23,5 @@ decreases-prove_superposed l = 2 * goal.size-prove_superposed l + 1
 abbrev pub invariant-prove_block-loop-step : goal.invariant-prove_block-loop-step
 invariant-prove_block-loop-step l =
     record {
-      passed : IsPassed (all_stated l.before) (steps_script (take l.step-index l.block.steps.items)) l.initial.state l.initial.number (steps_script l.steps.items) l.state l.number;
+      passed : IsPassed (as_views l.before) (steps_script (take l.step-index l.block.steps.items)) l.initial.state l.initial.number (steps_script l.steps.items) l.state l.number;
     }

@@ -1,7 +1,7 @@
 use Rattle.std.proofs.Common.{◌≡◌, ◌+◌, ◌++◌, ◌∷◌, [], rules, arith, refl, sym, ap, ◌∙◌, subst, true}
 use Rattle.e_literal.specs.Literal.{negation}
 use Rattle.e_clause.specs.LimitedFacts.{are_limited_facts}
-use Rattle.e_theorem.specs.Statements.{all_stated}
+use Rattle.e_theorem.specs.Statements.{as_views}
 use Rattle.e_deriv.specs.declared.block.Close.TheViews.{the_lemmas}
 use Rattle.e_deriv.specs.Script.{script_of, step_script, close_script, size}
 use Rattle.e_deriv.specs.Goal.{goal_of, goal_view}
@@ -20,11 +20,11 @@ use Rattle.e_book.proofs.canonical.ScriptParts.{at_least}
 
 pub reach-loop-step-init : goal.reach-loop-step-init
 reach-loop-step-init t c =
-    record { done = []; passed = passed_start (all_stated c.args.before.now) c.args.block.now.steps.items [] c.args.state.now c.args.first refl; from = c.requires.from }
+    record { done = []; passed = passed_start (as_views c.args.before.now) c.args.block.now.steps.items [] c.args.state.now c.args.first refl; from = c.requires.from }
 
 pub reach-returns-then-number-target-clause-reached : goal.reach-returns-then-number-target-clause-reached
 reach-returns-then-number-target-clause-reached t c =
-    step_here (all_stated c.args.before.now) c.args.block.now.steps.items c.deref-step-items.result.now c.loop-step.invariant.done (close_script c.args.block.now.close) c.loop-step.step-index c.step-item.result c.args.state.now c.loop-step.state
+    step_here (as_views c.args.before.now) c.args.block.now.steps.items c.deref-step-items.result.now c.loop-step.invariant.done (close_script c.args.block.now.close) c.loop-step.step-index c.step-item.result c.args.state.now c.loop-step.state
     (goal_view c.args.goal.now) c.args.first c.loop-step.number c.args.target c.deref-step-items.ensures.value c.loop-step-test.true c.step-item.is (search rules) c.loop-step.invariant.passed c.requires.ready
 
 pub reach-returns-then-number-target-clause-kept : goal.reach-returns-then-number-target-clause-kept
@@ -32,21 +32,21 @@ reach-returns-then-number-target-clause-kept t c = c.loop-step.invariant.passed.
 
 pub reach-step_count-lines-requires : goal.reach-step_count-lines-requires
 reach-step_count-lines-requires t c =
-    let ready = step_ready (all_stated c.args.before.now) c.args.block.now.steps.items c.deref-step-items.result.now c.loop-step.invariant.done (close_script c.args.block.now.close) c.loop-step.step-index c.step-item.result c.args.state.now c.loop-step.state
+    let ready = step_ready (as_views c.args.before.now) c.args.block.now.steps.items c.deref-step-items.result.now c.loop-step.invariant.done (close_script c.args.block.now.close) c.loop-step.step-index c.step-item.result c.args.state.now c.loop-step.state
     (goal_view c.args.goal.now) c.args.first c.loop-step.number c.deref-step-items.ensures.value c.loop-step-test.true c.step-item.is c.loop-step.invariant.passed c.requires.ready c.requires.few
     in
     lines_fit c.step-item.result ready.rest c.loop-step.number ready.few
 
 pub reach-overflow_add-next : goal.reach-overflow_add-next
 reach-overflow_add-next t c =
-    let ready = step_ready (all_stated c.args.before.now) c.args.block.now.steps.items c.deref-step-items.result.now c.loop-step.invariant.done (close_script c.args.block.now.close) c.loop-step.step-index c.step-item.result c.args.state.now c.loop-step.state
+    let ready = step_ready (as_views c.args.before.now) c.args.block.now.steps.items c.deref-step-items.result.now c.loop-step.invariant.done (close_script c.args.block.now.close) c.loop-step.step-index c.step-item.result c.args.state.now c.loop-step.state
     (goal_view c.args.goal.now) c.args.first c.loop-step.number c.deref-step-items.ensures.value c.loop-step-test.true c.step-item.is c.loop-step.invariant.passed c.requires.ready c.requires.few
     in
     omega (arith, ready.few, c.step_count-lines.ensures ready.rest)
 
 pub reach-enter_step-requires : goal.reach-enter_step-requires
 reach-enter_step-requires t c =
-    let ready = step_ready (all_stated c.args.before.now) c.args.block.now.steps.items c.deref-step-items.result.now c.loop-step.invariant.done (close_script c.args.block.now.close) c.loop-step.step-index c.step-item.result c.args.state.now c.loop-step.state
+    let ready = step_ready (as_views c.args.before.now) c.args.block.now.steps.items c.deref-step-items.result.now c.loop-step.invariant.done (close_script c.args.block.now.close) c.loop-step.step-index c.step-item.result c.args.state.now c.loop-step.state
     (goal_view c.args.goal.now) c.args.first c.loop-step.number c.deref-step-items.ensures.value c.loop-step-test.true c.step-item.is c.loop-step.invariant.passed c.requires.ready c.requires.few
     in (
       search (rules, the_lemmas),
@@ -62,7 +62,7 @@ reach-enter_step-requires t c =
 pub reach-returns-then-target-next-clause-reached : goal.reach-returns-then-target-next-clause-reached
 reach-returns-then-target-next-clause-reached t c =
     on_ok_map _ _ c.enter_step.result
-    (step_reaches (all_stated c.args.before.now) c.args.block.now.steps.items c.deref-step-items.result.now c.loop-step.invariant.done (close_script c.args.block.now.close) c.loop-step.step-index c.step-item.result c.args.state.now c.loop-step.state
+    (step_reaches (as_views c.args.before.now) c.args.block.now.steps.items c.deref-step-items.result.now c.loop-step.invariant.done (close_script c.args.block.now.close) c.loop-step.step-index c.step-item.result c.args.state.now c.loop-step.state
     c.enter_step.new.state (goal_view c.args.goal.now) c.args.first c.loop-step.number c.args.target c.deref-step-items.ensures.value c.loop-step-test.true c.step-item.is c.loop-step.invariant.passed c.requires.ready)
     c.enter_step.ensures.reached
 
@@ -73,13 +73,13 @@ reach-returns-then-target-next-clause-kept t c =
 pub reach-returns-then-target-next-clause-err : goal.reach-returns-then-target-next-clause-err
 reach-returns-then-target-next-clause-err t c =
     err_map _ _ c.enter_step.result
-    (λ stop k. step_stops (all_stated c.args.before.now) c.args.block.now.steps.items c.deref-step-items.result.now c.loop-step.invariant.done (close_script c.args.block.now.close) c.loop-step.step-index c.step-item.result c.args.state.now c.loop-step.state
+    (λ stop k. step_stops (as_views c.args.before.now) c.args.block.now.steps.items c.deref-step-items.result.now c.loop-step.invariant.done (close_script c.args.block.now.close) c.loop-step.step-index c.step-item.result c.args.state.now c.loop-step.state
     (goal_view c.args.goal.now) c.args.first c.loop-step.number stop c.deref-step-items.ensures.value c.loop-step-test.true c.step-item.is c.loop-step.invariant.passed c.requires.ready k)
     c.enter_step.ensures.err
 
 pub reach-prove_step-requires : goal.reach-prove_step-requires
 reach-prove_step-requires t c =
-    step_ready (all_stated c.args.before.now) c.args.block.now.steps.items c.deref-step-items.result.now c.loop-step.invariant.done (close_script c.args.block.now.close) c.loop-step.step-index c.step-item.result c.args.state.now c.loop-step.state
+    step_ready (as_views c.args.before.now) c.args.block.now.steps.items c.deref-step-items.result.now c.loop-step.invariant.done (close_script c.args.block.now.close) c.loop-step.step-index c.step-item.result c.args.state.now c.loop-step.state
     (goal_view c.args.goal.now) c.args.first c.loop-step.number c.deref-step-items.ensures.value c.loop-step-test.true c.step-item.is c.loop-step.invariant.passed c.requires.ready c.requires.few
 
 pub reach-loop-step-preserved : goal.reach-loop-step-preserved
@@ -87,12 +87,12 @@ reach-loop-step-preserved t c =
     record {
       done = c.loop-step.invariant.done ++ c.in-Ok.proved ∷ [];
       passed =
-          step_passed (all_stated c.args.before.now) c.args.block.now.steps.items c.deref-step-items.result.now c.loop-step.invariant.done (c.loop-step.invariant.done ++ c.in-Ok.proved ∷ []) c.loop-step.step-index c.step-item.result
+          step_passed (as_views c.args.before.now) c.args.block.now.steps.items c.deref-step-items.result.now c.loop-step.invariant.done (c.loop-step.invariant.done ++ c.in-Ok.proved ∷ []) c.loop-step.step-index c.step-item.result
           c.in-Ok.proved c.args.state.now c.loop-step.state c.prove_step.new.state c.args.first c.loop-step.number c.prove_step.new.number c.deref-step-items.ensures.value c.loop-step-test.true c.step-item.is refl
           c.loop-step.invariant.passed c.in-Ok.ensures.ok;
       from = omega (
         arith,
-        step_ends (all_stated c.args.before.now) c.step-item.result c.in-Ok.proved c.loop-step.state c.prove_step.new.state c.loop-step.number c.prove_step.new.number c.step_count-lines.result (close_script c.args.block.now.close)
+        step_ends (as_views c.args.before.now) c.step-item.result c.in-Ok.proved c.loop-step.state c.prove_step.new.state c.loop-step.number c.prove_step.new.number c.step_count-lines.result (close_script c.args.block.now.close)
             (c.step_count-lines.ensures (close_script c.args.block.now.close)) c.in-Ok.ensures.ok,
         c.if-target-next.false,
       );
@@ -100,22 +100,22 @@ reach-loop-step-preserved t c =
 
 pub reach-returns-in-Err-clause-err : goal.reach-returns-in-Err-clause-err
 reach-returns-in-Err-clause-err t c =
-    step_stops (all_stated c.args.before.now) c.args.block.now.steps.items c.deref-step-items.result.now c.loop-step.invariant.done (close_script c.args.block.now.close) c.loop-step.step-index c.step-item.result c.args.state.now c.loop-step.state
+    step_stops (as_views c.args.before.now) c.args.block.now.steps.items c.deref-step-items.result.now c.loop-step.invariant.done (close_script c.args.block.now.close) c.loop-step.step-index c.step-item.result c.args.state.now c.loop-step.state
     (goal_view c.args.goal.now) c.args.first c.loop-step.number c.in-Err.stop c.deref-step-items.ensures.value c.loop-step-test.true c.step-item.is c.loop-step.invariant.passed c.requires.ready c.in-Err.ensures.err
 
 pub reach-returns-in-Err-clause-earlier : goal.reach-returns-in-Err-clause-earlier
 reach-returns-in-Err-clause-earlier t c =
-    let ready = step_ready (all_stated c.args.before.now) c.args.block.now.steps.items c.deref-step-items.result.now c.loop-step.invariant.done (close_script c.args.block.now.close) c.loop-step.step-index c.step-item.result c.args.state.now c.loop-step.state
+    let ready = step_ready (as_views c.args.before.now) c.args.block.now.steps.items c.deref-step-items.result.now c.loop-step.invariant.done (close_script c.args.block.now.close) c.loop-step.step-index c.step-item.result c.args.state.now c.loop-step.state
     (goal_view c.args.goal.now) c.args.first c.loop-step.number c.deref-step-items.ensures.value c.loop-step-test.true c.step-item.is c.loop-step.invariant.passed c.requires.ready c.requires.few
     in
-    step_stops_before (all_stated c.args.before.now) c.step-item.result c.loop-step.state c.loop-step.number c.step_count-lines.result c.args.target c.in-Err.stop ready (c.step_count-lines.ensures ready.rest)
+    step_stops_before (as_views c.args.before.now) c.step-item.result c.loop-step.state c.loop-step.number c.step_count-lines.result c.args.target c.in-Err.stop ready (c.step_count-lines.ensures ready.rest)
     (omega (arith, c.if-target-next.false)) c.in-Err.ensures.err
 
 -- ---- its close
 
 pub reach-returns-then-number-target-2-clause-reached : goal.reach-returns-then-number-target-2-clause-reached
 reach-returns-then-number-target-2-clause-reached t c =
-    close_here (all_stated c.args.before.now) c.args.block.now.steps.items c.deref-step-items.result.now c.loop-step.invariant.done (close_script c.args.block.now.close) c.loop-step.step-index c.args.state.now c.loop-step.state
+    close_here (as_views c.args.before.now) c.args.block.now.steps.items c.deref-step-items.result.now c.loop-step.invariant.done (close_script c.args.block.now.close) c.loop-step.step-index c.args.state.now c.loop-step.state
     (goal_view c.args.goal.now) c.args.first c.loop-step.number c.args.target c.deref-step-items.ensures.value c.loop-step-test.false (search rules) c.loop-step.invariant.passed c.requires.ready
 
 pub reach-returns-then-number-target-2-clause-kept : goal.reach-returns-then-number-target-2-clause-kept
@@ -127,10 +127,10 @@ reach-enter_close-requires t c =
     let close = close_script c.args.block.now.close in
     let i = c.loop-step.step-index in
     let p = c.loop-step.invariant.passed in
-    let few = close_few (all_stated c.args.before.now) items c.deref-step-items.result.now c.loop-step.invariant.done close i c.args.state.now c.loop-step.state c.args.first c.loop-step.number c.deref-step-items.ensures.value c.loop-step-test.false p in (
+    let few = close_few (as_views c.args.before.now) items c.deref-step-items.result.now c.loop-step.invariant.done close i c.args.state.now c.loop-step.state c.args.first c.loop-step.number c.deref-step-items.ensures.value c.loop-step-test.false p in (
       search (rules, the_lemmas),
       (
-        close_ready (all_stated c.args.before.now) items c.deref-step-items.result.now c.loop-step.invariant.done close i c.args.state.now c.loop-step.state (goal_view c.args.goal.now) c.args.first c.loop-step.number c.deref-step-items.ensures.value
+        close_ready (as_views c.args.before.now) items c.deref-step-items.result.now c.loop-step.invariant.done close i c.args.state.now c.loop-step.state (goal_view c.args.goal.now) c.args.first c.loop-step.number c.deref-step-items.ensures.value
             c.loop-step-test.false p c.requires.ready,
         (
           omega (arith, few, c.requires.few),
@@ -145,7 +145,7 @@ reach-enter_close-requires t c =
 pub reach-returns-clause-reached : goal.reach-returns-clause-reached
 reach-returns-clause-reached t c =
     on_ok_map _ _ c.enter_close.result
-    (close_reaches (all_stated c.args.before.now) c.args.block.now.steps.items c.deref-step-items.result.now c.loop-step.invariant.done (close_script c.args.block.now.close) c.loop-step.step-index c.args.state.now c.loop-step.state
+    (close_reaches (as_views c.args.before.now) c.args.block.now.steps.items c.deref-step-items.result.now c.loop-step.invariant.done (close_script c.args.block.now.close) c.loop-step.step-index c.args.state.now c.loop-step.state
     c.enter_close.new.state (goal_view c.args.goal.now) c.args.first c.loop-step.number c.args.target c.deref-step-items.ensures.value c.loop-step-test.false c.loop-step.invariant.passed c.requires.ready)
     c.enter_close.ensures.reached
 
@@ -156,7 +156,7 @@ reach-returns-clause-kept t c =
 pub reach-returns-clause-err : goal.reach-returns-clause-err
 reach-returns-clause-err t c =
     err_map _ _ c.enter_close.result
-    (λ stop k. close_stops (all_stated c.args.before.now) c.args.block.now.steps.items c.deref-step-items.result.now c.loop-step.invariant.done (close_script c.args.block.now.close) c.loop-step.step-index c.args.state.now c.loop-step.state
+    (λ stop k. close_stops (as_views c.args.before.now) c.args.block.now.steps.items c.deref-step-items.result.now c.loop-step.invariant.done (close_script c.args.block.now.close) c.loop-step.step-index c.args.state.now c.loop-step.state
     (goal_view c.args.goal.now) c.args.first c.loop-step.number stop c.deref-step-items.ensures.value c.loop-step-test.false c.loop-step.invariant.passed c.requires.ready k)
     c.enter_close.ensures.err
 
@@ -173,16 +173,16 @@ enter_step-overflow_add-number t c = let one = at_least (step_script c.args.step
 pub enter_step-reach-requires : goal.enter_step-reach-requires
 enter_step-reach-requires t c =
     let x = c.args.state.now in
-    let ready = subst (λ s. IsReadyStep (all_stated c.args.before.now) s x c.args.number) c.in-Claim.is c.requires.ready in
-    let parts = claim_parts (all_stated c.args.before.now) c.in-Claim.shown c.in-Claim.inner x c.args.number ready in
-    let few = claim_lines (all_stated c.args.before.now) c.in-Claim.shown c.in-Claim.inner x c.args.number ready in
+    let ready = subst (λ s. IsReadyStep (as_views c.args.before.now) s x c.args.number) c.in-Claim.is c.requires.ready in
+    let parts = claim_parts (as_views c.args.before.now) c.in-Claim.shown c.in-Claim.inner x c.args.number ready in
+    let few = claim_lines (as_views c.args.before.now) c.in-Claim.shown c.in-Claim.inner x c.args.number ready in
     let same = ap (λ b. size (script_of b)) c.deref.ensures in
     let rest = c.requires.ready.rest in
     let count = ap (λ s. size (step_script s rest)) c.in-Claim.is ∙ claim_count c.in-Claim.shown c.in-Claim.inner rest in (
       search (rules, the_lemmas),
       (
-        subst (λ b. IsReadyFor (all_stated c.args.before.now) (script_of b) x (goal_of c.items.result.now)) (sym c.deref.ensures)
-            (subst (λ ls. IsReadyFor (all_stated c.args.before.now) (script_of c.in-Claim.inner.value) x (goal_of ls)) (sym c.items.ensures) parts.block),
+        subst (λ b. IsReadyFor (as_views c.args.before.now) (script_of b) x (goal_of c.items.result.now)) (sym c.deref.ensures)
+            (subst (λ ls. IsReadyFor (as_views c.args.before.now) (script_of c.in-Claim.inner.value) x (goal_of ls)) (sym c.items.ensures) parts.block),
         (
           omega (arith, same, few),
           (
@@ -196,12 +196,12 @@ enter_step-reach-requires t c =
 pub enter_step-returns-in-Claim-clause-reached : goal.enter_step-returns-in-Claim-clause-reached
 enter_step-returns-in-Claim-clause-reached t c =
     let x = c.args.state.now in
-    let ready = subst (λ s. IsReadyStep (all_stated c.args.before.now) s x c.args.number) c.in-Claim.is c.requires.ready in
+    let ready = subst (λ s. IsReadyStep (as_views c.args.before.now) s x c.args.number) c.in-Claim.is c.requires.ready in
     on_ok_map _ _ c.reach.result
-    (λ k. claim_entered (all_stated c.args.before.now) c.args.step.now c.in-Claim.shown c.in-Claim.inner x c.reach.new.state c.args.number c.args.target c.in-Claim.is
-    (claim_parts (all_stated c.args.before.now) c.in-Claim.shown c.in-Claim.inner x c.args.number ready)
-    (subst (λ ls. ReachesStep (all_stated c.args.before.now) (script_of c.in-Claim.inner.value) x (goal_of ls) (c.args.number + 1) c.args.target c.reach.new.state) c.items.ensures
-    (subst (λ b. ReachesStep (all_stated c.args.before.now) (script_of b) x (goal_of c.items.result.now) (c.args.number + 1) c.args.target c.reach.new.state) c.deref.ensures k)))
+    (λ k. claim_entered (as_views c.args.before.now) c.args.step.now c.in-Claim.shown c.in-Claim.inner x c.reach.new.state c.args.number c.args.target c.in-Claim.is
+    (claim_parts (as_views c.args.before.now) c.in-Claim.shown c.in-Claim.inner x c.args.number ready)
+    (subst (λ ls. ReachesStep (as_views c.args.before.now) (script_of c.in-Claim.inner.value) x (goal_of ls) (c.args.number + 1) c.args.target c.reach.new.state) c.items.ensures
+    (subst (λ b. ReachesStep (as_views c.args.before.now) (script_of b) x (goal_of c.items.result.now) (c.args.number + 1) c.args.target c.reach.new.state) c.deref.ensures k)))
     c.reach.ensures.reached
 
 pub enter_step-returns-in-Claim-clause-kept : goal.enter_step-returns-in-Claim-clause-kept
@@ -210,33 +210,33 @@ enter_step-returns-in-Claim-clause-kept t c = c.reach.ensures.kept
 pub enter_step-returns-in-Claim-clause-err : goal.enter_step-returns-in-Claim-clause-err
 enter_step-returns-in-Claim-clause-err t c =
     let x = c.args.state.now in
-    let ready = subst (λ s. IsReadyStep (all_stated c.args.before.now) s x c.args.number) c.in-Claim.is c.requires.ready in
+    let ready = subst (λ s. IsReadyStep (as_views c.args.before.now) s x c.args.number) c.in-Claim.is c.requires.ready in
     err_map _ _ c.reach.result
-    (λ stop k. claim_stopped (all_stated c.args.before.now) c.args.step.now c.in-Claim.shown c.in-Claim.inner x c.args.number stop c.in-Claim.is
-    (claim_parts (all_stated c.args.before.now) c.in-Claim.shown c.in-Claim.inner x c.args.number ready)
-    (subst (λ ls. StopsWithin (all_stated c.args.before.now) (script_of c.in-Claim.inner.value) x (goal_of ls) (c.args.number + 1) stop) c.items.ensures
-    (subst (λ b. StopsWithin (all_stated c.args.before.now) (script_of b) x (goal_of c.items.result.now) (c.args.number + 1) stop) c.deref.ensures k)))
+    (λ stop k. claim_stopped (as_views c.args.before.now) c.args.step.now c.in-Claim.shown c.in-Claim.inner x c.args.number stop c.in-Claim.is
+    (claim_parts (as_views c.args.before.now) c.in-Claim.shown c.in-Claim.inner x c.args.number ready)
+    (subst (λ ls. StopsWithin (as_views c.args.before.now) (script_of c.in-Claim.inner.value) x (goal_of ls) (c.args.number + 1) stop) c.items.ensures
+    (subst (λ b. StopsWithin (as_views c.args.before.now) (script_of b) x (goal_of c.items.result.now) (c.args.number + 1) stop) c.deref.ensures k)))
     c.reach.ensures.err
 
 pub enter_step-superpose-requires-clause-room : goal.enter_step-superpose-requires-clause-room
 enter_step-superpose-requires-clause-room t c =
     let x = c.args.state.now in
     let y = c.in-Superposed in
-    let parts = superposed_parts (all_stated c.args.before.now) y.superposition y.names y.shown y.certs y.inner x c.args.number (subst (λ s. IsReadyStep (all_stated c.args.before.now) s x c.args.number) y.is c.requires.ready) in
+    let parts = superposed_parts (as_views c.args.before.now) y.superposition y.names y.shown y.certs y.inner x c.args.number (subst (λ s. IsReadyStep (as_views c.args.before.now) s x c.args.number) y.is c.requires.ready) in
     room_of_small x.context.scope parts.scope
 
 pub enter_step-superpose-requires-clause-needs : goal.enter_step-superpose-requires-clause-needs
 enter_step-superpose-requires-clause-needs t c =
     let x = c.args.state.now in
     let y = c.in-Superposed in
-    (superposed_parts (all_stated c.args.before.now) y.superposition y.names y.shown y.certs y.inner x c.args.number (subst (λ s. IsReadyStep (all_stated c.args.before.now) s x c.args.number) y.is c.requires.ready)).needs
+    (superposed_parts (as_views c.args.before.now) y.superposition y.names y.shown y.certs y.inner x c.args.number (subst (λ s. IsReadyStep (as_views c.args.before.now) s x c.args.number) y.is c.requires.ready)).needs
 
 pub enter_step-superpose-requires-clause-after : goal.enter_step-superpose-requires-clause-after
 enter_step-superpose-requires-clause-after t c =
     let x = c.args.state.now in
     let y = c.in-Superposed in
-    let parts = superposed_parts (all_stated c.args.before.now) y.superposition y.names y.shown y.certs y.inner x c.args.number (subst (λ s. IsReadyStep (all_stated c.args.before.now) s x c.args.number) y.is c.requires.ready) in
-    let good = block_facts (all_stated c.args.before.now) (script_of y.inner.value) (after_superposed y.superposition y.names x) (goal_of y.shown) parts.block in
+    let parts = superposed_parts (as_views c.args.before.now) y.superposition y.names y.shown y.certs y.inner x c.args.number (subst (λ s. IsReadyStep (as_views c.args.before.now) s x c.args.number) y.is c.requires.ready) in
+    let good = block_facts (as_views c.args.before.now) (script_of y.inner.value) (after_superposed y.superposition y.names x) (goal_of y.shown) parts.block in
     subst (λ ns. let after = after_superposed y.superposition ns x in are_limited_facts after.context.scope after.context.facts ≡ true) (sym c.items-in-Superposed.ensures) good
 
 pub enter_step-returns-in-Err-clause-err : goal.enter_step-returns-in-Err-clause-err
@@ -244,7 +244,7 @@ enter_step-returns-in-Err-clause-err t c =
     let x = c.args.state.now in
     let y = c.in-Superposed in
     let h = c.in-Err.step_stop in
-    superposed_refused (all_stated c.args.before.now) c.args.step.now y.superposition y.names y.shown y.certs y.inner x c.superpose.new.state c.args.number h c.stop_at.result y.is c.in-Err.ensures.err
+    superposed_refused (as_views c.args.before.now) c.args.step.now y.superposition y.names y.shown y.certs y.inner x c.superpose.new.state c.args.number h c.stop_at.result y.is c.in-Err.ensures.err
     (same_state_names x c.superpose.new.state h c.in-Err.ensures.kept) c.stop_at.ensures
 
 pub enter_step-returns-in-Err-clause-earlier : goal.enter_step-returns-in-Err-clause-earlier
@@ -258,18 +258,18 @@ pub enter_step-reach-requires-in-Superposed : goal.enter_step-reach-requires-in-
 enter_step-reach-requires-in-Superposed t c =
     let x = c.args.state.now in
     let y = c.in-Superposed in
-    let ready = subst (λ s. IsReadyStep (all_stated c.args.before.now) s x c.args.number) y.is c.requires.ready in
-    let parts = superposed_parts (all_stated c.args.before.now) y.superposition y.names y.shown y.certs y.inner x c.args.number ready in
-    let few = superposed_lines (all_stated c.args.before.now) y.superposition y.names y.shown y.certs y.inner x c.args.number ready in
+    let ready = subst (λ s. IsReadyStep (as_views c.args.before.now) s x c.args.number) y.is c.requires.ready in
+    let parts = superposed_parts (as_views c.args.before.now) y.superposition y.names y.shown y.certs y.inner x c.args.number ready in
+    let few = superposed_lines (as_views c.args.before.now) y.superposition y.names y.shown y.certs y.inner x c.args.number ready in
     let begun = c.in-Ok.ensures.after ∙ ap (λ ns. after_superposed y.superposition ns x) c.items-in-Superposed.ensures in
     let same = ap (λ b. size (script_of b)) c.deref-in-Superposed.ensures in
     let rest = c.requires.ready.rest in
     let count = ap (λ s. size (step_script s rest)) y.is ∙ superposed_count y.superposition y.names y.shown y.certs y.inner rest in (
       search (rules, the_lemmas),
       (
-        subst (λ b. IsReadyFor (all_stated c.args.before.now) (script_of b) c.superpose.new.state (goal_of c.items-in-Superposed-2.result.now)) (sym c.deref-in-Superposed.ensures)
-            (subst (λ ls. IsReadyFor (all_stated c.args.before.now) (script_of y.inner.value) c.superpose.new.state (goal_of ls)) (sym c.items-in-Superposed-2.ensures)
-            (subst (λ z. IsReadyFor (all_stated c.args.before.now) (script_of y.inner.value) z (goal_of y.shown)) (sym begun) parts.block)),
+        subst (λ b. IsReadyFor (as_views c.args.before.now) (script_of b) c.superpose.new.state (goal_of c.items-in-Superposed-2.result.now)) (sym c.deref-in-Superposed.ensures)
+            (subst (λ ls. IsReadyFor (as_views c.args.before.now) (script_of y.inner.value) c.superpose.new.state (goal_of ls)) (sym c.items-in-Superposed-2.ensures)
+            (subst (λ z. IsReadyFor (as_views c.args.before.now) (script_of y.inner.value) z (goal_of y.shown)) (sym begun) parts.block)),
         (
           omega (arith, same, few),
           (
@@ -286,12 +286,12 @@ enter_step-returns-in-Ok-clause-reached t c =
     let y = c.in-Superposed in
     let begun = c.in-Ok.ensures.after ∙ ap (λ ns. after_superposed y.superposition ns x) c.items-in-Superposed.ensures in
     on_ok_map _ _ c.reach-in-Superposed.result
-    (λ k. superposed_entered (all_stated c.args.before.now) c.args.step.now y.superposition y.names y.shown y.certs c.in-Ok.certs.items y.inner x c.reach-in-Superposed.new.state c.args.number c.args.target y.is
-    (superposed_parts (all_stated c.args.before.now) y.superposition y.names y.shown y.certs y.inner x c.args.number (subst (λ s. IsReadyStep (all_stated c.args.before.now) s x c.args.number) y.is c.requires.ready))
+    (λ k. superposed_entered (as_views c.args.before.now) c.args.step.now y.superposition y.names y.shown y.certs c.in-Ok.certs.items y.inner x c.reach-in-Superposed.new.state c.args.number c.args.target y.is
+    (superposed_parts (as_views c.args.before.now) y.superposition y.names y.shown y.certs y.inner x c.args.number (subst (λ s. IsReadyStep (as_views c.args.before.now) s x c.args.number) y.is c.requires.ready))
     (c.in-Ok.ensures.certs, c.in-Ok.ensures.written)
-    (subst (λ z. ReachesStep (all_stated c.args.before.now) (script_of y.inner.value) z (goal_of y.shown) (c.args.number + 1) c.args.target c.reach-in-Superposed.new.state) begun
-    (subst (λ ls. ReachesStep (all_stated c.args.before.now) (script_of y.inner.value) c.superpose.new.state (goal_of ls) (c.args.number + 1) c.args.target c.reach-in-Superposed.new.state) c.items-in-Superposed-2.ensures
-    (subst (λ b. ReachesStep (all_stated c.args.before.now) (script_of b) c.superpose.new.state (goal_of c.items-in-Superposed-2.result.now) (c.args.number + 1) c.args.target c.reach-in-Superposed.new.state) c.deref-in-Superposed.ensures k))))
+    (subst (λ z. ReachesStep (as_views c.args.before.now) (script_of y.inner.value) z (goal_of y.shown) (c.args.number + 1) c.args.target c.reach-in-Superposed.new.state) begun
+    (subst (λ ls. ReachesStep (as_views c.args.before.now) (script_of y.inner.value) c.superpose.new.state (goal_of ls) (c.args.number + 1) c.args.target c.reach-in-Superposed.new.state) c.items-in-Superposed-2.ensures
+    (subst (λ b. ReachesStep (as_views c.args.before.now) (script_of b) c.superpose.new.state (goal_of c.items-in-Superposed-2.result.now) (c.args.number + 1) c.args.target c.reach-in-Superposed.new.state) c.deref-in-Superposed.ensures k))))
     c.reach-in-Superposed.ensures.reached
 
 pub enter_step-returns-in-Ok-clause-kept : goal.enter_step-returns-in-Ok-clause-kept
@@ -305,12 +305,12 @@ enter_step-returns-in-Ok-clause-err t c =
     let y = c.in-Superposed in
     let begun = c.in-Ok.ensures.after ∙ ap (λ ns. after_superposed y.superposition ns x) c.items-in-Superposed.ensures in
     err_map _ _ c.reach-in-Superposed.result
-    (λ stop k. superposed_stopped (all_stated c.args.before.now) c.args.step.now y.superposition y.names y.shown y.certs c.in-Ok.certs.items y.inner x c.args.number stop y.is
-    (superposed_parts (all_stated c.args.before.now) y.superposition y.names y.shown y.certs y.inner x c.args.number (subst (λ s. IsReadyStep (all_stated c.args.before.now) s x c.args.number) y.is c.requires.ready))
+    (λ stop k. superposed_stopped (as_views c.args.before.now) c.args.step.now y.superposition y.names y.shown y.certs c.in-Ok.certs.items y.inner x c.args.number stop y.is
+    (superposed_parts (as_views c.args.before.now) y.superposition y.names y.shown y.certs y.inner x c.args.number (subst (λ s. IsReadyStep (as_views c.args.before.now) s x c.args.number) y.is c.requires.ready))
     (c.in-Ok.ensures.certs, c.in-Ok.ensures.written)
-    (subst (λ z. StopsWithin (all_stated c.args.before.now) (script_of y.inner.value) z (goal_of y.shown) (c.args.number + 1) stop) begun
-    (subst (λ ls. StopsWithin (all_stated c.args.before.now) (script_of y.inner.value) c.superpose.new.state (goal_of ls) (c.args.number + 1) stop) c.items-in-Superposed-2.ensures
-    (subst (λ b. StopsWithin (all_stated c.args.before.now) (script_of b) c.superpose.new.state (goal_of c.items-in-Superposed-2.result.now) (c.args.number + 1) stop) c.deref-in-Superposed.ensures k))))
+    (subst (λ z. StopsWithin (as_views c.args.before.now) (script_of y.inner.value) z (goal_of y.shown) (c.args.number + 1) stop) begun
+    (subst (λ ls. StopsWithin (as_views c.args.before.now) (script_of y.inner.value) c.superpose.new.state (goal_of ls) (c.args.number + 1) stop) c.items-in-Superposed-2.ensures
+    (subst (λ b. StopsWithin (as_views c.args.before.now) (script_of b) c.superpose.new.state (goal_of c.items-in-Superposed-2.result.now) (c.args.number + 1) stop) c.deref-in-Superposed.ensures k))))
     c.reach-in-Superposed.ensures.err
 
 -- ---- the blocks of a split
@@ -343,12 +343,12 @@ pub enter_close-assume-requires : goal.enter_close-assume-requires
 enter_close-assume-requires t c =
     let x = c.args.state.now in
     let goal = goal_view c.args.goal.now in
-    let parts = split_parts (all_stated c.args.before.now) c.args.close.now c.in-Cases.lit c.in-Cases.first c.in-Cases.second x goal c.in-Cases.is c.requires.ready in
-    block_facts (all_stated c.args.before.now) (script_of c.in-Cases.first.value) (after_literal c.in-Cases.lit x) goal parts.one
+    let parts = split_parts (as_views c.args.before.now) c.args.close.now c.in-Cases.lit c.in-Cases.first c.in-Cases.second x goal c.in-Cases.is c.requires.ready in
+    block_facts (as_views c.args.before.now) (script_of c.in-Cases.first.value) (after_literal c.in-Cases.lit x) goal parts.one
 
 pub enter_close-returns-in_err-assume-in-Cases-clause-err : goal.enter_close-returns-in_err-assume-in-Cases-clause-err
 enter_close-returns-in_err-assume-in-Cases-clause-err t c =
-    stops_as_memory (all_stated c.args.before.now) (close_script c.args.close.now) c.args.state.now (goal_view c.args.goal.now) c.args.number c.from_residual.result (search rules)
+    stops_as_memory (as_views c.args.before.now) (close_script c.args.close.now) c.args.state.now (goal_view c.args.goal.now) c.args.number c.from_residual.result (search rules)
 
 pub enter_close-returns-in_err-assume-in-Cases-clause-earlier : goal.enter_close-returns-in_err-assume-in-Cases-clause-earlier
 enter_close-returns-in_err-assume-in-Cases-clause-earlier t c = memory_before c.args.target c.from_residual.result (search rules)
@@ -357,14 +357,14 @@ pub enter_close-reach-requires : goal.enter_close-reach-requires
 enter_close-reach-requires t c =
     let x = c.args.state.now in
     let goal = goal_view c.args.goal.now in
-    let parts = split_parts (all_stated c.args.before.now) c.args.close.now c.in-Cases.lit c.in-Cases.first c.in-Cases.second x goal c.in-Cases.is c.requires.ready in
+    let parts = split_parts (as_views c.args.before.now) c.args.close.now c.in-Cases.lit c.in-Cases.first c.in-Cases.second x goal c.in-Cases.is c.requires.ready in
     let count = split_size c.args.close.now c.in-Cases.lit c.in-Cases.first c.in-Cases.second c.in-Cases.is in
     let same = ap (λ b. size (script_of b)) c.deref.ensures in
     let again = ap (λ b. size (script_of b)) c.deref-then-target-middle.ensures in (
       search (rules, the_lemmas),
       (
-        subst (λ b. IsReadyFor (all_stated c.args.before.now) (script_of b) c.assume.new.self goal) (sym c.deref-then-target-middle.ensures)
-            (subst (λ y. IsReadyFor (all_stated c.args.before.now) (script_of c.in-Cases.first.value) y goal) (sym c.in_ok-assume-in-Cases.ensures) parts.one),
+        subst (λ b. IsReadyFor (as_views c.args.before.now) (script_of b) c.assume.new.self goal) (sym c.deref-then-target-middle.ensures)
+            (subst (λ y. IsReadyFor (as_views c.args.before.now) (script_of c.in-Cases.first.value) y goal) (sym c.in_ok-assume-in-Cases.ensures) parts.one),
         (
           omega (arith, count, again, c.requires.few),
           (
@@ -379,11 +379,11 @@ pub enter_close-returns-then-target-middle-clause-reached : goal.enter_close-ret
 enter_close-returns-then-target-middle-clause-reached t c =
     let x = c.args.state.now in
     let goal = goal_view c.args.goal.now in
-    let parts = split_parts (all_stated c.args.before.now) c.args.close.now c.in-Cases.lit c.in-Cases.first c.in-Cases.second x goal c.in-Cases.is c.requires.ready in
+    let parts = split_parts (as_views c.args.before.now) c.args.close.now c.in-Cases.lit c.in-Cases.first c.in-Cases.second x goal c.in-Cases.is c.requires.ready in
     on_ok_map _ _ c.reach.result
-    (λ k. split_entered_first (all_stated c.args.before.now) c.args.close.now c.in-Cases.lit c.in-Cases.first c.in-Cases.second x c.reach.new.state goal c.args.number c.args.target c.in-Cases.is parts
-    (subst (λ y. ReachesStep (all_stated c.args.before.now) (script_of c.in-Cases.first.value) y goal (c.args.number + 1) c.args.target c.reach.new.state) c.in_ok-assume-in-Cases.ensures
-    (subst (λ b. ReachesStep (all_stated c.args.before.now) (script_of b) c.assume.new.self goal (c.args.number + 1) c.args.target c.reach.new.state) c.deref-then-target-middle.ensures k)))
+    (λ k. split_entered_first (as_views c.args.before.now) c.args.close.now c.in-Cases.lit c.in-Cases.first c.in-Cases.second x c.reach.new.state goal c.args.number c.args.target c.in-Cases.is parts
+    (subst (λ y. ReachesStep (as_views c.args.before.now) (script_of c.in-Cases.first.value) y goal (c.args.number + 1) c.args.target c.reach.new.state) c.in_ok-assume-in-Cases.ensures
+    (subst (λ b. ReachesStep (as_views c.args.before.now) (script_of b) c.assume.new.self goal (c.args.number + 1) c.args.target c.reach.new.state) c.deref-then-target-middle.ensures k)))
     c.reach.ensures.reached
 
 pub enter_close-returns-then-target-middle-clause-kept : goal.enter_close-returns-then-target-middle-clause-kept
@@ -394,19 +394,19 @@ pub enter_close-returns-then-target-middle-clause-err : goal.enter_close-returns
 enter_close-returns-then-target-middle-clause-err t c =
     let x = c.args.state.now in
     let goal = goal_view c.args.goal.now in
-    let parts = split_parts (all_stated c.args.before.now) c.args.close.now c.in-Cases.lit c.in-Cases.first c.in-Cases.second x goal c.in-Cases.is c.requires.ready in
+    let parts = split_parts (as_views c.args.before.now) c.args.close.now c.in-Cases.lit c.in-Cases.first c.in-Cases.second x goal c.in-Cases.is c.requires.ready in
     err_map _ _ c.reach.result
-    (λ stop k. split_stops_first (all_stated c.args.before.now) c.args.close.now c.in-Cases.lit c.in-Cases.first c.in-Cases.second x goal c.args.number stop c.in-Cases.is parts
-    (subst (λ y. StopsWithin (all_stated c.args.before.now) (script_of c.in-Cases.first.value) y goal (c.args.number + 1) stop) c.in_ok-assume-in-Cases.ensures
-    (subst (λ b. StopsWithin (all_stated c.args.before.now) (script_of b) c.assume.new.self goal (c.args.number + 1) stop) c.deref-then-target-middle.ensures k)))
+    (λ stop k. split_stops_first (as_views c.args.before.now) c.args.close.now c.in-Cases.lit c.in-Cases.first c.in-Cases.second x goal c.args.number stop c.in-Cases.is parts
+    (subst (λ y. StopsWithin (as_views c.args.before.now) (script_of c.in-Cases.first.value) y goal (c.args.number + 1) stop) c.in_ok-assume-in-Cases.ensures
+    (subst (λ b. StopsWithin (as_views c.args.before.now) (script_of b) c.assume.new.self goal (c.args.number + 1) stop) c.deref-then-target-middle.ensures k)))
     c.reach.ensures.err
 
 pub enter_close-pass_first_case-requires-clause-ready : goal.enter_close-pass_first_case-requires-clause-ready
 enter_close-pass_first_case-requires-clause-ready t c =
     let x = c.args.state.now in
     let goal = goal_view c.args.goal.now in
-    let parts = split_parts (all_stated c.args.before.now) c.args.close.now c.in-Cases.lit c.in-Cases.first c.in-Cases.second x goal c.in-Cases.is c.requires.ready in
-    subst (λ b. IsReadyFor (all_stated c.args.before.now) (script_of b) (after_literal c.in-Cases.lit x) goal) (sym c.deref-in-Cases.ensures) parts.one
+    let parts = split_parts (as_views c.args.before.now) c.args.close.now c.in-Cases.lit c.in-Cases.first c.in-Cases.second x goal c.in-Cases.is c.requires.ready in
+    subst (λ b. IsReadyFor (as_views c.args.before.now) (script_of b) (after_literal c.in-Cases.lit x) goal) (sym c.deref-in-Cases.ensures) parts.one
 
 pub enter_close-pass_first_case-requires-clause-few : goal.enter_close-pass_first_case-requires-clause-few
 enter_close-pass_first_case-requires-clause-few t c =
@@ -420,25 +420,25 @@ enter_close-pass_first_case-requires-clause-second t c = λ derived d.
     let goal = goal_view c.args.goal.now in
     let lit = c.in-Cases.lit in
     let other =
-    split_second_ready (all_stated c.args.before.now) c.args.close.now lit c.in-Cases.first c.in-Cases.second derived x goal c.in-Cases.is
-    (subst (λ b. IsDerivedFrom (all_stated c.args.before.now) (script_of b) (after_literal lit x) goal derived) c.deref-in-Cases.ensures d) c.requires.ready
+    split_second_ready (as_views c.args.before.now) c.args.close.now lit c.in-Cases.first c.in-Cases.second derived x goal c.in-Cases.is
+    (subst (λ b. IsDerivedFrom (as_views c.args.before.now) (script_of b) (after_literal lit x) goal derived) c.deref-in-Cases.ensures d) c.requires.ready
     in
-    block_facts (all_stated c.args.before.now) (script_of c.in-Cases.second.value) (after_literal (negation lit) x) goal other
+    block_facts (as_views c.args.before.now) (script_of c.in-Cases.second.value) (after_literal (negation lit) x) goal other
 
 pub enter_close-reach-requires-in-Ok : goal.enter_close-reach-requires-in-Ok
 enter_close-reach-requires-in-Ok t c =
     let x = c.args.state.now in
     let goal = goal_view c.args.goal.now in
     let lit = c.in-Cases.lit in
-    let passed = subst (λ b. IsFirstPassed (all_stated c.args.before.now) lit (script_of b) x goal c.pass_first_case.new.state) c.deref-in-Cases.ensures c.in-Ok.ensures.passed in
-    let other = split_second_ready (all_stated c.args.before.now) c.args.close.now lit c.in-Cases.first c.in-Cases.second passed.derived x goal c.in-Cases.is passed.is_derived c.requires.ready in
+    let passed = subst (λ b. IsFirstPassed (as_views c.args.before.now) lit (script_of b) x goal c.pass_first_case.new.state) c.deref-in-Cases.ensures c.in-Ok.ensures.passed in
+    let other = split_second_ready (as_views c.args.before.now) c.args.close.now lit c.in-Cases.first c.in-Cases.second passed.derived x goal c.in-Cases.is passed.is_derived c.requires.ready in
     let count = split_size c.args.close.now lit c.in-Cases.first c.in-Cases.second c.in-Cases.is in
     let same = ap (λ b. size (script_of b)) c.deref.ensures in
     let again = ap (λ b. size (script_of b)) c.deref-in-Ok.ensures in (
       search (rules, the_lemmas),
       (
-        subst (λ b. IsReadyFor (all_stated c.args.before.now) (script_of b) c.pass_first_case.new.state goal) (sym c.deref-in-Ok.ensures)
-            (subst (λ y. IsReadyFor (all_stated c.args.before.now) (script_of c.in-Cases.second.value) y goal) (sym passed.is_after) other),
+        subst (λ b. IsReadyFor (as_views c.args.before.now) (script_of b) c.pass_first_case.new.state goal) (sym c.deref-in-Ok.ensures)
+            (subst (λ y. IsReadyFor (as_views c.args.before.now) (script_of c.in-Cases.second.value) y goal) (sym passed.is_after) other),
         (
           omega (arith, count, same, again, c.size-count.ensures, c.requires.few),
           (
@@ -454,13 +454,13 @@ enter_close-returns-in-Ok-clause-reached t c =
     let x = c.args.state.now in
     let goal = goal_view c.args.goal.now in
     let lit = c.in-Cases.lit in
-    let parts = split_parts (all_stated c.args.before.now) c.args.close.now lit c.in-Cases.first c.in-Cases.second x goal c.in-Cases.is c.requires.ready in
-    let passed = subst (λ b. IsFirstPassed (all_stated c.args.before.now) lit (script_of b) x goal c.pass_first_case.new.state) c.deref-in-Cases.ensures c.in-Ok.ensures.passed in
+    let parts = split_parts (as_views c.args.before.now) c.args.close.now lit c.in-Cases.first c.in-Cases.second x goal c.in-Cases.is c.requires.ready in
+    let passed = subst (λ b. IsFirstPassed (as_views c.args.before.now) lit (script_of b) x goal c.pass_first_case.new.state) c.deref-in-Cases.ensures c.in-Ok.ensures.passed in
     let same = ap (λ b. size (script_of b)) c.deref.ensures in
     on_ok_map _ _ c.reach-in-Ok.result
-    (λ k. split_entered_second (all_stated c.args.before.now) c.args.close.now lit c.in-Cases.first c.in-Cases.second x c.pass_first_case.new.state c.reach-in-Ok.new.state goal c.args.number (c.args.number + 1 + c.size-count.result) c.args.target c.in-Cases.is parts passed
+    (λ k. split_entered_second (as_views c.args.before.now) c.args.close.now lit c.in-Cases.first c.in-Cases.second x c.pass_first_case.new.state c.reach-in-Ok.new.state goal c.args.number (c.args.number + 1 + c.size-count.result) c.args.target c.in-Cases.is parts passed
     (omega (arith, same, c.size-count.ensures))
-    (subst (λ b. ReachesStep (all_stated c.args.before.now) (script_of b) c.pass_first_case.new.state goal (c.args.number + 1 + c.size-count.result) c.args.target c.reach-in-Ok.new.state) c.deref-in-Ok.ensures k))
+    (subst (λ b. ReachesStep (as_views c.args.before.now) (script_of b) c.pass_first_case.new.state goal (c.args.number + 1 + c.size-count.result) c.args.target c.reach-in-Ok.new.state) c.deref-in-Ok.ensures k))
     c.reach-in-Ok.ensures.reached
 
 pub enter_close-returns-in-Ok-clause-kept : goal.enter_close-returns-in-Ok-clause-kept
@@ -473,26 +473,26 @@ enter_close-returns-in-Ok-clause-err t c =
     let x = c.args.state.now in
     let goal = goal_view c.args.goal.now in
     let lit = c.in-Cases.lit in
-    let parts = split_parts (all_stated c.args.before.now) c.args.close.now lit c.in-Cases.first c.in-Cases.second x goal c.in-Cases.is c.requires.ready in
-    let passed = subst (λ b. IsFirstPassed (all_stated c.args.before.now) lit (script_of b) x goal c.pass_first_case.new.state) c.deref-in-Cases.ensures c.in-Ok.ensures.passed in
+    let parts = split_parts (as_views c.args.before.now) c.args.close.now lit c.in-Cases.first c.in-Cases.second x goal c.in-Cases.is c.requires.ready in
+    let passed = subst (λ b. IsFirstPassed (as_views c.args.before.now) lit (script_of b) x goal c.pass_first_case.new.state) c.deref-in-Cases.ensures c.in-Ok.ensures.passed in
     let same = ap (λ b. size (script_of b)) c.deref.ensures in
     err_map _ _ c.reach-in-Ok.result
-    (λ stop k. split_stopped_second (all_stated c.args.before.now) c.args.close.now lit c.in-Cases.first c.in-Cases.second x c.pass_first_case.new.state goal c.args.number (c.args.number + 1 + c.size-count.result) stop c.in-Cases.is parts passed
+    (λ stop k. split_stopped_second (as_views c.args.before.now) c.args.close.now lit c.in-Cases.first c.in-Cases.second x c.pass_first_case.new.state goal c.args.number (c.args.number + 1 + c.size-count.result) stop c.in-Cases.is parts passed
     (omega (arith, same, c.size-count.ensures))
-    (subst (λ b. StopsWithin (all_stated c.args.before.now) (script_of b) c.pass_first_case.new.state goal (c.args.number + 1 + c.size-count.result) stop) c.deref-in-Ok.ensures k))
+    (subst (λ b. StopsWithin (as_views c.args.before.now) (script_of b) c.pass_first_case.new.state goal (c.args.number + 1 + c.size-count.result) stop) c.deref-in-Ok.ensures k))
     c.reach-in-Ok.ensures.err
 
 pub enter_close-returns-in-Err-clause-err : goal.enter_close-returns-in-Err-clause-err
 enter_close-returns-in-Err-clause-err t c =
     let x = c.args.state.now in
     let goal = goal_view c.args.goal.now in
-    let parts = split_parts (all_stated c.args.before.now) c.args.close.now c.in-Cases.lit c.in-Cases.first c.in-Cases.second x goal c.in-Cases.is c.requires.ready in
-    split_stops_first (all_stated c.args.before.now) c.args.close.now c.in-Cases.lit c.in-Cases.first c.in-Cases.second x goal c.args.number c.in-Err.stop c.in-Cases.is parts
-    (subst (λ b. StopsWithin (all_stated c.args.before.now) (script_of b) (after_literal c.in-Cases.lit x) goal (c.args.number + 1) c.in-Err.stop) c.deref-in-Cases.ensures c.in-Err.ensures.err)
+    let parts = split_parts (as_views c.args.before.now) c.args.close.now c.in-Cases.lit c.in-Cases.first c.in-Cases.second x goal c.in-Cases.is c.requires.ready in
+    split_stops_first (as_views c.args.before.now) c.args.close.now c.in-Cases.lit c.in-Cases.first c.in-Cases.second x goal c.args.number c.in-Err.stop c.in-Cases.is parts
+    (subst (λ b. StopsWithin (as_views c.args.before.now) (script_of b) (after_literal c.in-Cases.lit x) goal (c.args.number + 1) c.in-Err.stop) c.deref-in-Cases.ensures c.in-Err.ensures.err)
 
 pub enter_close-returns-in-Err-clause-earlier : goal.enter_close-returns-in-Err-clause-earlier
 enter_close-returns-in-Err-clause-earlier t c =
     let same = ap (λ b. size (script_of b)) c.deref.ensures in
     let again = ap (λ b. size (script_of b)) c.deref-in-Cases.ensures in
     before_more (c.args.number + 1 + size (script_of c.deref-in-Cases.result.now)) c.args.target c.in-Err.stop (omega (arith, same, again, c.size-count.ensures, c.if-target-middle.false))
-    (stop_within (all_stated c.args.before.now) (script_of c.deref-in-Cases.result.now) (after_literal c.in-Cases.lit c.args.state.now) (goal_view c.args.goal.now) (c.args.number + 1) c.in-Err.stop c.in-Err.ensures.err)
+    (stop_within (as_views c.args.before.now) (script_of c.deref-in-Cases.result.now) (after_literal c.in-Cases.lit c.args.state.now) (goal_view c.args.goal.now) (c.args.number + 1) c.in-Err.stop c.in-Err.ensures.err)

@@ -1,6 +1,6 @@
 use Rattle.std.proofs.Common.{List, ◌≤◌}
 use Rattle.std.specs.Prelude.{take}
-use Rattle.e_theorem.specs.Statements.{all_stated}
+use Rattle.e_theorem.specs.Statements.{as_views}
 use Rattle.e_deriv.specs.declared.block.Step.{Step}
 use Rattle.e_deriv.specs.Script.{steps_script}
 use Rattle.e_prove.specs.inner.PassedSteps.{IsPassed}
@@ -19,6 +19,6 @@ abbrev pub invariant-reach-loop-step : goal.invariant-reach-loop-step
 invariant-reach-loop-step l =
     record {
       done : List Step;
-      passed : IsPassed (all_stated l.before) (steps_script (take l.step-index l.block.steps.items)) l.initial.state l.first (steps_script done) l.state l.number;
+      passed : IsPassed (as_views l.before) (steps_script (take l.step-index l.block.steps.items)) l.initial.state l.first (steps_script done) l.state l.number;
       from : l.number ≤ l.target;
     }

@@ -1,7 +1,7 @@
 use Rattle.std.proofs.Common.{ap, subst, List, ℕ}
 use Rattle.std.specs.Prelude.{option_copied}
 use Rattle.e_literal.specs.declared.object.Term.{Term}
-use Rattle.e_transfer.specs.declared.models.Filling.TheVariants.{Ones}
+use Rattle.e_transfer.specs.declared.models.Filling.TheVariants.{Each}
 use Rattle.e_transfer.specs.Models.{is_model, value_by}
 use Rattle.e_transfer.specs.inner.Angles.{IsUnlisted}
 use Rattle.e_transfer.proofs.ModelValues.{then}
@@ -14,6 +14,6 @@ returns c = λ e.
     let n = c.args.numbers.now in
     let hints = c.in-Some.hints.now in
     let is = c.args.query.now.hinted hints (ap option_copied c.in-Some.is) in
-    unlisted_never_differ facts hints.values n c.args.term c.args.other (then hints.plain_model (is_model facts (value_by Ones hints.values)) is.plain c.if-not-hints.false)
+    unlisted_never_differ facts hints.values n c.args.term c.args.other (then hints.plain_model (is_model facts (value_by (Each 1) hints.values)) is.plain c.if-not-hints.false)
     (subst (λ (vs : List (Term × ℕ)). IsUnlisted vs n c.args.term) c.items-values.ensures (c.is_unlisted-one.ensures c.if-not-one.false))
     (subst (λ (vs : List (Term × ℕ)). IsUnlisted vs n c.args.other) c.items-values.ensures (c.is_unlisted.ensures e))

@@ -1,5 +1,6 @@
-use Rattle.std.proofs.Common.{◌≡◌, ◌++◌, take, map}
+use Rattle.std.proofs.Common.{◌++◌, take, map}
+use Rattle.e_transfer.specs.inner.Matches.{AgreeAlso}
 use Rattle.e_transfer.proofs.matches.add_each.Given as goal
 
 abbrev pub invariant-loop-b : goal.invariant-loop-b
-invariant-loop-b l = l.matches.items ≡ l.initial.matches.items ++ map (λ b. l.first ++ b) (take l.b-index l.second.items)
+invariant-loop-b l = AgreeAlso (l.initial.matches.items ++ map (λ b. l.first ++ b) (take l.b-index l.second.items)) l.matches.items

@@ -2,7 +2,7 @@ use Rattle.std.proofs.Common.{◌≡◌, ◌<◌, ◌++◌, ◌∙◌, List, sym
 use Rattle.std.proofs.lemmas.Result.{IfOk-weaker}
 use Rattle.e_literal.specs.declared.object.Term.TheVariants.{Seg}
 use Rattle.e_transfer.specs.declared.equations.Equation.{Equation}
-use Rattle.e_transfer.specs.inner.Matches.{CoverSums, none_cancels, matches_of_sum, cancelling_matches, match_product}
+use Rattle.e_transfer.specs.inner.Matches.{AgreeAlso, CoverSums, none_cancels, matches_of_sum, cancelling_matches, match_product}
 use Rattle.e_transfer.proofs.GoalMatches.{sums_cancel, sums_match, sums_match_both, left_at, nothing_left}
 use Rattle.e_transfer.proofs.matches.matches_of_sums.Goals as goal
 
@@ -35,5 +35,5 @@ returns c =
     let other = c.in_ok-other-in-len2-up.other.items in
     let a = subst (λ (l : List (List Equation)). CoverSums x y z w l) (sym c.in_ok-one-in-len2-up.ensures) (sums_match x y z w t (left_at z w c.as_slice.result.now 0 (Seg 0 0) hold first)) in
     let b = subst (λ (l : List (List Equation)). CoverSums x y z w l) (sym c.in_ok-other-in-len2-up.ensures) (sums_match x y z w u (left_at z w c.as_slice.result.now 1 (Seg 0 0) hold second)) in
-    IfOk-weaker c.product.result (λ v. v.items ≡ match_product one other) (λ v. CoverSums x y z w v.items)
-    (λ v e. subst (λ (l : List (List Equation)). CoverSums x y z w l) (sym e) (sums_match_both x y z w one other a b)) c.product.ensures
+    IfOk-weaker c.product.result (λ v. AgreeAlso (match_product one other) v.items) (λ v. CoverSums x y z w v.items)
+    (λ v also f e. also f (sums_match_both x y z w one other a b f e)) c.product.ensures

@@ -1,5 +1,5 @@
 use Rattle.std.proofs.Common.{sym, ap, ◌∙◌, subst}
-use Rattle.e_theorem.specs.Statements.{all_stated}
+use Rattle.e_theorem.specs.Statements.{as_views}
 use Rattle.e_deriv.specs.Script.{Cite, Hence, Make, Apply, Claim, Superposed, step_script, script_of}
 use Rattle.e_trim.specs.Looked.{both, wanted_objects, objects_of_lits}
 use Rattle.e_trim.specs.inner.StepState.{IsApplied, StepFits}
@@ -9,21 +9,21 @@ use Rattle.e_trim.proofs.steps.look_step.Goals as goal
 
 pub look_apply-requires-clause-fits : goal.look_apply-requires-clause-fits
 look_apply-requires-clause-fits c =
-    let before = all_stated c.args.before.now in
+    let before = as_views c.args.before.now in
     let s = c.args.state.now.scope in
     let a = c.in-Apply in
     subst (λ os. IsApplied before a.theorem os s) (sym c.items-args.ensures) (apply_fits before a.theorem a.args a.names a.certs s (subst (λ st. StepFits before st s) a.is c.requires.fits))
 
 pub returns-in-Cite : goal.returns-in-Cite
 returns-in-Cite c =
-    let before = all_stated c.args.before.now in
+    let before = as_views c.args.before.now in
     let step = c.args.step.now in
     let x = c.args.state.now in
     and_so c.look_cite.result (λ h rest goal. same_line before (Cite c.in-Cite.by rest) (step_script step rest) x.scope x.facts goal c.args.out.now c.look_cite.new.out (cite_script step c.in-Cite.by rest c.in-Cite.is) (h before rest x goal)) c.look_cite.ensures
 
 pub returns-in-Hence : goal.returns-in-Hence
 returns-in-Hence c =
-    let before = all_stated c.args.before.now in
+    let before = as_views c.args.before.now in
     let step = c.args.step.now in
     let x = c.args.state.now in
     let a = c.in-Hence in
@@ -31,7 +31,7 @@ returns-in-Hence c =
 
 pub returns-in-Make : goal.returns-in-Make
 returns-in-Make c =
-    let before = all_stated c.args.before.now in
+    let before = as_views c.args.before.now in
     let step = c.args.step.now in
     let x = c.args.state.now in
     let a = c.in-Make in
@@ -41,7 +41,7 @@ returns-in-Make c =
 
 pub returns-in-Apply : goal.returns-in-Apply
 returns-in-Apply c =
-    let before = all_stated c.args.before.now in
+    let before = as_views c.args.before.now in
     let step = c.args.step.now in
     let x = c.args.state.now in
     let a = c.in-Apply in
@@ -51,7 +51,7 @@ returns-in-Apply c =
 
 pub returns-in-Claim : goal.returns-in-Claim
 returns-in-Claim c =
-    let before = all_stated c.args.before.now in
+    let before = as_views c.args.before.now in
     let step = c.args.step.now in
     let x = c.args.state.now in
     let a = c.in-Claim in
@@ -61,7 +61,7 @@ returns-in-Claim c =
 
 pub returns-in-Superposed : goal.returns-in-Superposed
 returns-in-Superposed c =
-    let before = all_stated c.args.before.now in
+    let before = as_views c.args.before.now in
     let step = c.args.step.now in
     let x = c.args.state.now in
     let a = c.in-Superposed in

@@ -8,19 +8,19 @@ use Rattle.e_verify.proofs.adding.add_row.Goals as goal
 pub returns-in-Sums : goal.returns-in-Sums
 returns-in-Sums c =
     let m : SFits w128 c.args.multiplier = c.ranges.multiplier in
-    let n : SFits w128 c.turned_by.result = search rules in
+    let n : SFits w128 c.negated_if.result = search rules in
     let more = simp to_z-of_z at c.add_difference.ensures in
-    let turned = simp to_z-of_z at c.turned_by.ensures.value in
+    let turned = simp to_z-of_z at c.negated_if.ensures.value in
     let s = c.in-Sums in
-    on_ok c.add_difference.result more (λ h t. added_sums c.args.row s.sense s.plus s.minus s.turned t (total_at c.args.totals.now t) c.args.multiplier c.turned_by.result (total_at c.add_difference.new.totals t) s.is turned (h t))
+    on_ok c.add_difference.result more (λ h t. added_sums c.args.row s.sense s.plus s.minus s.turned t (total_at c.args.totals.now t) c.args.multiplier c.negated_if.result (total_at c.add_difference.new.totals t) s.is turned (h t))
 
 pub returns-in_ok-add-in-Top : goal.returns-in_ok-add-in-Top
 returns-in_ok-add-in-Top c =
     let m : SFits w128 c.args.multiplier = c.ranges.multiplier in
     let p : SFits w128 c.product.result = search rules in
-    let n : SFits w128 c.turned_by-in-Top.result = search rules in
+    let n : SFits w128 c.negated_if-in-Top.result = search rules in
     let twice = simp to_z-of_z at c.product.ensures in
-    let turned = simp to_z-of_z at c.turned_by-in-Top.ensures.value in
+    let turned = simp to_z-of_z at c.negated_if-in-Top.ensures.value in
     let first = simp to_z-of_z at c.in_ok-add-in-Top.ensures in
     let second = simp to_z-of_z at c.add-in-Top-2.ensures in
     on_ok c.add-in-Top-2.result second

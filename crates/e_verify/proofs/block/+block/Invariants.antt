@@ -1,5 +1,5 @@
 use Rattle.std.proofs.Common.{◌≡◌, ◌+◌, ◌*◌, drop}
-use Rattle.e_theorem.specs.Statements.{all_stated}
+use Rattle.e_theorem.specs.Statements.{as_views}
 use Rattle.e_deriv.specs.Script.{script_of, steps_script, close_script}
 use Rattle.e_deriv.specs.Goal.{goal_view}
 use Rattle.e_verify.specs.Checking.{verdict_at, IsCheckable, KeepsFirstFacts}
@@ -24,8 +24,8 @@ decreases-verify_superposed l = 2 * goal.size-verify_superposed l + 1
 abbrev pub invariant-verify_block-loop-step : goal.invariant-verify_block-loop-step
 invariant-verify_block-loop-step l =
     record {
-      same : verdict_at (all_stated l.before) (steps_script (drop l.step-index l.block.steps.items) (close_script l.block.close)) l.state (goal_view l.goal) l.number
-          ≡ verdict_at (all_stated l.before) (script_of l.block) l.initial.state (goal_view l.goal) l.first;
-      ready : IsCheckable (all_stated l.before) (steps_script (drop l.step-index l.block.steps.items) (close_script l.block.close)) l.state (goal_view l.goal) l.number;
+      same : verdict_at (as_views l.before) (steps_script (drop l.step-index l.block.steps.items) (close_script l.block.close)) l.state (goal_view l.goal) l.number
+          ≡ verdict_at (as_views l.before) (script_of l.block) l.initial.state (goal_view l.goal) l.first;
+      ready : IsCheckable (as_views l.before) (steps_script (drop l.step-index l.block.steps.items) (close_script l.block.close)) l.state (goal_view l.goal) l.number;
       kept : KeepsFirstFacts l.initial.state l.state;
     }

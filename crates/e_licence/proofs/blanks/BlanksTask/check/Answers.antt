@@ -11,5 +11,5 @@ returns-in-Yes-clause-verdict c =
 pub returns-in-No-clause-verdict : goal.returns-in-No-clause-verdict
 returns-in-No-clause-verdict c =
     let s = c.args.self.now in
-    none_wanted s.context.now s.declared.items s.statement.now.declared s.pattern.now s.statement.now.given c.args.part.now c.in_ok-images.images c.in_ok-license_all.field-0
-    s.declares (search rules) c.in-No.is c.in_ok-license_all.ensures.verdict
+    none_wanted s.context.now s.declared.items s.statement.now.declared s.pattern.now s.statement.now.given c.args.part.now c.in_ok-images.images c.in_ok-license_completed.field-0
+    s.declares (search rules) c.in-No.is c.in_ok-license_completed.ensures.verdict
