@@ -44,7 +44,7 @@ pub record IsDerived (known : List TitledStatement) (d : Derived) : Type 0 where
   pub proves : IsProof (stated_by known) (as_view d.theorem.statement) d.derivation
   pub certified : Certified (stated_by known) (as_view d.theorem.statement) d.derivation
   pub own : bare_script d.derivation ≡ filled_by (bare_script d.theorem.script) d.derivation
-  pub least : AllLicensed (stated_by known)
+  pub licensed : AllLicensed (stated_by known)
       (proof_steps (stated_by known) (as_view d.theorem.statement) d.theorem.script d.derivation)
   pub written : IsTrue (is_written_well d.derivation)
   pub version : IsTrue (has_certs_of One d.derivation)

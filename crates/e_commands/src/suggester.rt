@@ -32,7 +32,7 @@ use e_deriv::{Stop, Wanted, size};
 use e_io::{Sink, Source};
 use e_judgement::keep;
 use e_names::{Known, Theorems};
-use e_prove::{Place, context_at, prove};
+use e_prove::{StateBefore, prove, state_before_step};
 use e_spell::spell_stop;
 use e_text::{Lines, Title};
 use std::alloc::{AllocError, Global};
@@ -89,7 +89,7 @@ fn with_last_line(
 fn answer_at(
     alloc: Global,
     known: &Theorems,
-    place: &mut Place,
+    place: &mut StateBefore,
     title: Title,
     step: u32,
 ) -> Result<Answer, AllocError>
@@ -133,7 +133,7 @@ fn answer_on(
     if steps < step {
         return answer_with(alloc, Status::NoStep, b"no step\n");
     }
-    let mut place = match context_at(alloc, known.statements(), theorem, step) {
+    let mut place = match state_before_step(alloc, known.statements(), theorem, step) {
         Ok(place) => place,
         Err(stop) => return answer_of_stop(alloc, theorem.title, stop),
     };

@@ -17,7 +17,7 @@ use e_licence::{FirstChoices, Verdicts};
 use e_line::put_apply;
 use e_literal::{Items, Obj};
 use e_names::{Theorems, name_of_object};
-use e_prove::Place;
+use e_prove::StateBefore;
 use e_suggest::all;
 use e_text::{Name, Title, end_line};
 use e_theorem::Statement;
@@ -95,7 +95,7 @@ fn list_theorem(
     alloc: Global,
     title: Title,
     statement: &Statement,
-    place: &Place,
+    place: &StateBefore,
     memory: &mut Verdicts,
     left: usize,
     out: &mut Vec<u8>,
@@ -127,7 +127,7 @@ fn list_theorem(
 pub fn list_theorems(
     alloc: Global,
     known: &Theorems,
-    place: &Place,
+    place: &StateBefore,
     out: &mut Vec<u8>,
 ) -> Result<Listed, AllocError>
     requires small { IsTrue (list_all is_small_statement (stated_by known.now)) }

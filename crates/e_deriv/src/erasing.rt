@@ -6,7 +6,7 @@ ghost use Rattle.e_deriv.specs.Script.{Script, script_of, step_script};
 ghost use Rattle.e_deriv.specs.Script.{close_script, bare_script};
 
 use crate::block::{Block, Close, Step};
-use crate::inner::{cases, claim, superpose};
+use crate::inner::{cases_close, claim_step, superposed_step};
 use e_clause::By;
 use e_construct::Construction;
 use e_literal::{Items, Lit, Obj, copy};
@@ -65,7 +65,7 @@ fn erase_step(alloc: Global, step: &Step) -> Result<Step, AllocError>
         } => bare_apply(alloc, *theorem, args.items(), names.items()),
         Step::Claim { shown, inner } => {
             let inner = erase(alloc, inner)?;
-            claim(alloc, shown.items(), inner)
+            claim_step(alloc, shown.items(), inner)
         }
         Step::Superposed {
             superposition,
@@ -105,7 +105,7 @@ fn erase_close(alloc: Global, close: &Close) -> Result<Close, AllocError>
         Close::Cases { lit, first, second } => {
             let first = erase(alloc, first)?;
             match erase(alloc, second) {
-                Ok(second) => cases(alloc, lit, first, second),
+                Ok(second) => cases_close(alloc, lit, first, second),
                 Err(error) => {
                     mem::drop(first);
                     Err(error)

@@ -14,7 +14,7 @@ use std::mem;
 
 /// A claim of equal literals.
 #[tactic(auto, using(crate::proofs::Scripts::scripts))]
-pub fn claim(alloc: Global, shown: &[Lit], inner: Block) -> Result<Step, AllocError>
+pub fn claim_step(alloc: Global, shown: &[Lit], inner: Block) -> Result<Step, AllocError>
     ensures { IfOk result
         (λ s. (rest : Script) → step_script s rest ≡ Claim shown.now (script_of inner) rest) }
 {
@@ -30,7 +30,7 @@ pub fn claim(alloc: Global, shown: &[Lit], inner: Block) -> Result<Step, AllocEr
 
 /// A superposition with these certificates, with equal names and literals.
 #[tactic(auto, using(crate::proofs::Scripts::scripts))]
-pub fn superpose(
+pub fn superposed_step(
     alloc: Global,
     superposition: &Superpose,
     names: &[Name],
@@ -81,7 +81,12 @@ fn copy_head(
 
 /// A split by an equal literal.
 #[tactic(auto, using(crate::proofs::Scripts::scripts))]
-pub fn cases(alloc: Global, lit: &Lit, first: Block, second: Block) -> Result<Close, AllocError>
+pub fn cases_close(
+    alloc: Global,
+    lit: &Lit,
+    first: Block,
+    second: Block,
+) -> Result<Close, AllocError>
     ensures { IfOk result
         (λ c. close_script c ≡ Cases lit.now (script_of first) (script_of second)) }
 {

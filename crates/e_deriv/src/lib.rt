@@ -14,7 +14,7 @@ mod stop;
 pub use block::{Block, Close, Goal, Step, box_blocks};
 pub use e_clause::Against;
 pub use erasing::{copy_by, copy_construction, copy_lits, copy_names, erase};
-pub use inner::{cases, claim, superpose};
+pub use inner::{cases_close, claim_step, superposed_step};
 pub use laws::{
     certified_proves, context_is_one, licensed_has_no_stop, licensed_proves, proof_is_licensed,
     stop_is_one,

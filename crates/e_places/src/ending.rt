@@ -8,7 +8,7 @@ ghost use Rattle.e_verify.specs.StepStates.{state_restored, state_with_facts};
 
 use e_clause::Cert;
 use e_construct::Superpose;
-use e_deriv::{Block, Step, claim, superpose};
+use e_deriv::{Block, Step, claim_step, superposed_step};
 use e_literal::{Items, Lit};
 use e_text::Name;
 use e_verify::{Checkpoint, StepState};
@@ -38,7 +38,7 @@ pub fn end_claim(
 {
     state.restore(outer);
     match state.assume_all(alloc, shown) {
-        Ok(()) => claim(alloc, shown, block),
+        Ok(()) => claim_step(alloc, shown, block),
         Err(error) => {
             mem::drop(block);
             Err(error)
@@ -68,7 +68,7 @@ pub fn end_superposition(
     } = head;
     state.restore(outer);
     match state.assume_all(alloc, shown) {
-        Ok(()) => superpose(alloc, superposition, names, shown, certs, block),
+        Ok(()) => superposed_step(alloc, superposition, names, shown, certs, block),
         Err(error) => {
             mem::drop(block);
             mem::drop(certs);

@@ -33,7 +33,7 @@ use crate::places::{placed_against, placed_cert, placed_certs};
 use e_clause::{Against, By, Cert};
 use e_construct::{Construction, Superpose};
 use e_deriv::{
-    Block, Close, Goal, Step, cases, copy_by, copy_construction, goal_with, written_args,
+    Block, Close, Goal, Step, cases_close, copy_by, copy_construction, goal_with, written_args,
 };
 use e_literal::{Items, Lit, NOTHING, Obj, Scope, copy, next_objects, with_sorts};
 use e_text::Name;
@@ -294,7 +294,7 @@ fn number_close(
                 }
             }
             match number_block(alloc, before, second, goal, state) {
-                Ok(other) => cases(alloc, lit, one, other),
+                Ok(other) => cases_close(alloc, lit, one, other),
                 Err(_) => {
                     mem::drop(one);
                     Err(AllocError)

@@ -34,10 +34,10 @@ use Rattle.e_clause.specs.declared.cert.Version.TheVariants as version
 use Rattle.e_clause.specs.Versions.{is_cert_of}
 use Rattle.e_licence.specs.Contexts.{Basis}
 use Rattle.e_prove.specs.declared.application.Use.{Use}
-use Rattle.e_prove.specs.declared.step_stop.StepStop.{StepStop}
-use Rattle.e_prove.specs.declared.step_stop.StepStop.TheVariants as step_stop
-use Rattle.e_prove.specs.declared.place.Place.{Place}
-use Rattle.e_prove.specs.inner.NextPlaces.{after_apply}
+use Rattle.e_prove.specs.declared.stop_reason.StopReason.{StopReason}
+use Rattle.e_prove.specs.declared.stop_reason.StopReason.TheVariants as stop_reason
+use Rattle.e_prove.specs.declared.state_before.StateBefore.{StateBefore}
+use Rattle.e_prove.specs.inner.NextStates.{after_apply}
 use Rattle.e_prove.specs.inner.StopsOfSteps.{StepStopsAmong, StepStopsFilling, StepStopsApplying, match_stop}
 use Rattle.e_prove.specs.inner.LicensedSteps.{IsLicensedStep, IsStopOfStep}
 use Rattle.e_prove.specs.inner.Applications.{CanApply, IsUse}
@@ -94,7 +94,7 @@ use_written t pattern x u args n h is same c good g =
             allowed = all_allowed_of_certified x.scope x.facts (needs_of_use t u.args x.scope) u.certs.items certs;
           });
       certified = certs;
-      written = good;
+      version = good;
       gives = g ∙ ap (λ os. gives_of_use t os x.scope) (sym same);
     }
 
@@ -109,7 +109,7 @@ record Filled (t : StatementView) (pattern entries : List (Option Obj)) (x : Bas
   fill : fills entries (args_written entries) ≡ true
   again : filled_in (args_written entries) ≡ entries
 
-licensed_by_choice : (before : List StatementView) (theorem : ℕ) (pattern entries : List (Option Obj)) (names : List (List ℕ)) (old certs : List Cert) (x : Place) → Filled (theorem_at before theorem) pattern entries x.context certs →
+licensed_by_choice : (before : List StatementView) (theorem : ℕ) (pattern entries : List (Option Obj)) (names : List (List ℕ)) (old certs : List Cert) (x : StateBefore) → Filled (theorem_at before theorem) pattern entries x.context certs →
     IsLicensedStep before (ApplyStep theorem pattern names old) x (ApplyStep theorem entries names certs) (after_apply (theorem_at before theorem) (args_written entries) names x)
 unfolding placed_steps bare_script filled_by names_of_steps step_script has_certs_of
 licensed_by_choice before theorem pattern entries names old certs x h =
@@ -130,7 +130,7 @@ licensed_by_choice before theorem pattern entries names old certs x h =
           (and_from (fills entries args) (are_arguments t s args) h.fill (choice_fits t s pattern args h.least.good.is_choice)))
           (and_from _ _ h.certified h.no_blank);
       erased = λ rest more e. ap₂ (λ es w. Apply theorem es names [] w) (sym h.again) e;
-      written = λ more k. and_from _ _ h.good_certs k;
+      version = λ more k. and_from _ _ h.good_certs k;
       next = λ rest more goal. refl;
       derived_next = λ more goal. refl;
       named = λ rest. refl;
@@ -143,20 +143,20 @@ filled_of_use t pattern x u h =
     record {
       least = subst (IsLeastChoice t x.scope x.facts pattern) (sym same) h.least;
       certified = subst (λ os. certify_all x.scope x.facts (needs_of_use t os x.scope) u.certs.items ≡ true) (sym same) h.certified;
-      good_certs = h.written;
+      good_certs = h.version;
       no_blank = no_blank_again u.args;
       fill = subst (λ os. fills (filled_in u.args) os ≡ true) (sym same) (fills_again u.args);
       again = ap filled_in same;
     }
 
-licensed_by_use : (before : List StatementView) (theorem : ℕ) (pattern : List (Option Obj)) (names : List (List ℕ)) (old : List Cert) (x : Place) (u : Use) → IsUse (theorem_at before theorem) pattern x.context u →
+licensed_by_use : (before : List StatementView) (theorem : ℕ) (pattern : List (Option Obj)) (names : List (List ℕ)) (old : List Cert) (x : StateBefore) (u : Use) → IsUse (theorem_at before theorem) pattern x.context u →
     IsLicensedStep before (ApplyStep theorem pattern names old) x (ApplyStep theorem (filled_in u.args) names u.certs.items) (after_apply (theorem_at before theorem) u.args names x)
 licensed_by_use before theorem pattern names old x u h =
     let t = theorem_at before theorem in
     subst (λ os. IsLicensedStep before (ApplyStep theorem pattern names old) x (ApplyStep theorem (filled_in u.args) names u.certs.items) (after_apply t os names x)) (written_again u.args)
     (licensed_by_choice before theorem pattern (filled_in u.args) names old u.certs.items x (filled_of_use t pattern x.context u h))
 
-pub licensed_apply : (before : List StatementView) (theorem : ℕ) (pattern entries : List (Option Obj)) (names kept : List (List ℕ)) (old certs : List Cert) (t : StatementView) (x after : Place) (u : Use) → theorem_at before theorem ≡ t →
+pub licensed_apply : (before : List StatementView) (theorem : ℕ) (pattern entries : List (Option Obj)) (names kept : List (List ℕ)) (old certs : List Cert) (t : StatementView) (x after : StateBefore) (u : Use) → theorem_at before theorem ≡ t →
     IsUse t pattern x.context u → entries ≡ filled_in u.args → kept ≡ names → certs ≡ u.certs.items → after ≡ after_apply t u.args names x →
     IsLicensedStep before (ApplyStep theorem pattern names old) x (ApplyStep theorem entries kept certs) after
 licensed_apply before theorem pattern entries names kept old certs t x after u e h a b c d =
@@ -176,62 +176,62 @@ entries_next args i d entries after lt so_far is = is ∙ ap (λ es. es ++ Some 
 -- ---- what stops
 
 -- without blanks: at a given literal
-stops_written : (before : List StatementView) (theorem : ℕ) (pattern : List (Option Obj)) (names : List (List ℕ)) (old : List Cert) (x : Place) (h : StepStop) → has_no_blank pattern ≡ true →
+stops_written : (before : List StatementView) (theorem : ℕ) (pattern : List (Option Obj)) (names : List (List ℕ)) (old : List Cert) (x : StateBefore) (h : StopReason) → has_no_blank pattern ≡ true →
     StepStopsAmong x.context (needs_of_use (theorem_at before theorem) (args_written pattern) x.context.scope) h → IsStopOfStep before (ApplyStep theorem pattern names old) x h
 unfolding step_script
-stops_written before theorem pattern names old x (step_stop.Lacks (Literal l) values) n k rest filled goal = ((n, k.0), k.1)
-stops_written before theorem pattern names old x (step_stop.Lacks Match values) n k rest filled goal = absurd k
-stops_written before theorem pattern names old x (step_stop.Lacks Contradiction values) n k rest filled goal = absurd k
-stops_written before theorem pattern names old x (step_stop.TooWide (Literal l) width) n k rest filled goal = (n, k.0, k.1)
-stops_written before theorem pattern names old x (step_stop.TooWide Match width) n k rest filled goal = absurd k
-stops_written before theorem pattern names old x (step_stop.TooWide Contradiction width) n k rest filled goal = absurd k
-stops_written before theorem pattern names old x step_stop.NoMemory n k rest filled goal = tt
+stops_written before theorem pattern names old x (stop_reason.Lacks (Literal l) values) n k rest filled goal = ((n, k.0), k.1)
+stops_written before theorem pattern names old x (stop_reason.Lacks Match values) n k rest filled goal = absurd k
+stops_written before theorem pattern names old x (stop_reason.Lacks Contradiction values) n k rest filled goal = absurd k
+stops_written before theorem pattern names old x (stop_reason.TooWide (Literal l) width) n k rest filled goal = (n, k.0, k.1)
+stops_written before theorem pattern names old x (stop_reason.TooWide Match width) n k rest filled goal = absurd k
+stops_written before theorem pattern names old x (stop_reason.TooWide Contradiction width) n k rest filled goal = absurd k
+stops_written before theorem pattern names old x stop_reason.NoMemory n k rest filled goal = tt
 
 -- with blanks: at their filling
-stops_filling : (before : List StatementView) (theorem : ℕ) (pattern : List (Option Obj)) (names : List (List ℕ)) (old : List Cert) (x : Place) (h : StepStop) → has_no_blank pattern ≡ false →
+stops_filling : (before : List StatementView) (theorem : ℕ) (pattern : List (Option Obj)) (names : List (List ℕ)) (old : List Cert) (x : StateBefore) (h : StopReason) → has_no_blank pattern ≡ false →
     StepStopsFilling (theorem_at before theorem) x.context pattern h → IsStopOfStep before (ApplyStep theorem pattern names old) x h
 unfolding step_script
-stops_filling before theorem pattern names old x (step_stop.Lacks (Literal l) values) n k rest filled goal = absurd k
-stops_filling before theorem pattern names old x (step_stop.Lacks Match values) n k rest filled goal = ((n, k.0), k.1)
-stops_filling before theorem pattern names old x (step_stop.Lacks Contradiction values) n k rest filled goal = absurd k
-stops_filling before theorem pattern names old x (step_stop.TooWide (Literal l) width) n k rest filled goal = absurd k
-stops_filling before theorem pattern names old x (step_stop.TooWide Match width) n k rest filled goal = (n, k)
-stops_filling before theorem pattern names old x (step_stop.TooWide Contradiction width) n k rest filled goal = absurd k
-stops_filling before theorem pattern names old x step_stop.NoMemory n k rest filled goal = tt
+stops_filling before theorem pattern names old x (stop_reason.Lacks (Literal l) values) n k rest filled goal = absurd k
+stops_filling before theorem pattern names old x (stop_reason.Lacks Match values) n k rest filled goal = ((n, k.0), k.1)
+stops_filling before theorem pattern names old x (stop_reason.Lacks Contradiction values) n k rest filled goal = absurd k
+stops_filling before theorem pattern names old x (stop_reason.TooWide (Literal l) width) n k rest filled goal = absurd k
+stops_filling before theorem pattern names old x (stop_reason.TooWide Match width) n k rest filled goal = (n, k)
+stops_filling before theorem pattern names old x (stop_reason.TooWide Contradiction width) n k rest filled goal = absurd k
+stops_filling before theorem pattern names old x stop_reason.NoMemory n k rest filled goal = tt
 
-stops_by : (before : List StatementView) (theorem : ℕ) (pattern : List (Option Obj)) (names : List (List ℕ)) (old : List Cert) (x : Place) (h : StepStop) (b : Bool) → has_no_blank pattern ≡ b →
+stops_by : (before : List StatementView) (theorem : ℕ) (pattern : List (Option Obj)) (names : List (List ℕ)) (old : List Cert) (x : StateBefore) (h : StopReason) (b : Bool) → has_no_blank pattern ≡ b →
     MatchBool b (StepStopsAmong x.context (needs_of_use (theorem_at before theorem) (args_written pattern) x.context.scope) h) (StepStopsFilling (theorem_at before theorem) x.context pattern h) →
     IsStopOfStep before (ApplyStep theorem pattern names old) x h
 stops_by before theorem pattern names old x h true n k = stops_written before theorem pattern names old x h n k
 stops_by before theorem pattern names old x h false n k = stops_filling before theorem pattern names old x h n k
 
-pub apply_stops : (before : List StatementView) (theorem : ℕ) (pattern : List (Option Obj)) (names : List (List ℕ)) (old : List Cert) (t : StatementView) (x : Place) (h : StepStop) → theorem_at before theorem ≡ t →
+pub apply_stops : (before : List StatementView) (theorem : ℕ) (pattern : List (Option Obj)) (names : List (List ℕ)) (old : List Cert) (t : StatementView) (x : StateBefore) (h : StopReason) → theorem_at before theorem ≡ t →
     StepStopsApplying t x.context pattern h → IsStopOfStep before (ApplyStep theorem pattern names old) x h
 apply_stops before theorem pattern names old t x h e k =
     stops_by before theorem pattern names old x h (has_no_blank pattern) refl (subst (λ w. StepStopsApplying w x.context pattern h) (sym e) k)
 
 -- without blanks what stops there stops at the application
-pub stops_without : (t : StatementView) (x : Basis) (pattern : List (Option Obj)) (args : List Obj) (h : StepStop) → has_no_blank pattern ≡ true → args ≡ args_written pattern → StepStopsAmong x (needs_of_use t args x.scope) h → StepStopsApplying t x pattern h
+pub stops_without : (t : StatementView) (x : Basis) (pattern : List (Option Obj)) (args : List Obj) (h : StopReason) → has_no_blank pattern ≡ true → args ≡ args_written pattern → StepStopsAmong x (needs_of_use t args x.scope) h → StepStopsApplying t x pattern h
 stops_without t x pattern args h n is k =
     subst (λ b. MatchBool b (StepStopsAmong x (needs_of_use t (args_written pattern) x.scope) h) (StepStopsFilling t x pattern h)) (sym n) (subst (λ os. StepStopsAmong x (needs_of_use t os x.scope) h) is k)
 
 -- at the least good choice no given literal is refused, and one that is too wide is a match that is
-match_stops : (t : StatementView) (x : Basis) (pattern : List (Option Obj)) (args : List Obj) (h : StepStop) → IsLeastChoice t x.scope x.facts pattern args → StepStopsAmong x (needs_of_use t args x.scope) h → StepStopsFilling t x pattern (match_stop h)
-match_stops t x pattern args (step_stop.Lacks (Literal l) values) least k = absurd (none_not_allowed x.scope x.facts (needs_of_use t args x.scope) l least.good.allowed k.0)
-match_stops t x pattern args (step_stop.Lacks Match values) least k = absurd k
-match_stops t x pattern args (step_stop.Lacks Contradiction values) least k = absurd k
-match_stops t x pattern args (step_stop.TooWide (Literal l) width) least k =
+match_stops : (t : StatementView) (x : Basis) (pattern : List (Option Obj)) (args : List Obj) (h : StopReason) → IsLeastChoice t x.scope x.facts pattern args → StepStopsAmong x (needs_of_use t args x.scope) h → StepStopsFilling t x pattern (match_stop h)
+match_stops t x pattern args (stop_reason.Lacks (Literal l) values) least k = absurd (none_not_allowed x.scope x.facts (needs_of_use t args x.scope) l least.good.allowed k.0)
+match_stops t x pattern args (stop_reason.Lacks Match values) least k = absurd k
+match_stops t x pattern args (stop_reason.Lacks Contradiction values) least k = absurd k
+match_stops t x pattern args (stop_reason.TooWide (Literal l) width) least k =
     record { args = args; is_choice = least.good.is_choice; not_above = λ other o. least.least other o.good; lit = l; is_given = k.0; is_wide = k.1 }
-match_stops t x pattern args (step_stop.TooWide Match width) least k = absurd k
-match_stops t x pattern args (step_stop.TooWide Contradiction width) least k = absurd k
-match_stops t x pattern args step_stop.NoMemory least k = tt
+match_stops t x pattern args (stop_reason.TooWide Match width) least k = absurd k
+match_stops t x pattern args (stop_reason.TooWide Contradiction width) least k = absurd k
+match_stops t x pattern args stop_reason.NoMemory least k = tt
 
-pub match_stops_so : (t : StatementView) (x : Basis) (pattern : List (Option Obj)) (args : List Obj) (h k : StepStop) → IsLeastChoice t x.scope x.facts pattern args → StepStopsAmong x (needs_of_use t args x.scope) h → k ≡ match_stop h → StepStopsFilling t x pattern k
+pub match_stops_so : (t : StatementView) (x : Basis) (pattern : List (Option Obj)) (args : List Obj) (h k : StopReason) → IsLeastChoice t x.scope x.facts pattern args → StepStopsAmong x (needs_of_use t args x.scope) h → k ≡ match_stop h → StepStopsFilling t x pattern k
 match_stops_so t x pattern args h k least stops_at is = subst (StepStopsFilling t x pattern) (sym is) (match_stops t x pattern args h least stops_at)
 
 -- ---- what the code says
 
-pub used_is_written : (t : StatementView) (pattern : List (Option Obj)) (x : Basis) (args : List Obj) (r : Result Use StepStop) → has_no_blank pattern ≡ true → is_pattern t x.scope pattern ≡ true → args ≡ args_written pattern →
+pub used_is_written : (t : StatementView) (pattern : List (Option Obj)) (x : Basis) (args : List Obj) (r : Result Use StopReason) → has_no_blank pattern ≡ true → is_pattern t x.scope pattern ≡ true → args ≡ args_written pattern →
     IfOk r (λ u. u.args ≡ args) → IfOk r (λ u. certify_all x.scope x.facts (needs_of_use t args x.scope) u.certs.items ≡ true) → IfOk r (λ u. list_all (is_cert_of version.One) u.certs.items ≡ true) →
     IfOk r (λ u. u.gives ≡ gives_of_use t args x.scope) → IfOk r (IsUse t pattern x)
 used_is_written t pattern x args (Err h) n f is a b g c = tt

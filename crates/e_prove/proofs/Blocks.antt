@@ -21,9 +21,9 @@ use Rattle.e_deriv.specs.declared.stop.Stop.{Stop}
 use Rattle.e_deriv.specs.Script.{Script, Superposed, Cases, script_of, step_script, steps_script, close_script, size}
 use Rattle.e_deriv.specs.Goal.{Goal, goal_of}
 use Rattle.e_deriv.proofs.Scripts.{steps_at, steps_script-append, step_script-Claim, step_script-Superposed, close_script-Cases}
-use Rattle.e_prove.specs.declared.step_stop.StepStop.{StepStop}
-use Rattle.e_prove.specs.declared.place.Place.{Place}
-use Rattle.e_prove.specs.inner.NextPlaces.{after_literal, after_superposed}
+use Rattle.e_prove.specs.declared.stop_reason.StopReason.{StopReason}
+use Rattle.e_prove.specs.declared.state_before.StateBefore.{StateBefore}
+use Rattle.e_prove.specs.inner.NextStates.{after_literal, after_superposed}
 use Rattle.e_prove.specs.inner.StopsOfSteps.{StepStopsAmong, UnlessNoMemory, IsStopOrNoMemory}
 use Rattle.e_prove.specs.inner.PassedSteps.{IsReadyFor, IsReadyStep, IsDerivedFrom, KeepsHeld, StopsWithin, IsPassed, StopsInStep}
 use Rattle.e_prove.proofs.PassedSteps.{passed_none, passed_more, passed_as, stops_first, same_names}
@@ -54,12 +54,12 @@ pub whole : (items seen : List Step) (i : ℕ) (s : Step) (d : Script) → seen 
     steps_script (take i items) (step_script s (steps_script (drop (i + 1) items) d)) ≡ steps_script items d
 whole items seen i s d same lt is = ap (steps_script (take i items)) (sym (steps_at items seen d i s same lt is)) ∙ parts items i d
 
-pub passed_start : (before : List StatementView) (items new : List Step) (x : Place) (n : ℕ) → new ≡ [] → IsPassed before (steps_script (take 0 items)) x n (steps_script new) x n
+pub passed_start : (before : List StatementView) (items new : List Step) (x : StateBefore) (n : ℕ) → new ≡ [] → IsPassed before (steps_script (take 0 items)) x n (steps_script new) x n
 passed_start before items new x n e =
     passed_as before (λ d. d) (λ d. d) (steps_script (take 0 items)) (steps_script new) x x n n (λ d. refl) (λ d. ap (λ xs. steps_script xs d) (sym e))
     (passed_none before x n refl)
 
-pub step_ready : (before : List StatementView) (items seen done : List Step) (close : Script) (i : ℕ) (s : Step) (x y : Place) (goal : Goal) (first n : ℕ) → seen ≡ items → i < length seen → s ≡ get_or seen i s →
+pub step_ready : (before : List StatementView) (items seen done : List Step) (close : Script) (i : ℕ) (s : Step) (x y : StateBefore) (goal : Goal) (first n : ℕ) → seen ≡ items → i < length seen → s ≡ get_or seen i s →
     IsPassed before (steps_script (take i items)) x first (steps_script done) y n → IsReadyFor before (steps_script items close) x goal → first + size (steps_script items close) < 2 ^ 32 → IsReadyStep before s y n
 step_ready before items seen done close i s x y goal first n same lt is p r few =
     let left = steps_script (drop (i + 1) items) close in
@@ -73,7 +73,7 @@ step_ready before items seen done close i s x y goal first n same lt is p r few 
       few = omega (arith, count, size_is, few);
     }
 
-pub step_stops : (before : List StatementView) (items seen done : List Step) (close : Script) (i : ℕ) (s : Step) (x y : Place) (goal : Goal) (first n : ℕ) (t : Stop) → seen ≡ items → i < length seen → s ≡ get_or seen i s →
+pub step_stops : (before : List StatementView) (items seen done : List Step) (close : Script) (i : ℕ) (s : Step) (x y : StateBefore) (goal : Goal) (first n : ℕ) (t : Stop) → seen ≡ items → i < length seen → s ≡ get_or seen i s →
     IsPassed before (steps_script (take i items)) x first (steps_script done) y n → IsReadyFor before (steps_script items close) x goal → StopsInStep before s y n t → StopsWithin before (steps_script items close) x goal first t
 step_stops before items seen done close i s x y goal first n t same lt is p r k =
     let left = steps_script (drop (i + 1) items) close in
@@ -81,7 +81,7 @@ step_stops before items seen done close i s x y goal first n t same lt is p r k 
     let ready = subst (λ d. IsReadyFor before d x goal) (sym e) r in
     subst (λ d. StopsWithin before d x goal first t) e (p.stops (step_script s left) goal t ready (k left goal (p.ready (step_script s left) goal ready)).0)
 
-pub step_passed : (before : List StatementView) (items seen done grown : List Step) (i : ℕ) (s d : Step) (x y z : Place) (first n m : ℕ) → seen ≡ items → i < length seen → s ≡ get_or seen i s → grown ≡ done ++ d ∷ [] →
+pub step_passed : (before : List StatementView) (items seen done grown : List Step) (i : ℕ) (s d : Step) (x y z : StateBefore) (first n m : ℕ) → seen ≡ items → i < length seen → s ≡ get_or seen i s → grown ≡ done ++ d ∷ [] →
     IsPassed before (steps_script (take i items)) x first (steps_script done) y n → IsPassed before (step_script s) y n (step_script d) z m →
     IsPassed before (steps_script (take (i + 1) items)) x first (steps_script grown) z m
 step_passed before items seen done grown i s d x y z first n m same lt is more p q =
@@ -96,40 +96,40 @@ all_taken items seen i d same le =
     let e : take i seen ≡ seen = grind (arith, common_steps) in
     ap (λ xs. steps_script xs d) (subst (λ xs. take i xs ≡ xs) same e)
 
-pub close_ready : (before : List StatementView) (items seen done : List Step) (close : Script) (i : ℕ) (x y : Place) (goal : Goal) (first n : ℕ) → seen ≡ items → length seen ≤ i →
+pub close_ready : (before : List StatementView) (items seen done : List Step) (close : Script) (i : ℕ) (x y : StateBefore) (goal : Goal) (first n : ℕ) → seen ≡ items → length seen ≤ i →
     IsPassed before (steps_script (take i items)) x first (steps_script done) y n → IsReadyFor before (steps_script items close) x goal → IsReadyFor before close y goal
 close_ready before items seen done close i x y goal first n same le p r =
     p.ready close goal (subst (λ d. IsReadyFor before d x goal) (sym (all_taken items seen i close same le)) r)
 
-pub close_few : (before : List StatementView) (items seen done : List Step) (close : Script) (i : ℕ) (x y : Place) (first n : ℕ) → seen ≡ items → length seen ≤ i →
+pub close_few : (before : List StatementView) (items seen done : List Step) (close : Script) (i : ℕ) (x y : StateBefore) (first n : ℕ) → seen ≡ items → length seen ≤ i →
     IsPassed before (steps_script (take i items)) x first (steps_script done) y n → first + size (steps_script items close) ≡ n + size close
 close_few before items seen done close i x y first n same le p =
     ap (λ d. first + size d) (sym (all_taken items seen i close same le)) ∙ p.number close
 
-pub close_derived : (before : List StatementView) (items seen done : List Step) (close derived : Script) (i : ℕ) (x y : Place) (goal : Goal) (first n : ℕ) → seen ≡ items → length seen ≤ i →
+pub close_derived : (before : List StatementView) (items seen done : List Step) (close derived : Script) (i : ℕ) (x y : StateBefore) (goal : Goal) (first n : ℕ) → seen ≡ items → length seen ≤ i →
     IsPassed before (steps_script (take i items)) x first (steps_script done) y n → IsReadyFor before (steps_script items close) x goal → IsDerivedFrom before close y goal derived →
     IsDerivedFrom before (steps_script items close) x goal (steps_script done derived)
 close_derived before items seen done close derived i x y goal first n same le p r d =
     let e = all_taken items seen i close same le in
     subst (λ w. IsDerivedFrom before w x goal (steps_script done derived)) e (p.derives close derived goal (subst (λ w. IsReadyFor before w x goal) (sym e) r) d)
 
-pub close_stops : (before : List StatementView) (items seen done : List Step) (close : Script) (i : ℕ) (x y : Place) (goal : Goal) (first n : ℕ) (t : Stop) → seen ≡ items → length seen ≤ i →
+pub close_stops : (before : List StatementView) (items seen done : List Step) (close : Script) (i : ℕ) (x y : StateBefore) (goal : Goal) (first n : ℕ) (t : Stop) → seen ≡ items → length seen ≤ i →
     IsPassed before (steps_script (take i items)) x first (steps_script done) y n → IsReadyFor before (steps_script items close) x goal → StopsWithin before close y goal n t → StopsWithin before (steps_script items close) x goal first t
 close_stops before items seen done close i x y goal first n t same le p r k =
     let e = all_taken items seen i close same le in
     subst (λ w. StopsWithin before w x goal first t) e (p.stops close goal t (subst (λ w. IsReadyFor before w x goal) (sym e) r) k)
 
-pub kept_on : (x y z : Place) → KeepsHeld x y → KeepsHeld y z → KeepsHeld x z
+pub kept_on : (x y z : StateBefore) → KeepsHeld x y → KeepsHeld y z → KeepsHeld x z
 kept_on x y z h k = k ∙ h
 
 -- ---- blocks that are left
 
-pub kept_literal : (lit : Lit) (x y z : Place) → y ≡ after_literal lit x → KeepsHeld y z → KeepsHeld x z
+pub kept_literal : (lit : Lit) (x y z : StateBefore) → y ≡ after_literal lit x → KeepsHeld y z → KeepsHeld x z
 kept_literal lit x y z e k = k ∙ ap (λ w. w.context.held) e
 
 -- ---- a claim
 
-pub claim_stopped : (before : List StatementView) (step : Step) (shown : List Lit) (inner : Box Block Global) (x : Place) (n : ℕ) (t : Stop) → step ≡ ClaimStep shown inner → ClaimReady before shown (script_of inner.value) x →
+pub claim_stopped : (before : List StatementView) (step : Step) (shown : List Lit) (inner : Box Block Global) (x : StateBefore) (n : ℕ) (t : Stop) → step ≡ ClaimStep shown inner → ClaimReady before shown (script_of inner.value) x →
     StopsWithin before (script_of inner.value) x (goal_of shown) (n + 1) t → StopsInStep before step x n t
 claim_stopped before step shown inner x n t is ready k rest goal r =
     let same = ap (λ s. step_script s rest) is ∙ step_script-Claim shown inner rest in
@@ -140,7 +140,7 @@ claim_stopped before step shown inner x n t is ready k rest goal r =
 
 -- ---- a superposition
 
-pub superposed_stopped : (before : List StatementView) (step : Step) (superposition : Superpose) (names : List (List ℕ)) (shown : List Lit) (written certs : List Cert) (inner : Box Block Global) (x : Place) (n : ℕ) (t : Stop) →
+pub superposed_stopped : (before : List StatementView) (step : Step) (superposition : Superpose) (names : List (List ℕ)) (shown : List Lit) (written certs : List Cert) (inner : Box Block Global) (x : StateBefore) (n : ℕ) (t : Stop) →
     step ≡ SuperposedStep superposition names shown written inner → SuperposedReady before superposition names shown (script_of inner.value) x → Certifies superposition x certs →
     StopsWithin before (script_of inner.value) (after_superposed superposition names x) (goal_of shown) (n + 1) t → StopsInStep before step x n t
 superposed_stopped before step superposition names shown written certs inner x n t is ready cs k rest goal r =
@@ -152,7 +152,7 @@ superposed_stopped before step superposition names shown written certs inner x n
           (stop_within before (script_of inner.value) (after_superposed superposition names x) (goal_of shown) (n + 1) t k),
     )
 
-pub superposed_refused : (before : List StatementView) (step : Step) (superposition : Superpose) (names : List (List ℕ)) (shown : List Lit) (written : List Cert) (inner : Box Block Global) (x after : Place) (n : ℕ) (h : StepStop) (t : Stop) →
+pub superposed_refused : (before : List StatementView) (step : Step) (superposition : Superpose) (names : List (List ℕ)) (shown : List Lit) (written : List Cert) (inner : Box Block Global) (x after : StateBefore) (n : ℕ) (h : StopReason) (t : Stop) →
     step ≡ SuperposedStep superposition names shown written inner → StepStopsAmong x.context (superposing.needs_of_superposition superposition) h → UnlessNoMemory (after.names ≡ x.names) h → IsStopOrNoMemory h n after.names t → StopsInStep before step x n t
 superposed_refused before step superposition names shown written inner x after n h t is k m e rest goal r =
     let here = Superposed superposition names shown written (script_of inner.value) rest in
@@ -165,13 +165,13 @@ superposed_refused before step superposition names shown written inner x after n
 
 -- ---- a split
 
-pub split_parts : (before : List StatementView) (close : Close) (lit : Lit) (first second : Box Block Global) (x : Place) (goal : Goal) → close ≡ CasesClose lit first second → IsReadyFor before (close_script close) x goal →
+pub split_parts : (before : List StatementView) (close : Close) (lit : Lit) (first second : Box Block Global) (x : StateBefore) (goal : Goal) → close ≡ CasesClose lit first second → IsReadyFor before (close_script close) x goal →
     SplitReady before lit (script_of first.value) x goal
 split_parts before close lit first second x goal is r =
     split_ready before lit (script_of first.value) (script_of second.value) x goal (subst (λ d. IsReadyFor before d x goal) (ap close_script is ∙ close_script-Cases lit first second) r)
 
 -- the second block, where the first is derived
-pub split_second_ready : (before : List StatementView) (close : Close) (lit : Lit) (first second : Box Block Global) (derived : Script) (x : Place) (goal : Goal) → close ≡ CasesClose lit first second →
+pub split_second_ready : (before : List StatementView) (close : Close) (lit : Lit) (first second : Box Block Global) (derived : Script) (x : StateBefore) (goal : Goal) → close ≡ CasesClose lit first second →
     IsDerivedFrom before (script_of first.value) (after_literal lit x) goal derived → IsReadyFor before (close_script close) x goal → IsReadyFor before (script_of second.value) (after_literal (negation lit) x) goal
 split_second_ready before close lit first second derived x goal is d r =
     split_other before lit (script_of first.value) (script_of second.value) derived x goal d (subst (λ w. IsReadyFor before w x goal) (ap close_script is ∙ close_script-Cases lit first second) r)
@@ -180,7 +180,7 @@ pub split_size : (close : Close) (lit : Lit) (first second : Box Block Global) �
 split_size close lit first second is =
     ap size (ap close_script is ∙ close_script-Cases lit first second) ∙ size_split lit (script_of first.value) (script_of second.value)
 
-pub split_derived : (before : List StatementView) (close : Close) (lit : Lit) (first second : Box Block Global) (one other : Block) (derived : Close) (x : Place) (goal : Goal) → close ≡ CasesClose lit first second →
+pub split_derived : (before : List StatementView) (close : Close) (lit : Lit) (first second : Box Block Global) (one other : Block) (derived : Close) (x : StateBefore) (goal : Goal) → close ≡ CasesClose lit first second →
     SplitReady before lit (script_of first.value) x goal → IsDerivedFrom before (script_of first.value) (after_literal lit x) goal (script_of one) →
     IsDerivedFrom before (script_of second.value) (after_literal (negation lit) x) goal (script_of other) → close_script derived ≡ Cases lit (script_of one) (script_of other) →
     IsDerivedFrom before (close_script close) x goal (close_script derived)
@@ -189,13 +189,13 @@ split_derived before close lit first second one other derived x goal is ready d 
     (subst (IsDerivedFrom before (Cases lit (script_of first.value) (script_of second.value)) x goal) (sym a)
     (split_derives before lit (script_of first.value) (script_of second.value) (script_of one) (script_of other) x goal ready.over d e))
 
-pub split_stops_first : (before : List StatementView) (close : Close) (lit : Lit) (first second : Box Block Global) (x : Place) (goal : Goal) (n : ℕ) (t : Stop) → close ≡ CasesClose lit first second →
+pub split_stops_first : (before : List StatementView) (close : Close) (lit : Lit) (first second : Box Block Global) (x : StateBefore) (goal : Goal) (n : ℕ) (t : Stop) → close ≡ CasesClose lit first second →
     SplitReady before lit (script_of first.value) x goal → StopsWithin before (script_of first.value) (after_literal lit x) goal (n + 1) t → StopsWithin before (close_script close) x goal n t
 split_stops_first before close lit first second x goal n t is ready k =
     subst (λ w. StopsWithin before w x goal n t) (sym (ap close_script is ∙ close_script-Cases lit first second))
     (split_first before lit (script_of first.value) (script_of second.value) x goal n t ready.over k)
 
-pub split_stops_second : (before : List StatementView) (close : Close) (lit : Lit) (first second : Box Block Global) (one : Block) (x : Place) (goal : Goal) (n next : ℕ) (t : Stop) → close ≡ CasesClose lit first second →
+pub split_stops_second : (before : List StatementView) (close : Close) (lit : Lit) (first second : Box Block Global) (one : Block) (x : StateBefore) (goal : Goal) (n next : ℕ) (t : Stop) → close ≡ CasesClose lit first second →
     SplitReady before lit (script_of first.value) x goal → IsDerivedFrom before (script_of first.value) (after_literal lit x) goal (script_of one) → next ≡ n + 1 + size (script_of first.value) →
     StopsWithin before (script_of second.value) (after_literal (negation lit) x) goal next t → StopsWithin before (close_script close) x goal n t
 split_stops_second before close lit first second one x goal n next t is ready d count k =

@@ -22,15 +22,15 @@ use Rattle.e_licence.specs.Licences.{IsCertifiedAgainst, IsConsistentBy, IsAnswe
 use Rattle.e_deriv.specs.declared.block.Close.TheVariants.{Qed as QedClose, Contradiction as ContradictionClose}
 use Rattle.e_deriv.specs.declared.stop.Wanted.TheVariants.{Literal, Match, Contradiction as AContradiction}
 use Rattle.e_deriv.specs.Script.{Qed, close_script, bare_script}
-use Rattle.e_prove.specs.declared.place.Place.{Place}
+use Rattle.e_prove.specs.declared.state_before.StateBefore.{StateBefore}
 use Rattle.e_prove.specs.inner.PassedSteps.{IsReadyFor}
 use Rattle.e_deriv.specs.Goal.{Goal, are_for, goal_with}
 use Rattle.e_deriv.specs.Parts.{filled_by}
 use Rattle.e_deriv.specs.PlacedSteps.{placed_steps}
 use Rattle.e_deriv.specs.Versions.{has_certs_of}
 use Rattle.e_licence.specs.Contexts.{Basis}
-use Rattle.e_prove.specs.declared.step_stop.StepStop.{StepStop}
-use Rattle.e_prove.specs.declared.step_stop.StepStop.TheVariants as step_stop
+use Rattle.e_prove.specs.declared.stop_reason.StopReason.{StopReason}
+use Rattle.e_prove.specs.declared.stop_reason.StopReason.TheVariants as stop_reason
 use Rattle.e_prove.specs.inner.StopsOfSteps.{StepStopsAmong, contradiction_by}
 use Rattle.e_prove.specs.inner.LicensedSteps.{IsLicensedClose, IsStopOfClose}
 
@@ -39,13 +39,13 @@ pub record QedFits (objects : List Obj) (x : Basis) (goal : Goal) : Type 0 where
   pub form : are_for goal x.scope objects ≡ true
   pub lits : are_well_formed_in x.scope (goal_with goal objects) ≡ true
 
-qed_lines : (before : List StatementView) (objects : List Obj) (certs : List Cert) (x : Place) (goal : Goal) → IsReadyFor before (Qed objects certs) x goal → QedFits objects x.context goal
+qed_lines : (before : List StatementView) (objects : List Obj) (certs : List Cert) (x : StateBefore) (goal : Goal) → IsReadyFor before (Qed objects certs) x goal → QedFits objects x.context goal
 unfolding placed_steps
 qed_lines before objects certs x goal r =
     let form = and_left (are_for goal x.context.scope objects) true r.forms in
     record { form = form; lits = ((r.lits (Qed objects certs)).1 form).0 }
 
-pub qed_fits : (before : List StatementView) (objects : List Obj) (certs : List Cert) (x : Place) (goal : Goal) → IsReadyFor before (close_script (QedClose objects certs)) x goal → QedFits objects x.context goal
+pub qed_fits : (before : List StatementView) (objects : List Obj) (certs : List Cert) (x : StateBefore) (goal : Goal) → IsReadyFor before (close_script (QedClose objects certs)) x goal → QedFits objects x.context goal
 unfolding close_script
 qed_fits before objects certs x goal r = qed_lines before objects certs x goal r
 
@@ -57,7 +57,7 @@ closed_by before objects written certs x goal form h g =
       licensed = (record { fits = form; allowed = all_allowed_of_certified x.scope x.facts (goal_with goal objects) certs h; others = tt }, tt);
       certified = and_from _ _ (and_from _ _ form (and_from _ _ h refl)) refl;
       erased = refl;
-      written = g;
+      version = g;
     }
 
 -- a qed of which each literal has its certificate
@@ -67,19 +67,19 @@ pub closed_qed : (before : List StatementView) (objects kept : List Obj) (writte
 closed_qed before objects kept written certs given wanted x goal same these all form h g =
     rw (same, these) (closed_by before objects written certs x goal form (subst (λ ls. certify_all x.scope x.facts ls certs ≡ true) all h) g)
 
-qed_stops_by : (before : List StatementView) (objects : List Obj) (written : List Cert) (x : Basis) (goal : Goal) (h : StepStop) → StepStopsAmong x (goal_with goal objects) h →
+qed_stops_by : (before : List StatementView) (objects : List Obj) (written : List Cert) (x : Basis) (goal : Goal) (h : StopReason) → StepStopsAmong x (goal_with goal objects) h →
     IsStopOfClose before (QedClose objects written) x goal h
 unfolding close_script
-qed_stops_by before objects written x goal (step_stop.Lacks (Literal l) values) k filled = (k.0, k.1)
-qed_stops_by before objects written x goal (step_stop.Lacks Match values) k filled = absurd k
-qed_stops_by before objects written x goal (step_stop.Lacks AContradiction values) k filled = absurd k
-qed_stops_by before objects written x goal (step_stop.TooWide (Literal l) width) k filled = (k.0, k.1)
-qed_stops_by before objects written x goal (step_stop.TooWide Match width) k filled = absurd k
-qed_stops_by before objects written x goal (step_stop.TooWide AContradiction width) k filled = absurd k
-qed_stops_by before objects written x goal step_stop.NoMemory k filled = tt
+qed_stops_by before objects written x goal (stop_reason.Lacks (Literal l) values) k filled = (k.0, k.1)
+qed_stops_by before objects written x goal (stop_reason.Lacks Match values) k filled = absurd k
+qed_stops_by before objects written x goal (stop_reason.Lacks AContradiction values) k filled = absurd k
+qed_stops_by before objects written x goal (stop_reason.TooWide (Literal l) width) k filled = (k.0, k.1)
+qed_stops_by before objects written x goal (stop_reason.TooWide Match width) k filled = absurd k
+qed_stops_by before objects written x goal (stop_reason.TooWide AContradiction width) k filled = absurd k
+qed_stops_by before objects written x goal stop_reason.NoMemory k filled = tt
 
 -- where licensing the literals of its goal stops, the qed does
-pub qed_stops : (before : List StatementView) (objects : List Obj) (written : List Cert) (wanted : List Lit) (x : Basis) (goal : Goal) (h : StepStop) → wanted ≡ goal_with goal objects → StepStopsAmong x wanted h →
+pub qed_stops : (before : List StatementView) (objects : List Obj) (written : List Cert) (wanted : List Lit) (x : Basis) (goal : Goal) (h : StopReason) → wanted ≡ goal_with goal objects → StepStopsAmong x wanted h →
     IsStopOfClose before (QedClose objects written) x goal h
 qed_stops before objects written wanted x goal h all k = qed_stops_by before objects written x goal h (subst (λ ls. StepStopsAmong x ls h) all k)
 
@@ -92,18 +92,18 @@ closed_by_against before written a x goal h =
       licensed = (record { fits = refl; allowed = tt; others = contradictory_of_certified x.scope x.facts a h.certifies }, tt);
       certified = and_from _ _ h.certifies refl;
       erased = refl;
-      written = h.written;
+      version = h.written;
     }
 
 -- facts that do not contradict each other
 contradiction_lacks : (before : List StatementView) (written : Option Against) (x : Basis) (goal : Goal) (values : List (Term × ℕ)) → IsConsistentBy x.facts values →
-    IsStopOfClose before (ContradictionClose written) x goal (step_stop.Lacks AContradiction (Some values))
+    IsStopOfClose before (ContradictionClose written) x goal (stop_reason.Lacks AContradiction (Some values))
 unfolding close_script
 contradiction_lacks before written x goal values h filled = (h.not_contradictory, h.shown)
 
 -- or one that is too wide
 contradiction_wide : (before : List StatementView) (written : Option Against) (x : Basis) (goal : Goal) (width : ℕ) → IsTooWideContradiction x.facts width →
-    IsStopOfClose before (ContradictionClose written) x goal (step_stop.TooWide AContradiction width)
+    IsStopOfClose before (ContradictionClose written) x goal (stop_reason.TooWide AContradiction width)
 unfolding close_script
 contradiction_wide before written x goal width h filled = h
 

@@ -30,11 +30,11 @@ use Rattle.e_deriv.specs.Parts.{filled_by}
 use Rattle.e_deriv.specs.Fitting.{is_small}
 use Rattle.e_deriv.proofs.Agreement.{both_licensed}
 use Rattle.e_deriv.proofs.Stops.{lines_length}
-use Rattle.e_prove.specs.declared.step_stop.StepStop.{StepStop}
-use Rattle.e_prove.specs.declared.step_stop.StepStop.TheVariants as step_stop
+use Rattle.e_prove.specs.declared.stop_reason.StopReason.{StopReason}
+use Rattle.e_prove.specs.declared.stop_reason.StopReason.TheVariants as stop_reason
 use Rattle.e_deriv.specs.declared.stop.Wanted.TheVariants.{Literal, Match, Contradiction}
-use Rattle.e_prove.specs.declared.place.Place.{Place}
-use Rattle.e_prove.specs.inner.NextPlaces.{after_literal, after_superposed, after_block}
+use Rattle.e_prove.specs.declared.state_before.StateBefore.{StateBefore}
+use Rattle.e_prove.specs.inner.NextStates.{after_literal, after_superposed, after_block}
 use Rattle.e_prove.specs.inner.StopsOfSteps.{StepStopsAt, StepStopsAmong}
 use Rattle.e_prove.specs.inner.LicensedSteps.{step_from_basis, fits_here}
 use Rattle.e_prove.specs.inner.PassedSteps.{IsReadyFor, IsDerivedFrom, Arrival, IsReachedIn, ReachesWithin, StopsWithin, IsPassed}
@@ -48,11 +48,11 @@ few_before y = is_small y.scope
 -- ---- a claim
 
 -- what the steps of a claim say of its block and of what comes after it
-pub record ClaimReady (before : List StatementView) (shown : List Lit) (inner : Script) (x : Place) : Type 0 where
+pub record ClaimReady (before : List StatementView) (shown : List Lit) (inner : Script) (x : StateBefore) : Type 0 where
   pub over : are_over x.context.scope shown ≡ true
   pub block : IsReadyFor before inner x (goal_of shown)
 
-pub claim_ready : (before : List StatementView) (shown : List Lit) (inner rest : Script) (x : Place) (goal : Goal) → IsReadyFor before (Claim shown inner rest) x goal → ClaimReady before shown inner x
+pub claim_ready : (before : List StatementView) (shown : List Lit) (inner rest : Script) (x : StateBefore) (goal : Goal) → IsReadyFor before (Claim shown inner rest) x goal → ClaimReady before shown inner x
 unfolding placed_steps
 claim_ready before shown inner rest x goal r =
     let s = x.context.scope in
@@ -71,7 +71,7 @@ claim_ready before shown inner rest x goal r =
       };
     }
 
-pub claim_rest : (before : List StatementView) (shown : List Lit) (inner derived rest : Script) (x : Place) (goal : Goal) → IsDerivedFrom before inner x (goal_of shown) derived → IsReadyFor before (Claim shown inner rest) x goal →
+pub claim_rest : (before : List StatementView) (shown : List Lit) (inner derived rest : Script) (x : StateBefore) (goal : Goal) → IsDerivedFrom before inner x (goal_of shown) derived → IsReadyFor before (Claim shown inner rest) x goal →
     IsReadyFor before rest (after_block shown x) goal
 unfolding placed_steps
 claim_rest before shown inner derived rest x goal d r =
@@ -88,7 +88,7 @@ claim_rest before shown inner derived rest x goal d r =
       statements = r.statements;
     }
 
-claim_derives : (before : List StatementView) (shown : List Lit) (inner derived rest more : Script) (x : Place) (goal : Goal) → are_over x.context.scope shown ≡ true → IsDerivedFrom before inner x (goal_of shown) derived →
+claim_derives : (before : List StatementView) (shown : List Lit) (inner derived rest more : Script) (x : StateBefore) (goal : Goal) → are_over x.context.scope shown ≡ true → IsDerivedFrom before inner x (goal_of shown) derived →
     IsDerivedFrom before rest (after_block shown x) goal more → IsDerivedFrom before (Claim shown inner rest) x goal (Claim shown derived more)
 unfolding placed_steps bare_script filled_by has_certs_of
 claim_derives before shown inner derived rest more x goal over d m =
@@ -103,11 +103,11 @@ claim_derives before shown inner derived rest more x goal over d m =
           and_from _ _ (and_from _ _ over refl)
           (all_both (is_certified before) (placed_steps before derived derived s facts (goal_of shown)) (placed_steps before more more s (with_facts facts shown) goal) d.certified m.certified);
       erased = ap₂ (Claim shown) d.erased m.erased;
-      written = and_from _ _ d.written m.written;
+      version = and_from _ _ d.version m.version;
     }
 
 -- what is found in its block
-pub claim_reaches : (before : List StatementView) (shown : List Lit) (inner rest : Script) (x : Place) (goal : Goal) (n : ℕ) (a : Arrival) (i : ℕ) (seen : Names) → are_over x.context.scope shown ≡ true →
+pub claim_reaches : (before : List StatementView) (shown : List Lit) (inner rest : Script) (x : StateBefore) (goal : Goal) (n : ℕ) (a : Arrival) (i : ℕ) (seen : Names) → are_over x.context.scope shown ≡ true →
     ReachesWithin before inner x (goal_of shown) (n + 1) a i seen → ReachesWithin before (Claim shown inner rest) x goal n a i seen
 unfolding placed_steps names_of_steps
 claim_reaches before shown inner rest x goal n a i seen over k =
@@ -124,13 +124,13 @@ claim_reaches before shown inner rest x goal n a i seen over k =
           (reached_left before one other ns ms (n + 1) a i seen k.reached);
     }
 
-pub claim_stops : (before : List StatementView) (shown : List Lit) (inner rest : Script) (x : Place) (goal : Goal) (n : ℕ) (stop : Stop) → are_over x.context.scope shown ≡ true →
+pub claim_stops : (before : List StatementView) (shown : List Lit) (inner rest : Script) (x : StateBefore) (goal : Goal) (n : ℕ) (stop : Stop) → are_over x.context.scope shown ≡ true →
     StopsWithin before inner x (goal_of shown) (n + 1) stop → StopsWithin before (Claim shown inner rest) x goal n stop
 claim_stops before shown inner rest x goal n stop over k =
     stops_by before inner (Claim shown inner rest) x x (goal_of shown) goal (n + 1) n stop (λ a i seen h. claim_reaches before shown inner rest x goal n a i seen over h) k
 
 -- and after it
-pub claim_reaches_later : (before : List StatementView) (shown : List Lit) (inner derived rest : Script) (x : Place) (goal : Goal) (n next : ℕ) (a : Arrival) (i : ℕ) (seen : Names) → are_over x.context.scope shown ≡ true →
+pub claim_reaches_later : (before : List StatementView) (shown : List Lit) (inner derived rest : Script) (x : StateBefore) (goal : Goal) (n next : ℕ) (a : Arrival) (i : ℕ) (seen : Names) → are_over x.context.scope shown ≡ true →
     IsDerivedFrom before inner x (goal_of shown) derived → next ≡ n + 1 + size inner → ReachesWithin before rest (after_block shown x) goal next a i seen → ReachesWithin before (Claim shown inner rest) x goal n a i seen
 unfolding placed_steps names_of_steps
 claim_reaches_later before shown inner derived rest x goal n next a i seen over d count k =
@@ -148,7 +148,7 @@ claim_reaches_later before shown inner derived rest x goal n next a i seen over 
           (subst (λ m. IsReachedIn before other ms m a i seen) count k.reached));
     }
 
-claim_later : (before : List StatementView) (shown : List Lit) (inner derived rest : Script) (x : Place) (goal : Goal) (n next : ℕ) (stop : Stop) → are_over x.context.scope shown ≡ true →
+claim_later : (before : List StatementView) (shown : List Lit) (inner derived rest : Script) (x : StateBefore) (goal : Goal) (n next : ℕ) (stop : Stop) → are_over x.context.scope shown ≡ true →
     IsDerivedFrom before inner x (goal_of shown) derived → next ≡ n + 1 + size inner → StopsWithin before rest (after_block shown x) goal next stop → StopsWithin before (Claim shown inner rest) x goal n stop
 claim_later before shown inner derived rest x goal n next stop over d count k =
     stops_by before rest (Claim shown inner rest) (after_block shown x) x goal goal next n stop (λ a i seen h. claim_reaches_later before shown inner derived rest x goal n next a i seen over d count h) k
@@ -157,7 +157,7 @@ pub claim_size : (shown : List Lit) (inner rest : Script) → size (Claim shown 
 unfolding size
 claim_size shown inner rest = refl
 
-pub passed_claim : (before : List StatementView) (shown : List Lit) (inner derived : Script) (x : Place) (n next : ℕ) → are_over x.context.scope shown ≡ true → IsDerivedFrom before inner x (goal_of shown) derived →
+pub passed_claim : (before : List StatementView) (shown : List Lit) (inner derived : Script) (x : StateBefore) (n next : ℕ) → are_over x.context.scope shown ≡ true → IsDerivedFrom before inner x (goal_of shown) derived →
     next ≡ n + 1 + size inner → IsPassed before (Claim shown inner) x n (Claim shown derived) (after_block shown x) next
 passed_claim before shown inner derived x n next over d count =
     record {
@@ -172,14 +172,14 @@ passed_claim before shown inner derived x n next over d count =
 -- ---- a superposition
 
 -- what its steps say of it, of its block and of what comes after it
-pub record SuperposedReady (before : List StatementView) (superposition : Superpose) (names : List (List ℕ)) (shown : List Lit) (inner : Script) (x : Place) : Type 0 where
+pub record SuperposedReady (before : List StatementView) (superposition : Superpose) (names : List (List ℕ)) (shown : List Lit) (inner : Script) (x : StateBefore) : Type 0 where
   pub fits : superposing.fits_superposition superposition x.context.scope ≡ true
   pub over : are_over x.context.scope shown ≡ true
   pub needs : are_well_formed_in x.context.scope (superposing.needs_of_superposition superposition) ≡ true
   pub block : IsReadyFor before inner (after_superposed superposition names x) (goal_of shown)
   pub scope : is_small x.context.scope ≡ true
 
-pub superposed_ready : (before : List StatementView) (superposition : Superpose) (names : List (List ℕ)) (shown : List Lit) (certs : List Cert) (inner rest : Script) (x : Place) (goal : Goal) →
+pub superposed_ready : (before : List StatementView) (superposition : Superpose) (names : List (List ℕ)) (shown : List Lit) (certs : List Cert) (inner rest : Script) (x : StateBefore) (goal : Goal) →
     IsReadyFor before (Superposed superposition names shown certs inner rest) x goal → SuperposedReady before superposition names shown inner x
 unfolding placed_steps
 superposed_ready before superposition names shown certs inner rest x goal r =
@@ -205,7 +205,7 @@ superposed_ready before superposition names shown certs inner rest x goal r =
       scope = and_left (few_before y) (list_all few_before (one ++ other)) r.scopes;
     }
 
-pub superposed_rest : (before : List StatementView) (superposition : Superpose) (names : List (List ℕ)) (shown : List Lit) (certs : List Cert) (inner derived rest : Script) (x : Place) (goal : Goal) →
+pub superposed_rest : (before : List StatementView) (superposition : Superpose) (names : List (List ℕ)) (shown : List Lit) (certs : List Cert) (inner derived rest : Script) (x : StateBefore) (goal : Goal) →
     IsDerivedFrom before inner (after_superposed superposition names x) (goal_of shown) derived → IsReadyFor before (Superposed superposition names shown certs inner rest) x goal → IsReadyFor before rest (after_block shown x) goal
 unfolding placed_steps
 superposed_rest before superposition names shown certs inner derived rest x goal d r =
@@ -228,16 +228,16 @@ superposed_rest before superposition names shown certs inner derived rest x goal
     }
 
 -- it is certified where its needs are, by certificates that name literals that are well formed
-abbrev pub Certifies : Superpose → Place → List Cert → Type 0
+abbrev pub Certifies : Superpose → StateBefore → List Cert → Type 0
 Certifies superposition x certs = IsTrue (certify_all x.context.scope x.context.facts (superposing.needs_of_superposition superposition) certs) × IsTrue (list_all (is_cert_of version.One) certs)
 
-superposed_licensed : (before : List StatementView) (superposition : Superpose) (names : List (List ℕ)) (shown : List Lit) (written certs : List Cert) (inner rest f : Script) (x : Place) (goal : Goal) →
+superposed_licensed : (before : List StatementView) (superposition : Superpose) (names : List (List ℕ)) (shown : List Lit) (written certs : List Cert) (inner rest f : Script) (x : StateBefore) (goal : Goal) →
     superposing.fits_superposition superposition x.context.scope ≡ true → are_over x.context.scope shown ≡ true → Certifies superposition x certs →
     Licensed before (step_from_basis (Superposed superposition names shown written inner rest) f x.context goal)
 superposed_licensed before superposition names shown written certs inner rest f x goal fit over c =
     record { fits = and_from _ _ fit over; allowed = all_allowed_of_certified x.context.scope x.context.facts (superposing.needs_of_superposition superposition) certs c.0; others = tt }
 
-superposed_derives : (before : List StatementView) (superposition : Superpose) (names : List (List ℕ)) (shown : List Lit) (written certs : List Cert) (inner derived rest more : Script) (x : Place) (goal : Goal) →
+superposed_derives : (before : List StatementView) (superposition : Superpose) (names : List (List ℕ)) (shown : List Lit) (written certs : List Cert) (inner derived rest more : Script) (x : StateBefore) (goal : Goal) →
     superposing.fits_superposition superposition x.context.scope ≡ true → are_over x.context.scope shown ≡ true → Certifies superposition x certs → IsDerivedFrom before inner (after_superposed superposition names x) (goal_of shown) derived →
     IsDerivedFrom before rest (after_block shown x) goal more → IsDerivedFrom before (Superposed superposition names shown written inner rest) x goal (Superposed superposition names shown certs derived more)
 unfolding placed_steps bare_script filled_by has_certs_of
@@ -255,11 +255,11 @@ superposed_derives before superposition names shown written certs inner derived 
           and_from _ _ (and_from _ _ (and_from _ _ fit over) (and_from _ _ c.0 refl))
           (all_both (is_certified before) (placed_steps before derived derived t given (goal_of shown)) (placed_steps before more more s (with_facts facts shown) goal) d.certified m.certified);
       erased = ap₂ (Superposed superposition names shown []) d.erased m.erased;
-      written = and_from _ _ c.1 (and_from _ _ d.written m.written);
+      version = and_from _ _ c.1 (and_from _ _ d.version m.version);
     }
 
 -- what is found in its block, and after it
-pub superposed_reaches : (before : List StatementView) (superposition : Superpose) (names : List (List ℕ)) (shown : List Lit) (written certs : List Cert) (inner rest : Script) (x : Place) (goal : Goal) (n : ℕ) (a : Arrival) (i : ℕ) (seen : Names) →
+pub superposed_reaches : (before : List StatementView) (superposition : Superpose) (names : List (List ℕ)) (shown : List Lit) (written certs : List Cert) (inner rest : Script) (x : StateBefore) (goal : Goal) (n : ℕ) (a : Arrival) (i : ℕ) (seen : Names) →
     superposing.fits_superposition superposition x.context.scope ≡ true → are_over x.context.scope shown ≡ true → Certifies superposition x certs →
     ReachesWithin before inner (after_superposed superposition names x) (goal_of shown) (n + 1) a i seen → ReachesWithin before (Superposed superposition names shown written inner rest) x goal n a i seen
 unfolding placed_steps names_of_steps
@@ -280,13 +280,13 @@ superposed_reaches before superposition names shown written certs inner rest x g
           (superposed_licensed before superposition names shown written certs inner rest f x goal fit over c) (reached_left before one other ns ms (n + 1) a i seen k.reached);
     }
 
-pub superposed_stops : (before : List StatementView) (superposition : Superpose) (names : List (List ℕ)) (shown : List Lit) (written certs : List Cert) (inner rest : Script) (x : Place) (goal : Goal) (n : ℕ) (stop : Stop) →
+pub superposed_stops : (before : List StatementView) (superposition : Superpose) (names : List (List ℕ)) (shown : List Lit) (written certs : List Cert) (inner rest : Script) (x : StateBefore) (goal : Goal) (n : ℕ) (stop : Stop) →
     superposing.fits_superposition superposition x.context.scope ≡ true → are_over x.context.scope shown ≡ true → Certifies superposition x certs →
     StopsWithin before inner (after_superposed superposition names x) (goal_of shown) (n + 1) stop → StopsWithin before (Superposed superposition names shown written inner rest) x goal n stop
 superposed_stops before superposition names shown written certs inner rest x goal n stop fit over c k =
     stops_by before inner (Superposed superposition names shown written inner rest) (after_superposed superposition names x) x (goal_of shown) goal (n + 1) n stop (λ a i seen h. superposed_reaches before superposition names shown written certs inner rest x goal n a i seen fit over c h) k
 
-pub superposed_reaches_later : (before : List StatementView) (superposition : Superpose) (names : List (List ℕ)) (shown : List Lit) (written certs : List Cert) (inner derived rest : Script) (x : Place) (goal : Goal) (n next : ℕ) (a : Arrival) (i : ℕ) (seen : Names) →
+pub superposed_reaches_later : (before : List StatementView) (superposition : Superpose) (names : List (List ℕ)) (shown : List Lit) (written certs : List Cert) (inner derived rest : Script) (x : StateBefore) (goal : Goal) (n next : ℕ) (a : Arrival) (i : ℕ) (seen : Names) →
     superposing.fits_superposition superposition x.context.scope ≡ true → are_over x.context.scope shown ≡ true → Certifies superposition x certs → IsDerivedFrom before inner (after_superposed superposition names x) (goal_of shown) derived →
     next ≡ n + 1 + size inner → ReachesWithin before rest (after_block shown x) goal next a i seen → ReachesWithin before (Superposed superposition names shown written inner rest) x goal n a i seen
 unfolding placed_steps names_of_steps
@@ -310,7 +310,7 @@ superposed_reaches_later before superposition names shown written certs inner de
           (subst (λ m. IsReachedIn before other ms m a i seen) count k.reached));
     }
 
-superposed_later : (before : List StatementView) (superposition : Superpose) (names : List (List ℕ)) (shown : List Lit) (written certs : List Cert) (inner derived rest : Script) (x : Place) (goal : Goal) (n next : ℕ) (stop : Stop) →
+superposed_later : (before : List StatementView) (superposition : Superpose) (names : List (List ℕ)) (shown : List Lit) (written certs : List Cert) (inner derived rest : Script) (x : StateBefore) (goal : Goal) (n next : ℕ) (stop : Stop) →
     superposing.fits_superposition superposition x.context.scope ≡ true → are_over x.context.scope shown ≡ true → Certifies superposition x certs → IsDerivedFrom before inner (after_superposed superposition names x) (goal_of shown) derived →
     next ≡ n + 1 + size inner → StopsWithin before rest (after_block shown x) goal next stop → StopsWithin before (Superposed superposition names shown written inner rest) x goal n stop
 superposed_later before superposition names shown written certs inner derived rest x goal n next stop fit over c d count k =
@@ -320,7 +320,7 @@ pub superposed_size : (superposition : Superpose) (names : List (List ℕ)) (sho
 unfolding size
 superposed_size superposition names shown certs inner rest = refl
 
-pub passed_superposed : (before : List StatementView) (superposition : Superpose) (names : List (List ℕ)) (shown : List Lit) (written certs : List Cert) (inner derived : Script) (x : Place) (n next : ℕ) →
+pub passed_superposed : (before : List StatementView) (superposition : Superpose) (names : List (List ℕ)) (shown : List Lit) (written certs : List Cert) (inner derived : Script) (x : StateBefore) (n next : ℕ) →
     superposing.fits_superposition superposition x.context.scope ≡ true → are_over x.context.scope shown ≡ true → Certifies superposition x certs → IsDerivedFrom before inner (after_superposed superposition names x) (goal_of shown) derived →
     next ≡ n + 1 + size inner → IsPassed before (Superposed superposition names shown written inner) x n (Superposed superposition names shown certs derived) (after_block shown x) next
 passed_superposed before superposition names shown written certs inner derived x n next fit over c d count =
@@ -334,23 +334,23 @@ passed_superposed before superposition names shown written certs inner derived x
     }
 
 -- what stops at its needs
-pub superposed_step_stops : (before : List StatementView) (superposition : Superpose) (names : List (List ℕ)) (shown : List Lit) (written : List Cert) (inner rest f : Script) (x : Place) (goal : Goal) (h : StepStop) → StepStopsAmong x.context (superposing.needs_of_superposition superposition) h →
+pub superposed_step_stops : (before : List StatementView) (superposition : Superpose) (names : List (List ℕ)) (shown : List Lit) (written : List Cert) (inner rest f : Script) (x : StateBefore) (goal : Goal) (h : StopReason) → StepStopsAmong x.context (superposing.needs_of_superposition superposition) h →
     StepStopsAt before (step_from_basis (Superposed superposition names shown written inner rest) f x.context goal) h
-superposed_step_stops before superposition names shown written inner rest f x goal (step_stop.Lacks (Literal l) values) k = k
-superposed_step_stops before superposition names shown written inner rest f x goal (step_stop.Lacks Match values) k = absurd k
-superposed_step_stops before superposition names shown written inner rest f x goal (step_stop.Lacks Contradiction values) k = absurd k
-superposed_step_stops before superposition names shown written inner rest f x goal (step_stop.TooWide (Literal l) width) k = k
-superposed_step_stops before superposition names shown written inner rest f x goal (step_stop.TooWide Match width) k = absurd k
-superposed_step_stops before superposition names shown written inner rest f x goal (step_stop.TooWide Contradiction width) k = absurd k
-superposed_step_stops before superposition names shown written inner rest f x goal step_stop.NoMemory k = tt
+superposed_step_stops before superposition names shown written inner rest f x goal (stop_reason.Lacks (Literal l) values) k = k
+superposed_step_stops before superposition names shown written inner rest f x goal (stop_reason.Lacks Match values) k = absurd k
+superposed_step_stops before superposition names shown written inner rest f x goal (stop_reason.Lacks Contradiction values) k = absurd k
+superposed_step_stops before superposition names shown written inner rest f x goal (stop_reason.TooWide (Literal l) width) k = k
+superposed_step_stops before superposition names shown written inner rest f x goal (stop_reason.TooWide Match width) k = absurd k
+superposed_step_stops before superposition names shown written inner rest f x goal (stop_reason.TooWide Contradiction width) k = absurd k
+superposed_step_stops before superposition names shown written inner rest f x goal stop_reason.NoMemory k = tt
 
 -- ---- a split
 
-pub record SplitReady (before : List StatementView) (lit : Lit) (first : Script) (x : Place) (goal : Goal) : Type 0 where
+pub record SplitReady (before : List StatementView) (lit : Lit) (first : Script) (x : StateBefore) (goal : Goal) : Type 0 where
   pub over : all_in_scope x.context.scope lit ≡ true
   pub one : IsReadyFor before first (after_literal lit x) goal
 
-pub split_ready : (before : List StatementView) (lit : Lit) (first second : Script) (x : Place) (goal : Goal) → IsReadyFor before (Cases lit first second) x goal → SplitReady before lit first x goal
+pub split_ready : (before : List StatementView) (lit : Lit) (first second : Script) (x : StateBefore) (goal : Goal) → IsReadyFor before (Cases lit first second) x goal → SplitReady before lit first x goal
 unfolding placed_steps
 split_ready before lit first second x goal r =
     let s = x.context.scope in
@@ -370,7 +370,7 @@ split_ready before lit first second x goal r =
     }
 
 -- the second block, where the first is derived
-pub split_other : (before : List StatementView) (lit : Lit) (first second derived : Script) (x : Place) (goal : Goal) → IsDerivedFrom before first (after_literal lit x) goal derived → IsReadyFor before (Cases lit first second) x goal →
+pub split_other : (before : List StatementView) (lit : Lit) (first second derived : Script) (x : StateBefore) (goal : Goal) → IsDerivedFrom before first (after_literal lit x) goal derived → IsReadyFor before (Cases lit first second) x goal →
     IsReadyFor before second (after_literal (negation lit) x) goal
 unfolding placed_steps
 split_other before lit first second derived x goal d r =
@@ -387,7 +387,7 @@ split_other before lit first second derived x goal d r =
       statements = r.statements;
     }
 
-pub split_derives : (before : List StatementView) (lit : Lit) (first second one other : Script) (x : Place) (goal : Goal) → all_in_scope x.context.scope lit ≡ true → IsDerivedFrom before first (after_literal lit x) goal one →
+pub split_derives : (before : List StatementView) (lit : Lit) (first second one other : Script) (x : StateBefore) (goal : Goal) → all_in_scope x.context.scope lit ≡ true → IsDerivedFrom before first (after_literal lit x) goal one →
     IsDerivedFrom before second (after_literal (negation lit) x) goal other → IsDerivedFrom before (Cases lit first second) x goal (Cases lit one other)
 unfolding placed_steps bare_script filled_by has_certs_of
 split_derives before lit first second one other x goal over d e =
@@ -402,11 +402,11 @@ split_derives before lit first second one other x goal over d e =
           and_from _ _ (and_from _ _ over refl)
           (all_both (is_certified before) (placed_steps before one one s (with_fact facts lit) goal) (placed_steps before other other s (with_fact facts (negation lit)) goal) d.certified e.certified);
       erased = ap₂ (Cases lit) d.erased e.erased;
-      written = and_from _ _ d.written e.written;
+      version = and_from _ _ d.version e.version;
     }
 
 -- what is found in the first block
-pub split_reaches_first : (before : List StatementView) (lit : Lit) (first second : Script) (x : Place) (goal : Goal) (n : ℕ) (a : Arrival) (i : ℕ) (seen : Names) → all_in_scope x.context.scope lit ≡ true →
+pub split_reaches_first : (before : List StatementView) (lit : Lit) (first second : Script) (x : StateBefore) (goal : Goal) (n : ℕ) (a : Arrival) (i : ℕ) (seen : Names) → all_in_scope x.context.scope lit ≡ true →
     ReachesWithin before first (after_literal lit x) goal (n + 1) a i seen → ReachesWithin before (Cases lit first second) x goal n a i seen
 unfolding placed_steps names_of_steps
 split_reaches_first before lit first second x goal n a i seen over k =
@@ -424,13 +424,13 @@ split_reaches_first before lit first second x goal n a i seen over k =
           (reached_left before one other ns ms (n + 1) a i seen k.reached);
     }
 
-pub split_first : (before : List StatementView) (lit : Lit) (first second : Script) (x : Place) (goal : Goal) (n : ℕ) (stop : Stop) → all_in_scope x.context.scope lit ≡ true →
+pub split_first : (before : List StatementView) (lit : Lit) (first second : Script) (x : StateBefore) (goal : Goal) (n : ℕ) (stop : Stop) → all_in_scope x.context.scope lit ≡ true →
     StopsWithin before first (after_literal lit x) goal (n + 1) stop → StopsWithin before (Cases lit first second) x goal n stop
 split_first before lit first second x goal n stop over k =
     stops_by before first (Cases lit first second) (after_literal lit x) x goal goal (n + 1) n stop (λ a i seen h. split_reaches_first before lit first second x goal n a i seen over h) k
 
 -- and in the second, where the first is derived
-pub split_reaches_second : (before : List StatementView) (lit : Lit) (first second derived : Script) (x : Place) (goal : Goal) (n next : ℕ) (a : Arrival) (i : ℕ) (seen : Names) → all_in_scope x.context.scope lit ≡ true →
+pub split_reaches_second : (before : List StatementView) (lit : Lit) (first second derived : Script) (x : StateBefore) (goal : Goal) (n next : ℕ) (a : Arrival) (i : ℕ) (seen : Names) → all_in_scope x.context.scope lit ≡ true →
     IsDerivedFrom before first (after_literal lit x) goal derived → next ≡ n + 1 + size first → ReachesWithin before second (after_literal (negation lit) x) goal next a i seen →
     ReachesWithin before (Cases lit first second) x goal n a i seen
 unfolding placed_steps names_of_steps
@@ -450,7 +450,7 @@ split_reaches_second before lit first second derived x goal n next a i seen over
           (subst (λ m. IsReachedIn before other ms m a i seen) count k.reached));
     }
 
-pub split_second : (before : List StatementView) (lit : Lit) (first second derived : Script) (x : Place) (goal : Goal) (n next : ℕ) (stop : Stop) → all_in_scope x.context.scope lit ≡ true →
+pub split_second : (before : List StatementView) (lit : Lit) (first second derived : Script) (x : StateBefore) (goal : Goal) (n next : ℕ) (stop : Stop) → all_in_scope x.context.scope lit ≡ true →
     IsDerivedFrom before first (after_literal lit x) goal derived → next ≡ n + 1 + size first → StopsWithin before second (after_literal (negation lit) x) goal next stop →
     StopsWithin before (Cases lit first second) x goal n stop
 split_second before lit first second derived x goal n next stop over d count k =

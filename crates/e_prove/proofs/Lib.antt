@@ -1,6 +1,6 @@
 pub mod LicensedLiterals
 pub mod WrittenCertificates
-pub mod NextPlaces
+pub mod NextStates
 pub mod LicensedSteps
 pub mod Applications
 pub mod StopsInLists

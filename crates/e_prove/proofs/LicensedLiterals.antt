@@ -18,8 +18,8 @@ use Rattle.e_deriv.specs.declared.stop.Wanted.TheVariants.{Literal, Match, Contr
 use Rattle.e_deriv.specs.Refused.{LiteralIsShown}
 use Rattle.e_licence.specs.Contexts.{Basis}
 use Rattle.e_licence.specs.Licences.{IsRefusedBy, IsShownBy}
-use Rattle.e_prove.specs.declared.step_stop.StepStop.{StepStop}
-use Rattle.e_prove.specs.declared.step_stop.StepStop.TheVariants as step_stop
+use Rattle.e_prove.specs.declared.stop_reason.StopReason.{StopReason}
+use Rattle.e_prove.specs.declared.stop_reason.StopReason.TheVariants as stop_reason
 use Rattle.e_prove.specs.inner.StopsOfSteps.{StepStopsAmong}
 
 -- what gives more of a value gives more of a result
@@ -39,7 +39,7 @@ shown facts l (Some values) h = h
 
 -- the one literal is not allowed
 pub one_lacks : (x : Basis) (l : Lit) (w : Wanted) (values : Option (List (Term × ℕ))) → w ≡ Literal l → IsRefusedBy x l values →
-    StepStopsAmong x (l ∷ []) (step_stop.Lacks w values)
+    StepStopsAmong x (l ∷ []) (stop_reason.Lacks w values)
 one_lacks x l w values e h =
     rw e (record { earlier = []; later = []; split = refl; allowed = tt; not_allowed = h.not_allowed }, shown x.facts l values h.shown)
 
@@ -48,7 +48,7 @@ contains_first l ls = (0, omega arith, refl)
 
 -- or it is too wide
 pub one_too_wide : (x : Basis) (l : Lit) (w : Wanted) (width : ℕ) → w ≡ Literal l → IsTooWideLit x.scope x.facts l width →
-    StepStopsAmong x (l ∷ []) (step_stop.TooWide w width)
+    StepStopsAmong x (l ∷ []) (stop_reason.TooWide w width)
 one_too_wide x l w width e h = rw e (contains_first l [], h)
 
 -- ---- literals in order
@@ -89,9 +89,9 @@ only_contained : (l m : Lit) → Contains (l ∷ []) m → m ≡ l
 only_contained l m h = ⊎_elim (λ none. absurd (omega (arith, none.1))) (λ e. sym e) (Contains-push_cases [] l m h)
 
 -- where those before it are certified, what stops at the literal at this place stops at the list
-pub stops_among : (x : Basis) (ls : List Lit) (i : ℕ) (cs : List Cert) (l : Lit) (h : StepStop) →
+pub stops_among : (x : Basis) (ls : List Lit) (i : ℕ) (cs : List Cert) (l : Lit) (h : StopReason) →
     i < length ls → l ≡ get_or ls i l → certify_all x.scope x.facts (take i ls) cs ≡ true → StepStopsAmong x (l ∷ []) h → StepStopsAmong x ls h
-stops_among x ls i cs l (step_stop.Lacks (Literal m) values) lt is before h =
+stops_among x ls i cs l (stop_reason.Lacks (Literal m) values) lt is before h =
     let split : ls ≡ take i ls ++ l ∷ drop (i + 1) ls = grind (arith, common_steps) in
     let same = only_one l m h.0.earlier h.0.later h.0.split in (
       record {
@@ -103,10 +103,10 @@ stops_among x ls i cs l (step_stop.Lacks (Literal m) values) lt is before h =
       },
       h.1,
     )
-stops_among x ls i cs l (step_stop.Lacks Match values) lt is before h = absurd h
-stops_among x ls i cs l (step_stop.Lacks Contradiction values) lt is before h = absurd h
-stops_among x ls i cs l (step_stop.TooWide (Literal m) width) lt is before h =
+stops_among x ls i cs l (stop_reason.Lacks Match values) lt is before h = absurd h
+stops_among x ls i cs l (stop_reason.Lacks Contradiction values) lt is before h = absurd h
+stops_among x ls i cs l (stop_reason.TooWide (Literal m) width) lt is before h =
     (rw (only_contained l m h.0) (i, lt, sym is), h.1)
-stops_among x ls i cs l (step_stop.TooWide Match width) lt is before h = absurd h
-stops_among x ls i cs l (step_stop.TooWide Contradiction width) lt is before h = absurd h
-stops_among x ls i cs l step_stop.NoMemory lt is before h = tt
+stops_among x ls i cs l (stop_reason.TooWide Match width) lt is before h = absurd h
+stops_among x ls i cs l (stop_reason.TooWide Contradiction width) lt is before h = absurd h
+stops_among x ls i cs l stop_reason.NoMemory lt is before h = tt

@@ -20,9 +20,9 @@ use Rattle.e_deriv.specs.Naming.{names_of_steps}
 use Rattle.e_deriv.specs.Licensed.{AllLicensed}
 use Rattle.e_deriv.specs.Certified.{is_certified}
 use Rattle.e_deriv.specs.Fitting.{LitsFit, is_small}
-use Rattle.e_prove.specs.declared.step_stop.StepStop.{StepStop}
-use Rattle.e_prove.specs.declared.step_stop.StepStop.TheVariants as step_stop
-use Rattle.e_prove.specs.declared.place.Place.{Place}
+use Rattle.e_prove.specs.declared.stop_reason.StopReason.{StopReason}
+use Rattle.e_prove.specs.declared.stop_reason.StopReason.TheVariants as stop_reason
+use Rattle.e_prove.specs.declared.state_before.StateBefore.{StateBefore}
 use Rattle.e_prove.specs.inner.StopsOfSteps.{StepStopsAt, UnlessNoMemory, IsStopOrNoMemory, IsStopOfAnswer}
 use Rattle.e_prove.specs.inner.LicensedSteps.{IsLicensedStep, IsStopOfStep, IsLicensedClose, IsStopOfClose, step_from_basis, steps_from_basis, fits_here}
 use Rattle.e_prove.specs.inner.PassedSteps.{IsReadyFor, IsDerivedFrom, KeepsHeld, Arrival, Stands, IsReachedIn, StopIn, ReachesWithin, ReachesStep, StopsWithin, IsPassed, StopsInStep}
@@ -30,10 +30,10 @@ use Rattle.e_prove.proofs.StopsInLists.{reached_first, reached_after, stop_first
 
 -- ---- nothing licensed yet, and one thing after another
 
-pub passed_none : (before : List StatementView) (x : Place) (n : ℕ) → KeepsHeld x x → IsPassed before (λ d. d) x n (λ d. d) x n
+pub passed_none : (before : List StatementView) (x : StateBefore) (n : ℕ) → KeepsHeld x x → IsPassed before (λ d. d) x n (λ d. d) x n
 passed_none before x n k = record { ready = λ rest goal r. r; derives = λ rest more goal r d. d; stops = λ rest goal s r h. h; reaches = λ rest goal a i names r h. h; number = λ rest. refl; kept = k }
 
-pub passed_more : (before : List StatementView) (f f' g g' : Script → Script) (x y z : Place) (n m k : ℕ) → KeepsHeld x z → IsPassed before f x n f' y m → IsPassed before g y m g' z k →
+pub passed_more : (before : List StatementView) (f f' g g' : Script → Script) (x y z : StateBefore) (n m k : ℕ) → KeepsHeld x z → IsPassed before f x n f' y m → IsPassed before g y m g' z k →
     IsPassed before (λ d. f (g d)) x n (λ d. f' (g' d)) z k
 passed_more before f f' g g' x y z n m k kept a b =
     record {
@@ -46,7 +46,7 @@ passed_more before f f' g g' x y z n m k kept a b =
     }
 
 -- the same of scripts that are equal
-pub passed_as : (before : List StatementView) (f f' g g' : Script → Script) (x y : Place) (n m : ℕ) → ((d : Script) → f d ≡ g d) → ((d : Script) → f' d ≡ g' d) → IsPassed before f x n f' y m → IsPassed before g x n g' y m
+pub passed_as : (before : List StatementView) (f f' g g' : Script → Script) (x y : StateBefore) (n m : ℕ) → ((d : Script) → f d ≡ g d) → ((d : Script) → f' d ≡ g' d) → IsPassed before f x n f' y m → IsPassed before g x n g' y m
 passed_as before f f' g g' x y n m e e' a =
     record {
       ready = λ rest goal r. a.ready rest goal (subst (λ d. IsReadyFor before d x goal) (sym (e rest)) r);
@@ -73,14 +73,14 @@ more_certified : (before : List StatementView) (x : PlacedStep) (xs all : List P
 more_certified before x xs all e h k = subst (λ ys. list_all (is_certified before) ys ≡ true) (sym e) (and_from (is_certified before x) (list_all (is_certified before) xs) h k)
 
 -- a step that is ready has its form, whatever its blanks are filled with
-pub fits_here_first : (before : List StatementView) (d f : Script) (x : Place) (goal : Goal) (xs : List PlacedStep) → steps_from_basis before d f x.context goal ≡ step_from_basis d f x.context goal ∷ xs → IsReadyFor before d x goal →
+pub fits_here_first : (before : List StatementView) (d f : Script) (x : StateBefore) (goal : Goal) (xs : List PlacedStep) → steps_from_basis before d f x.context goal ≡ step_from_basis d f x.context goal ∷ xs → IsReadyFor before d x goal →
     fits_here before (step_from_basis d f x.context goal) ≡ true
 fits_here_first before d f x goal xs e r =
     first_is (fits_here before) (step_from_basis d f x.context goal) xs (steps_from_basis before d f x.context goal) e
     (tests_again before (fits_here before) (fits_here_is_blind before) d f d x.context.scope x.context.facts x.context.facts goal ∙ r.forms)
 
 -- what is found after a licensed step
-licensed_reaches : (before : List StatementView) (step derived : Step) (x after : Place) (n : ℕ) (rest : Script) (goal : Goal) (a : Arrival) (i : ℕ) (names : Names) → IsLicensedStep before step x derived after →
+licensed_reaches : (before : List StatementView) (step derived : Step) (x after : StateBefore) (n : ℕ) (rest : Script) (goal : Goal) (a : Arrival) (i : ℕ) (names : Names) → IsLicensedStep before step x derived after →
     IsReadyFor before (step_script step rest) x goal → ReachesWithin before rest after goal (n + 1) a i names → ReachesWithin before (step_script step rest) x goal n a i names
 licensed_reaches before step derived x after n rest goal a i names j r h =
     let e = step_script step rest in
@@ -96,7 +96,7 @@ licensed_reaches before step derived x after n rest goal a i names j r h =
           (reached_after before y ys x.names (names_of_steps before after.names rest) n a i names (j.licensed rest h.filled goal form) h.reached));
     }
 
-pub passed_of_licensed : (before : List StatementView) (step derived : Step) (x after : Place) (n : ℕ) → ((rest : Script) → size (step_script step rest) ≡ 1 + size rest) → IsLicensedStep before step x derived after →
+pub passed_of_licensed : (before : List StatementView) (step derived : Step) (x after : StateBefore) (n : ℕ) → ((rest : Script) → size (step_script step rest) ≡ 1 + size rest) → IsLicensedStep before step x derived after →
     IsPassed before (step_script step) x n (step_script derived) after (n + 1)
 passed_of_licensed before step derived x after n one j =
     record {
@@ -125,7 +125,7 @@ passed_of_licensed before step derived x after n one j =
             licensed = subst (AllLicensed before) (sym (j.next rest more goal)) (j.licensed rest more goal form, d.licensed);
             certified = more_certified before (step_from_basis f f x.context goal) (steps_from_basis before more more after.context goal) (steps_from_basis before f f x.context goal) (j.derived_next more goal) (j.certified rest more goal form) d.certified;
             erased = j.erased rest more d.erased;
-            written = j.written more d.written;
+            version = j.version more d.version;
           };
       stops = λ rest goal s r h.
           stops_by before rest (step_script step rest) after x goal goal (n + 1) n s (λ a i names k. licensed_reaches before step derived x after n rest goal a i names j r k) h;
@@ -173,7 +173,7 @@ names_begin before ns (Contradiction against) = (_, refl)
 names_begin before ns (Cases lit first second) = (_, refl)
 
 -- licensing stops at the first step of a script
-pub stops_first : (before : List StatementView) (here : Script) (x : Place) (goal : Goal) (n : ℕ) (h : StepStop) (s : Stop) → StepStopsAt before (step_from_basis here here x.context goal) h → IsStopOrNoMemory h n x.names s →
+pub stops_first : (before : List StatementView) (here : Script) (x : StateBefore) (goal : Goal) (n : ℕ) (h : StopReason) (s : Stop) → StepStopsAt before (step_from_basis here here x.context goal) h → IsStopOrNoMemory h n x.names s →
     StopsWithin before here x goal n s
 stops_first before here x goal n h s k e =
     let a = lines_begin before here here x.context.scope x.context.facts goal in
@@ -187,7 +187,7 @@ stops_first before here x goal n h s k e =
     }
 
 -- before the first step of a script this holds
-pub reaches_first : (before : List StatementView) (here : Script) (x : Place) (goal : Goal) (n : ℕ) → ReachesStep before here x goal n n x
+pub reaches_first : (before : List StatementView) (here : Script) (x : StateBefore) (goal : Goal) (n : ℕ) → ReachesStep before here x goal n n x
 reaches_first before here x goal n =
     let a = lines_begin before here here x.context.scope x.context.facts goal in
     let b = names_begin before x.names here in
@@ -201,40 +201,40 @@ reaches_first before here x goal n =
     }
 
 -- out of memory stops anywhere
-pub stops_for_memory : (before : List StatementView) (here : Script) (x : Place) (goal : Goal) (n : ℕ) → StopsWithin before here x goal n stop.NoMemory
+pub stops_for_memory : (before : List StatementView) (here : Script) (x : StateBefore) (goal : Goal) (n : ℕ) → StopsWithin before here x goal n stop.NoMemory
 stops_for_memory before here x goal n = record { filled = here; stops = tt }
 
-pub stops_as_memory : (before : List StatementView) (here : Script) (x : Place) (goal : Goal) (n : ℕ) {A : Type 0} (r : Result A Stop) → IfErr r (λ s. s ≡ stop.NoMemory) → IfErr r (StopsWithin before here x goal n)
+pub stops_as_memory : (before : List StatementView) (here : Script) (x : StateBefore) (goal : Goal) (n : ℕ) {A : Type 0} (r : Result A Stop) → IfErr r (λ s. s ≡ stop.NoMemory) → IfErr r (StopsWithin before here x goal n)
 stops_as_memory before here x goal n (Ok a) e = tt
 stops_as_memory before here x goal n (Err s) e = subst (StopsWithin before here x goal n) (sym e) (stops_for_memory before here x goal n)
 
 -- the same, where the names alone are given as those from before
-pub same_names : (h : StepStop) (n : ℕ) (x after : Place) (s : Stop) → UnlessNoMemory (after.names ≡ x.names) h → IsStopOrNoMemory h n after.names s → IsStopOrNoMemory h n x.names s
-same_names (step_stop.Lacks w v) n x after s k e = subst (λ ns. IsStopOrNoMemory (step_stop.Lacks w v) n ns s) k e
-same_names (step_stop.TooWide w v) n x after s k e = subst (λ ns. IsStopOrNoMemory (step_stop.TooWide w v) n ns s) k e
-same_names step_stop.NoMemory n x after s k e = no_names s e
+pub same_names : (h : StopReason) (n : ℕ) (x after : StateBefore) (s : Stop) → UnlessNoMemory (after.names ≡ x.names) h → IsStopOrNoMemory h n after.names s → IsStopOrNoMemory h n x.names s
+same_names (stop_reason.Lacks w v) n x after s k e = subst (λ ns. IsStopOrNoMemory (stop_reason.Lacks w v) n ns s) k e
+same_names (stop_reason.TooWide w v) n x after s k e = subst (λ ns. IsStopOrNoMemory (stop_reason.TooWide w v) n ns s) k e
+same_names stop_reason.NoMemory n x after s k e = no_names s e
   where
-    no_names : (s : Stop) → IsStopOrNoMemory step_stop.NoMemory n after.names s → IsStopOrNoMemory step_stop.NoMemory n x.names s
+    no_names : (s : Stop) → IsStopOrNoMemory stop_reason.NoMemory n after.names s → IsStopOrNoMemory stop_reason.NoMemory n x.names s
     no_names (stop.Unlicensed a b c d) e = e
     no_names (stop.TooWide a b c d) e = e
     no_names stop.NoMemory e = e
 
 -- after a stop that is not out of memory the names are those from before
-pub names_kept : (h : StepStop) (n : ℕ) (x after : Place) (s : Stop) → UnlessNoMemory (after ≡ x) h → IsStopOrNoMemory h n after.names s → IsStopOrNoMemory h n x.names s
-names_kept (step_stop.Lacks w v) n x after s k e = subst (λ y. IsStopOrNoMemory (step_stop.Lacks w v) n y.names s) k e
-names_kept (step_stop.TooWide w v) n x after s k e = subst (λ y. IsStopOrNoMemory (step_stop.TooWide w v) n y.names s) k e
-names_kept step_stop.NoMemory n x after (stop.Unlicensed a b c d) k e = absurd (not_that a b c d e)
+pub names_kept : (h : StopReason) (n : ℕ) (x after : StateBefore) (s : Stop) → UnlessNoMemory (after ≡ x) h → IsStopOrNoMemory h n after.names s → IsStopOrNoMemory h n x.names s
+names_kept (stop_reason.Lacks w v) n x after s k e = subst (λ y. IsStopOrNoMemory (stop_reason.Lacks w v) n y.names s) k e
+names_kept (stop_reason.TooWide w v) n x after s k e = subst (λ y. IsStopOrNoMemory (stop_reason.TooWide w v) n y.names s) k e
+names_kept stop_reason.NoMemory n x after (stop.Unlicensed a b c d) k e = absurd (not_that a b c d e)
   where
     not_that : (a : _) (b : _) (c : _) (d : _) → stop.Unlicensed a b c d ≡ stop.NoMemory → ⊥
     not_that a b c d e = cc
-names_kept step_stop.NoMemory n x after (stop.TooWide a b c d) k e = absurd (not_that a b c d e)
+names_kept stop_reason.NoMemory n x after (stop.TooWide a b c d) k e = absurd (not_that a b c d e)
   where
     not_that : (a : _) (b : _) (c : _) (d : _) → stop.TooWide a b c d ≡ stop.NoMemory → ⊥
     not_that a b c d e = cc
-names_kept step_stop.NoMemory n x after stop.NoMemory k e = tt
+names_kept stop_reason.NoMemory n x after stop.NoMemory k e = tt
 
 -- the answer on a step that has no block inside
-pub numbered_passed : (before : List StatementView) (step : Step) (x after : Place) (n m : ℕ) (answered : Result Step StepStop) (r : Result Step Stop) → ((rest : Script) → size (step_script step rest) ≡ 1 + size rest) →
+pub numbered_passed : (before : List StatementView) (step : Step) (x after : StateBefore) (n m : ℕ) (answered : Result Step StopReason) (r : Result Step Stop) → ((rest : Script) → size (step_script step rest) ≡ 1 + size rest) →
     IfOk answered (λ d. IsLicensedStep before step x d after) → IfOk r (λ d. answered ≡ Ok d) → OnOk r (m ≡ n + 1) →
     IfOk r (λ d. IsPassed before (step_script step) x n (step_script d) after m)
 numbered_passed before step x after n m answered (Err s) one j e f = tt
@@ -242,7 +242,7 @@ numbered_passed before step x after n m answered (Ok d) one j e f =
     subst (λ k. IsPassed before (step_script step) x n (step_script d) after k) (sym f)
     (passed_of_licensed before step d x after n one (subst (λ q. IfOk q (λ d. IsLicensedStep before step x d after)) e j))
 
-pub numbered_stops : (before : List StatementView) (step : Step) (x after : Place) (n : ℕ) (answered : Result Step StepStop) (r : Result Step Stop) → IfErr answered (IsStopOfStep before step x) →
+pub numbered_stops : (before : List StatementView) (step : Step) (x after : StateBefore) (n : ℕ) (answered : Result Step StopReason) (r : Result Step Stop) → IfErr answered (IsStopOfStep before step x) →
     IfErr answered (UnlessNoMemory (after ≡ x)) → IfErr r (IsStopOfAnswer answered n after.names) → IfErr r (StopsInStep before step x n)
 numbered_stops before step x after n answered (Ok p) k m e = tt
 numbered_stops before step x after n (Ok d) (Err (stop.Unlicensed a b c f)) k m e = absurd e
@@ -255,19 +255,19 @@ numbered_stops before step x after n (Err h) (Err s) k m e =
     )
 
 -- out of memory stops any step
-pub step_stops_as_memory : (before : List StatementView) (step : Step) (x : Place) (n : ℕ) {A : Type 0} (r : Result A Stop) → IfErr r (λ s. s ≡ stop.NoMemory) → IfErr r (StopsInStep before step x n)
+pub step_stops_as_memory : (before : List StatementView) (step : Step) (x : StateBefore) (n : ℕ) {A : Type 0} (r : Result A Stop) → IfErr r (λ s. s ≡ stop.NoMemory) → IfErr r (StopsInStep before step x n)
 step_stops_as_memory before step x n (Ok a) e = tt
 step_stops_as_memory before step x n (Err s) e = subst (StopsInStep before step x n) (sym e) (λ rest goal r. (stops_for_memory before (step_script step rest) x goal n, tt))
 
 -- and of a close that has no block inside
-pub numbered_closed : (before : List StatementView) (close : Close) (x : Place) (goal : Goal) (answered : Result Close StepStop) (r : Result Close Stop) → IfOk answered (λ d. IsLicensedClose before close x.context goal d) →
+pub numbered_closed : (before : List StatementView) (close : Close) (x : StateBefore) (goal : Goal) (answered : Result Close StopReason) (r : Result Close Stop) → IfOk answered (λ d. IsLicensedClose before close x.context goal d) →
     IfOk r (λ d. answered ≡ Ok d) → IfOk r (λ d. IsDerivedFrom before (close_script close) x goal (close_script d))
 numbered_closed before close x goal answered (Err s) j e = tt
 numbered_closed before close x goal answered (Ok p) j e =
     let c = subst (λ q. IfOk q (λ d. IsLicensedClose before close x.context goal d)) e j in
-    record { licensed = c.licensed; certified = c.certified; erased = c.erased; written = c.written }
+    record { licensed = c.licensed; certified = c.certified; erased = c.erased; version = c.version }
 
-pub numbered_close_stops : (before : List StatementView) (close : Close) (x : Place) (goal : Goal) (n : ℕ) (answered : Result Close StepStop) (r : Result Close Stop) → IfErr answered (IsStopOfClose before close x.context goal) →
+pub numbered_close_stops : (before : List StatementView) (close : Close) (x : StateBefore) (goal : Goal) (n : ℕ) (answered : Result Close StopReason) (r : Result Close Stop) → IfErr answered (IsStopOfClose before close x.context goal) →
     IfErr r (IsStopOfAnswer answered n x.names) → IfErr r (StopsWithin before (close_script close) x goal n)
 numbered_close_stops before close x goal n answered (Ok p) k e = tt
 numbered_close_stops before close x goal n (Ok d) (Err (stop.Unlicensed a b c f)) k e = absurd e

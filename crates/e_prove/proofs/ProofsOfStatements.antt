@@ -17,10 +17,10 @@ use Rattle.e_deriv.specs.Goal.{Goal, goal_of_statement, facts_of_statement}
 use Rattle.e_deriv.specs.Naming.{names_of_steps, declared_names}
 use Rattle.e_deriv.specs.Certified.{Certified}
 use Rattle.e_deriv.specs.Fitting.{IsFitting}
-use Rattle.e_prove.specs.inner.NextPlaces.{start_with_names}
-use Rattle.e_prove.specs.declared.place.Place.{Place}
+use Rattle.e_prove.specs.inner.NextStates.{start_with_names}
+use Rattle.e_prove.specs.declared.state_before.StateBefore.{StateBefore}
 use Rattle.e_prove.specs.inner.PassedSteps.{IsReadyFor, IsDerivedFrom, KeepsHeld, ReachesStep, StopsWithin}
-use Rattle.e_prove.specs.Places.{IsStepPlace}
+use Rattle.e_prove.specs.StatesBefore.{IsStateBeforeStep}
 use Rattle.e_prove.specs.Stops.{StopIs, HasNames}
 use Rattle.e_prove.proofs.ReadySteps.{first_facts}
 
@@ -98,8 +98,8 @@ stop_is before t names script x goal s is same k =
 
 -- ---- the place
 
-place_at : (before : List StatementView) (t : StatementView) (names : Names) (script : Script) (n : ℕ) (y : Place) → ReachesStep before script (start_with_names t names) (goal_of_statement t) 1 n y → y.context.held ≡ [] →
-    IsStepPlace before t names script n (record { context = y.context; names = y.names })
+place_at : (before : List StatementView) (t : StatementView) (names : Names) (script : Script) (n : ℕ) (y : StateBefore) → ReachesStep before script (start_with_names t names) (goal_of_statement t) 1 n y → y.context.held ≡ [] →
+    IsStateBeforeStep before t names script n (record { context = y.context; names = y.names })
 place_at before t names script n y k none =
     let r = k.reached in
     record {
@@ -111,11 +111,11 @@ place_at before t names script n y k none =
       named = sym (ap (slice_get (names_of_steps before (declared_names t names) script)) (omega (arith, r.number)) ∙ r.named);
     }
 
-pub place_is : (before : List StatementView) (t : StatementView) (names : Names) (script : Script) (n : ℕ) (x y : Place) (goal : Goal) → x ≡ start_with_names t names → goal ≡ goal_of_statement t → ReachesStep before script x goal 1 n y → KeepsHeld x y →
-    IsStepPlace before t names script n (record { context = y.context; names = y.names })
+pub place_is : (before : List StatementView) (t : StatementView) (names : Names) (script : Script) (n : ℕ) (x y : StateBefore) (goal : Goal) → x ≡ start_with_names t names → goal ≡ goal_of_statement t → ReachesStep before script x goal 1 n y → KeepsHeld x y →
+    IsStateBeforeStep before t names script n (record { context = y.context; names = y.names })
 place_is before t names script n x y goal is same k kept =
     place_at before t names script n y (subst (λ z. ReachesStep before script z (goal_of_statement t) 1 n y) is (subst (λ g. ReachesStep before script x g 1 n y) same k))
-    (kept ∙ ap (λ (z : Place). z.context.held) is)
+    (kept ∙ ap (λ (z : StateBefore). z.context.held) is)
 
 -- ---- the derivation
 

@@ -17,11 +17,11 @@ use Rattle.e_deriv.specs.Script.{Script, Contradiction, script_of, step_script, 
 use Rattle.e_deriv.specs.Goal.{Goal, goal_of}
 use Rattle.e_deriv.proofs.Scripts.{step_script-Claim, step_script-Superposed, close_script-Cases}
 use Rattle.e_prove.specs.Stops.{IsStopBefore}
-use Rattle.e_prove.specs.declared.place.Place.{Place}
-use Rattle.e_prove.specs.declared.step_stop.StepStop.{StepStop}
-use Rattle.e_prove.specs.declared.step_stop.StepStop.TheVariants as step_stop
+use Rattle.e_prove.specs.declared.state_before.StateBefore.{StateBefore}
+use Rattle.e_prove.specs.declared.stop_reason.StopReason.{StopReason}
+use Rattle.e_prove.specs.declared.stop_reason.StopReason.TheVariants as stop_reason
 use Rattle.e_prove.specs.inner.StopsOfSteps.{UnlessNoMemory}
-use Rattle.e_prove.specs.inner.NextPlaces.{after_literal, after_superposed}
+use Rattle.e_prove.specs.inner.NextStates.{after_literal, after_superposed}
 use Rattle.e_prove.specs.inner.PassedSteps.{IsReadyFor, IsReadyStep, Stands, ReachesStep, ReachesInStep, IsFirstPassed, IsPassed, StopsWithin, StopsInStep}
 use Rattle.e_prove.proofs.StopsInLists.{before_more}
 use Rattle.e_prove.proofs.PassedSteps.{reaches_first}
@@ -38,10 +38,10 @@ memory_before n (Ok a) h = tt
 memory_before n (Err s) h = subst (IsStopBefore n) (sym h) tt
 
 -- where all is as before, so are the names
-pub same_state_names : (x after : Place) (h : StepStop) → UnlessNoMemory (after ≡ x) h → UnlessNoMemory (after.names ≡ x.names) h
-same_state_names x after (step_stop.Lacks wanted values) k = ap (λ z. z.names) k
-same_state_names x after (step_stop.TooWide wanted width) k = ap (λ z. z.names) k
-same_state_names x after step_stop.NoMemory k = tt
+pub same_state_names : (x after : StateBefore) (h : StopReason) → UnlessNoMemory (after ≡ x) h → UnlessNoMemory (after.names ≡ x.names) h
+same_state_names x after (stop_reason.Lacks wanted values) k = ap (λ z. z.names) k
+same_state_names x after (stop_reason.TooWide wanted width) k = ap (λ z. z.names) k
+same_state_names x after stop_reason.NoMemory k = tt
 
 -- ---- how many steps a step has
 
@@ -72,7 +72,7 @@ superposed_count superposition names shown certs inner rest = ap size (step_scri
 -- ---- what is reached after steps that are passed
 
 -- in the block of the step at this place
-pub step_reaches : (before : List StatementView) (items seen done : List Step) (close : Script) (i : ℕ) (s : Step) (x y z : Place) (goal : Goal) (first n m : ℕ) → seen ≡ items → i < length seen → s ≡ get_or seen i s →
+pub step_reaches : (before : List StatementView) (items seen done : List Step) (close : Script) (i : ℕ) (s : Step) (x y z : StateBefore) (goal : Goal) (first n m : ℕ) → seen ≡ items → i < length seen → s ≡ get_or seen i s →
     IsPassed before (steps_script (take i items)) x first (steps_script done) y n → IsReadyFor before (steps_script items close) x goal → ReachesInStep before s y n m z → ReachesStep before (steps_script items close) x goal first m z
 step_reaches before items seen done close i s x y z goal first n m same lt is p r k =
     let left = steps_script (drop (i + 1) items) close in
@@ -82,20 +82,20 @@ step_reaches before items seen done close i s x y z goal first n m same lt is p 
     (p.reaches (step_script s left) goal (Stands z.context.scope z.context.facts) m z.names ready (k left goal (p.ready (step_script s left) goal ready)))
 
 -- at that step itself
-pub step_here : (before : List StatementView) (items seen done : List Step) (close : Script) (i : ℕ) (s : Step) (x y : Place) (goal : Goal) (first n m : ℕ) → seen ≡ items → i < length seen → s ≡ get_or seen i s → n ≡ m →
+pub step_here : (before : List StatementView) (items seen done : List Step) (close : Script) (i : ℕ) (s : Step) (x y : StateBefore) (goal : Goal) (first n m : ℕ) → seen ≡ items → i < length seen → s ≡ get_or seen i s → n ≡ m →
     IsPassed before (steps_script (take i items)) x first (steps_script done) y n → IsReadyFor before (steps_script items close) x goal → ReachesStep before (steps_script items close) x goal first m y
 step_here before items seen done close i s x y goal first n m same lt is at p r =
     step_reaches before items seen done close i s x y y goal first n m same lt is p r
     (λ rest inner ready. subst (λ k. ReachesStep before (step_script s rest) y inner n k y) at (reaches_first before (step_script s rest) y inner n))
 
 -- in the block's close
-pub close_reaches : (before : List StatementView) (items seen done : List Step) (close : Script) (i : ℕ) (x y z : Place) (goal : Goal) (first n m : ℕ) → seen ≡ items → length seen ≤ i →
+pub close_reaches : (before : List StatementView) (items seen done : List Step) (close : Script) (i : ℕ) (x y z : StateBefore) (goal : Goal) (first n m : ℕ) → seen ≡ items → length seen ≤ i →
     IsPassed before (steps_script (take i items)) x first (steps_script done) y n → IsReadyFor before (steps_script items close) x goal → ReachesStep before close y goal n m z → ReachesStep before (steps_script items close) x goal first m z
 close_reaches before items seen done close i x y z goal first n m same le p r k =
     let e = all_taken items seen i close same le in
     subst (λ w. ReachesStep before w x goal first m z) e (p.reaches close goal (Stands z.context.scope z.context.facts) m z.names (subst (λ w. IsReadyFor before w x goal) (sym e) r) k)
 
-pub close_here : (before : List StatementView) (items seen done : List Step) (close : Script) (i : ℕ) (x y : Place) (goal : Goal) (first n m : ℕ) → seen ≡ items → length seen ≤ i → n ≡ m →
+pub close_here : (before : List StatementView) (items seen done : List Step) (close : Script) (i : ℕ) (x y : StateBefore) (goal : Goal) (first n m : ℕ) → seen ≡ items → length seen ≤ i → n ≡ m →
     IsPassed before (steps_script (take i items)) x first (steps_script done) y n → IsReadyFor before (steps_script items close) x goal → ReachesStep before (steps_script items close) x goal first m y
 close_here before items seen done close i x y goal first n m same le at p r =
     close_reaches before items seen done close i x y y goal first n m same le p r (subst (λ k. ReachesStep before close y goal n k y) at (reaches_first before close y goal n))
@@ -103,37 +103,37 @@ close_here before items seen done close i x y goal first n m same le at p r =
 -- ---- a step before the one that is sought
 
 -- it ends where this many lines say
-pub step_ends : (before : List StatementView) (s d : Step) (y z : Place) (n m lines : ℕ) (rest : Script) → size (step_script s rest) ≡ lines + size rest → IsPassed before (step_script s) y n (step_script d) z m → m ≡ n + lines
+pub step_ends : (before : List StatementView) (s d : Step) (y z : StateBefore) (n m lines : ℕ) (rest : Script) → size (step_script s rest) ≡ lines + size rest → IsPassed before (step_script s) y n (step_script d) z m → m ≡ n + lines
 step_ends before s d y z n m lines rest many p = let count = p.number rest in omega (arith, count, many)
 
 -- a stop in it is before that one
-pub step_stops_before : (before : List StatementView) (s : Step) (y : Place) (n lines target : ℕ) (t : Stop) (ready : IsReadyStep before s y n) → size (step_script s ready.rest) ≡ lines + size ready.rest → n + lines ≤ target → StopsInStep before s y n t →
+pub step_stops_before : (before : List StatementView) (s : Step) (y : StateBefore) (n lines target : ℕ) (t : Stop) (ready : IsReadyStep before s y n) → size (step_script s ready.rest) ≡ lines + size ready.rest → n + lines ≤ target → StopsInStep before s y n t →
     IsStopBefore target t
 step_stops_before before s y n lines target t ready many le k =
     before_more (n + size (step_script s ready.rest) - size ready.rest) target t (omega (arith, many, le)) (k ready.rest ready.goal ready.ready).1
 
 -- ---- blocks that are entered
 
-pub claim_entered : (before : List StatementView) (step : Step) (shown : List Lit) (inner : Box Block Global) (x z : Place) (n m : ℕ) → step ≡ ClaimStep shown inner → ClaimReady before shown (script_of inner.value) x →
+pub claim_entered : (before : List StatementView) (step : Step) (shown : List Lit) (inner : Box Block Global) (x z : StateBefore) (n m : ℕ) → step ≡ ClaimStep shown inner → ClaimReady before shown (script_of inner.value) x →
     ReachesStep before (script_of inner.value) x (goal_of shown) (n + 1) m z → ReachesInStep before step x n m z
 claim_entered before step shown inner x z n m is ready k rest goal r =
     subst (λ w. ReachesStep before w x goal n m z) (sym (ap (λ s. step_script s rest) is ∙ step_script-Claim shown inner rest))
     (claim_reaches before shown (script_of inner.value) rest x goal n (Stands z.context.scope z.context.facts) m z.names ready.over k)
 
-pub superposed_entered : (before : List StatementView) (step : Step) (superposition : Superpose) (names : List (List ℕ)) (shown : List Lit) (written certs : List Cert) (inner : Box Block Global) (x z : Place) (n m : ℕ) →
+pub superposed_entered : (before : List StatementView) (step : Step) (superposition : Superpose) (names : List (List ℕ)) (shown : List Lit) (written certs : List Cert) (inner : Box Block Global) (x z : StateBefore) (n m : ℕ) →
     step ≡ SuperposedStep superposition names shown written inner → SuperposedReady before superposition names shown (script_of inner.value) x → Certifies superposition x certs →
     ReachesStep before (script_of inner.value) (after_superposed superposition names x) (goal_of shown) (n + 1) m z → ReachesInStep before step x n m z
 superposed_entered before step superposition names shown written certs inner x z n m is ready cs k rest goal r =
     subst (λ w. ReachesStep before w x goal n m z) (sym (ap (λ s. step_script s rest) is ∙ step_script-Superposed superposition names shown written inner rest))
     (superposed_reaches before superposition names shown written certs (script_of inner.value) rest x goal n (Stands z.context.scope z.context.facts) m z.names ready.fits ready.over cs k)
 
-pub split_entered_first : (before : List StatementView) (close : Close) (lit : Lit) (first second : Box Block Global) (x z : Place) (goal : Goal) (n m : ℕ) → close ≡ CasesClose lit first second →
+pub split_entered_first : (before : List StatementView) (close : Close) (lit : Lit) (first second : Box Block Global) (x z : StateBefore) (goal : Goal) (n m : ℕ) → close ≡ CasesClose lit first second →
     SplitReady before lit (script_of first.value) x goal → ReachesStep before (script_of first.value) (after_literal lit x) goal (n + 1) m z → ReachesStep before (close_script close) x goal n m z
 split_entered_first before close lit first second x z goal n m is ready k =
     subst (λ w. ReachesStep before w x goal n m z) (sym (ap close_script is ∙ close_script-Cases lit first second))
     (split_reaches_first before lit (script_of first.value) (script_of second.value) x goal n (Stands z.context.scope z.context.facts) m z.names ready.over k)
 
-pub split_entered_second : (before : List StatementView) (close : Close) (lit : Lit) (first second : Box Block Global) (x y z : Place) (goal : Goal) (n next m : ℕ) → close ≡ CasesClose lit first second →
+pub split_entered_second : (before : List StatementView) (close : Close) (lit : Lit) (first second : Box Block Global) (x y z : StateBefore) (goal : Goal) (n next m : ℕ) → close ≡ CasesClose lit first second →
     SplitReady before lit (script_of first.value) x goal → IsFirstPassed before lit (script_of first.value) x goal y → next ≡ n + 1 + size (script_of first.value) →
     ReachesStep before (script_of second.value) y goal next m z → ReachesStep before (close_script close) x goal n m z
 split_entered_second before close lit first second x y z goal n next m is ready d count k =
@@ -141,7 +141,7 @@ split_entered_second before close lit first second x y z goal n next m is ready 
     (split_reaches_second before lit (script_of first.value) (script_of second.value) d.derived x goal n next (Stands z.context.scope z.context.facts) m z.names ready.over d.is_derived count
     (subst (λ w. ReachesStep before (script_of second.value) w goal next m z) d.is_after k))
 
-pub split_stopped_second : (before : List StatementView) (close : Close) (lit : Lit) (first second : Box Block Global) (x y : Place) (goal : Goal) (n next : ℕ) (t : Stop) → close ≡ CasesClose lit first second →
+pub split_stopped_second : (before : List StatementView) (close : Close) (lit : Lit) (first second : Box Block Global) (x y : StateBefore) (goal : Goal) (n next : ℕ) (t : Stop) → close ≡ CasesClose lit first second →
     SplitReady before lit (script_of first.value) x goal → IsFirstPassed before lit (script_of first.value) x goal y → next ≡ n + 1 + size (script_of first.value) →
     StopsWithin before (script_of second.value) y goal next t → StopsWithin before (close_script close) x goal n t
 split_stopped_second before close lit first second x y goal n next t is ready d count k =

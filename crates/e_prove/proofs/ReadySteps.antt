@@ -30,8 +30,8 @@ use Rattle.e_deriv.specs.Fitting.{LitsFit, is_small, is_small_statement}
 use Rattle.e_deriv.proofs.Choices.{written_again}
 use Rattle.e_deriv.proofs.Scripts.{step_script-Claim, step_script-Superposed}
 use Rattle.e_deriv.proofs.Smallness.{few_of_small}
-use Rattle.e_prove.specs.declared.place.Place.{Place}
-use Rattle.e_prove.specs.inner.NextPlaces.{HasRoomForMore, after_make, after_literal}
+use Rattle.e_prove.specs.declared.state_before.StateBefore.{StateBefore}
+use Rattle.e_prove.specs.inner.NextStates.{HasRoomForMore, after_make, after_literal}
 use Rattle.e_prove.specs.inner.LicensedSteps.{steps_from_basis, step_from_basis, fits_here}
 use Rattle.e_prove.specs.inner.PassedSteps.{IsReadyFor, IsReadyStep}
 use Rattle.e_prove.specs.inner.Applications.{LitsFitAt, CanApply}
@@ -45,7 +45,7 @@ first_facts before here f s facts goal h =
     (subst (LitsFit before) begun.1 h).0
 
 -- few objects are in scope before a script that is ready
-pub first_scope : (before : List StatementView) (here : Script) (x : Place) (goal : Goal) → IsReadyFor before here x goal → is_small x.context.scope ≡ true
+pub first_scope : (before : List StatementView) (here : Script) (x : StateBefore) (goal : Goal) → IsReadyFor before here x goal → is_small x.context.scope ≡ true
 first_scope before here x goal r =
     let begun = lines_begin before here here x.context.scope x.context.facts goal in
     first_is (λ y. is_small y.scope) (step_from_basis here here x.context goal) begun.0 (steps_from_basis before here here x.context goal) begun.1 r.scopes
@@ -57,41 +57,41 @@ room_of_small s h =
 
 -- ---- steps that have no block inside
 
-pub record LineReady (s : Scope) (needed : List Lit) (next : Place) : Type 0 where
+pub record LineReady (s : Scope) (needed : List Lit) (next : StateBefore) : Type 0 where
   pub needs : are_well_formed_in s needed ≡ true
   pub after : are_limited_facts next.context.scope next.context.facts ≡ true
 
 -- the first step of a script that is ready has its form
-fits_first : (before : List StatementView) (here : Script) (x : Place) (goal : Goal) → IsReadyFor before here x goal → fits_here before (step_from_basis here here x.context goal) ≡ true
+fits_first : (before : List StatementView) (here : Script) (x : StateBefore) (goal : Goal) → IsReadyFor before here x goal → fits_here before (step_from_basis here here x.context goal) ≡ true
 fits_first before here x goal r =
     let begun = lines_begin before here here x.context.scope x.context.facts goal in
     first_is (fits_here before) (step_from_basis here here x.context goal) begun.0 (steps_from_basis before here here x.context goal) begun.1 r.forms
 
-cite_lits : (before : List StatementView) (by : By) (rest : Script) (x : Place) (goal : Goal) → IsReadyFor before (Cite by rest) x goal → are_limited_facts x.context.scope (with_fact x.context.facts by.lit) ≡ true
+cite_lits : (before : List StatementView) (by : By) (rest : Script) (x : StateBefore) (goal : Goal) → IsReadyFor before (Cite by rest) x goal → are_limited_facts x.context.scope (with_fact x.context.facts by.lit) ≡ true
 unfolding placed_steps
 cite_lits before by rest x goal r =
     let here = Cite by rest in
     first_facts before rest rest x.context.scope (with_fact x.context.facts by.lit) goal ((r.lits here).1 (fits_first before here x goal r)).1
 
-pub cite_good : (before : List StatementView) (by : By) (x : Place) (n : ℕ) → IsReadyStep before (CiteStep by) x n → are_limited_facts x.context.scope (with_fact x.context.facts by.lit) ≡ true
+pub cite_good : (before : List StatementView) (by : By) (x : StateBefore) (n : ℕ) → IsReadyStep before (CiteStep by) x n → are_limited_facts x.context.scope (with_fact x.context.facts by.lit) ≡ true
 unfolding step_script
 cite_good before by x n r = cite_lits before by r.rest x r.goal r.ready
 
-hence_lits : (before : List StatementView) (lit : Lit) (cert : Option Cert) (rest : Script) (x : Place) (goal : Goal) → IsReadyFor before (Hence lit cert rest) x goal → LineReady x.context.scope (lit ∷ []) (after_literal lit x)
+hence_lits : (before : List StatementView) (lit : Lit) (cert : Option Cert) (rest : Script) (x : StateBefore) (goal : Goal) → IsReadyFor before (Hence lit cert rest) x goal → LineReady x.context.scope (lit ∷ []) (after_literal lit x)
 unfolding placed_steps
 hence_lits before lit cert rest x goal r =
     let here = Hence lit cert rest in
     let both = (r.lits here).1 (fits_first before here x goal r) in
     record { needs = both.0; after = first_facts before rest rest x.context.scope (with_fact x.context.facts lit) goal both.1 }
 
-pub hence_good : (before : List StatementView) (lit : Lit) (cert : Option Cert) (x : Place) (n : ℕ) → IsReadyStep before (HenceStep lit cert) x n → LineReady x.context.scope (lit ∷ []) (after_literal lit x)
+pub hence_good : (before : List StatementView) (lit : Lit) (cert : Option Cert) (x : StateBefore) (n : ℕ) → IsReadyStep before (HenceStep lit cert) x n → LineReady x.context.scope (lit ∷ []) (after_literal lit x)
 unfolding step_script
 hence_good before lit cert x n r = hence_lits before lit cert r.rest x r.goal r.ready
 
 pub one_good : (s : Scope) (lit : Lit) → are_well_formed_in s (lit ∷ []) ≡ true → is_well_formed_in s lit ≡ true
 one_good s lit h = and_left (is_well_formed_in s lit) true h
 
-make_lits : (before : List StatementView) (construction : Construction) (names : List (List ℕ)) (certs : List Cert) (rest : Script) (x : Place) (goal : Goal) → IsReadyFor before (Make construction names certs rest) x goal →
+make_lits : (before : List StatementView) (construction : Construction) (names : List (List ℕ)) (certs : List Cert) (rest : Script) (x : StateBefore) (goal : Goal) → IsReadyFor before (Make construction names certs rest) x goal →
     LineReady x.context.scope (needs_of_construction construction) (after_make construction names x)
 unfolding placed_steps
 make_lits before construction names certs rest x goal r =
@@ -100,12 +100,12 @@ make_lits before construction names certs rest x goal r =
     let both = (r.lits here).1 (fits_first before here x goal r) in
     record { needs = both.0; after = first_facts before rest rest (with_sorts s (sorts_made construction)) (with_facts x.context.facts (gives_of_construction construction s)) goal both.1 }
 
-pub make_good : (before : List StatementView) (construction : Construction) (names : List (List ℕ)) (certs : List Cert) (x : Place) (n : ℕ) → IsReadyStep before (MakeStep construction names certs) x n →
+pub make_good : (before : List StatementView) (construction : Construction) (names : List (List ℕ)) (certs : List Cert) (x : StateBefore) (n : ℕ) → IsReadyStep before (MakeStep construction names certs) x n →
     LineReady x.context.scope (needs_of_construction construction) (after_make construction names x)
 unfolding step_script
 make_good before construction names certs x n r = make_lits before construction names certs r.rest x r.goal r.ready
 
-pub make_room : (before : List StatementView) (construction : Construction) (names : List (List ℕ)) (certs : List Cert) (x : Place) (n : ℕ) → IsReadyStep before (MakeStep construction names certs) x n → HasRoomForMore x.context.scope
+pub make_room : (before : List StatementView) (construction : Construction) (names : List (List ℕ)) (certs : List Cert) (x : StateBefore) (n : ℕ) → IsReadyStep before (MakeStep construction names certs) x n → HasRoomForMore x.context.scope
 make_room before construction names certs x n r = room_of_small x.context.scope (first_scope before (step_script (MakeStep construction names certs) r.rest) x r.goal r.ready)
 
 -- ---- an application
@@ -116,11 +116,11 @@ small_among (t ∷ ts) zero h lt = and_left (is_small_statement t) (list_all is_
 small_among (t ∷ ts) (suc k) h lt = small_among ts k (and_right (is_small_statement t) (list_all is_small_statement ts) h) (omega (arith, lt))
 
 -- what the steps of an application say of it
-pub record ApplyReady (before : List StatementView) (theorem : ℕ) (pattern : List (Option Obj)) (x : Place) : Type 0 where
+pub record ApplyReady (before : List StatementView) (theorem : ℕ) (pattern : List (Option Obj)) (x : StateBefore) : Type 0 where
   pub place : theorem < length before
   pub can : CanApply (theorem_at before theorem) pattern x.context
 
-apply_lits : (before : List StatementView) (theorem : ℕ) (pattern : List (Option Obj)) (names : List (List ℕ)) (certs : List Cert) (rest : Script) (x : Place) (goal : Goal) →
+apply_lits : (before : List StatementView) (theorem : ℕ) (pattern : List (Option Obj)) (names : List (List ℕ)) (certs : List Cert) (rest : Script) (x : StateBefore) (goal : Goal) →
     IsReadyFor before (Apply theorem pattern names certs rest) x goal → theorem < length before → (args : List Obj) →
     is_choice (theorem_at before theorem) x.context.scope pattern (args_written (filled_in args)) ≡ true → LitsFitAt (theorem_at before theorem) (args_written (filled_in args)) x.context
 unfolding placed_steps
@@ -133,7 +133,7 @@ apply_lits before theorem pattern names certs rest x goal r lt args h =
     let both = (r.lits f).1 (and_from (ltb theorem (length before)) (is_choice t s pattern os) low h) in
     record { needs = both.0; after = first_facts before rest rest (with_sorts s t.made) (with_facts x.context.facts (gives_of_use t os s)) goal both.1 }
 
-apply_can : (before : List StatementView) (theorem : ℕ) (pattern : List (Option Obj)) (names : List (List ℕ)) (certs : List Cert) (rest : Script) (x : Place) (goal : Goal) →
+apply_can : (before : List StatementView) (theorem : ℕ) (pattern : List (Option Obj)) (names : List (List ℕ)) (certs : List Cert) (rest : Script) (x : StateBefore) (goal : Goal) →
     IsReadyFor before (Apply theorem pattern names certs rest) x goal → ApplyReady before theorem pattern x
 apply_can before theorem pattern names certs rest x goal r =
     let t = theorem_at before theorem in
@@ -153,7 +153,7 @@ apply_can before theorem pattern names certs rest x goal r =
       };
     }
 
-pub apply_good : (before : List StatementView) (theorem : ℕ) (pattern : List (Option Obj)) (names : List (List ℕ)) (certs : List Cert) (x : Place) (n : ℕ) → IsReadyStep before (ApplyStep theorem pattern names certs) x n →
+pub apply_good : (before : List StatementView) (theorem : ℕ) (pattern : List (Option Obj)) (names : List (List ℕ)) (certs : List Cert) (x : StateBefore) (n : ℕ) → IsReadyStep before (ApplyStep theorem pattern names certs) x n →
     ApplyReady before theorem pattern x
 unfolding step_script
 apply_good before theorem pattern names certs x n r = apply_can before theorem pattern names certs r.rest x r.goal r.ready
@@ -171,30 +171,30 @@ theorem_is (s ∷ ss) (suc k) t lt e = theorem_is ss k t (omega (arith, lt)) e
 -- ---- steps with a block inside
 
 -- a block that is ready begins with good facts
-pub block_facts : (before : List StatementView) (d : Script) (x : Place) (goal : Goal) → IsReadyFor before d x goal → are_limited_facts x.context.scope x.context.facts ≡ true
+pub block_facts : (before : List StatementView) (d : Script) (x : StateBefore) (goal : Goal) → IsReadyFor before d x goal → are_limited_facts x.context.scope x.context.facts ≡ true
 block_facts before d x goal r = first_facts before d d x.context.scope x.context.facts goal (r.lits d)
 
 pub claim_few : (shown : List Lit) (inner rest : Script) (n : ℕ) → n + size (Claim shown inner rest) < 2 ^ 32 → n + 1 + size inner < 2 ^ 32
 unfolding size
 claim_few shown inner rest n h = omega (arith, h)
 
-pub claim_parts : (before : List StatementView) (shown : List Lit) (inner : Box Block Global) (x : Place) (n : ℕ) → IsReadyStep before (ClaimStep shown inner) x n → ClaimReady before shown (script_of inner.value) x
+pub claim_parts : (before : List StatementView) (shown : List Lit) (inner : Box Block Global) (x : StateBefore) (n : ℕ) → IsReadyStep before (ClaimStep shown inner) x n → ClaimReady before shown (script_of inner.value) x
 claim_parts before shown inner x n r =
     claim_ready before shown (script_of inner.value) r.rest x r.goal (subst (λ d. IsReadyFor before d x r.goal) (step_script-Claim shown inner r.rest) r.ready)
 
-pub claim_lines : (before : List StatementView) (shown : List Lit) (inner : Box Block Global) (x : Place) (n : ℕ) → IsReadyStep before (ClaimStep shown inner) x n → n + 1 + size (script_of inner.value) < 2 ^ 32
+pub claim_lines : (before : List StatementView) (shown : List Lit) (inner : Box Block Global) (x : StateBefore) (n : ℕ) → IsReadyStep before (ClaimStep shown inner) x n → n + 1 + size (script_of inner.value) < 2 ^ 32
 claim_lines before shown inner x n r = claim_few shown (script_of inner.value) r.rest n (subst (λ d. n + size d < 2 ^ 32) (step_script-Claim shown inner r.rest) r.few)
 
 pub superposed_few : (superposition : Superpose) (names : List (List ℕ)) (shown : List Lit) (certs : List Cert) (inner rest : Script) (n : ℕ) → n + size (Superposed superposition names shown certs inner rest) < 2 ^ 32 → n + 1 + size inner < 2 ^ 32
 unfolding size
 superposed_few superposition names shown certs inner rest n h = omega (arith, h)
 
-pub superposed_parts : (before : List StatementView) (superposition : Superpose) (names : List (List ℕ)) (shown : List Lit) (certs : List Cert) (inner : Box Block Global) (x : Place) (n : ℕ) →
+pub superposed_parts : (before : List StatementView) (superposition : Superpose) (names : List (List ℕ)) (shown : List Lit) (certs : List Cert) (inner : Box Block Global) (x : StateBefore) (n : ℕ) →
     IsReadyStep before (SuperposedStep superposition names shown certs inner) x n → SuperposedReady before superposition names shown (script_of inner.value) x
 superposed_parts before superposition names shown certs inner x n r =
     superposed_ready before superposition names shown certs (script_of inner.value) r.rest x r.goal (subst (λ d. IsReadyFor before d x r.goal) (step_script-Superposed superposition names shown certs inner r.rest) r.ready)
 
-pub superposed_lines : (before : List StatementView) (superposition : Superpose) (names : List (List ℕ)) (shown : List Lit) (certs : List Cert) (inner : Box Block Global) (x : Place) (n : ℕ) →
+pub superposed_lines : (before : List StatementView) (superposition : Superpose) (names : List (List ℕ)) (shown : List Lit) (certs : List Cert) (inner : Box Block Global) (x : StateBefore) (n : ℕ) →
     IsReadyStep before (SuperposedStep superposition names shown certs inner) x n → n + 1 + size (script_of inner.value) < 2 ^ 32
 superposed_lines before superposition names shown certs inner x n r =
     superposed_few superposition names shown certs (script_of inner.value) r.rest n (subst (λ d. n + size d < 2 ^ 32) (step_script-Superposed superposition names shown certs inner r.rest) r.few)

@@ -25,9 +25,9 @@ use Rattle.e_deriv.specs.Licensed.{Licensed, AllLicensed}
 use Rattle.e_deriv.specs.Fitting.{LitsFit, is_small}
 use Rattle.e_deriv.proofs.Agreement.{both_licensed}
 use Rattle.e_deriv.proofs.Stops.{lines_length}
-use Rattle.e_prove.specs.declared.place.Place.{Place}
-use Rattle.e_prove.specs.declared.step_stop.StepStop.{StepStop}
-use Rattle.e_prove.specs.declared.step_stop.StepStop.TheVariants as step_stop
+use Rattle.e_prove.specs.declared.state_before.StateBefore.{StateBefore}
+use Rattle.e_prove.specs.declared.stop_reason.StopReason.{StopReason}
+use Rattle.e_prove.specs.declared.stop_reason.StopReason.TheVariants as stop_reason
 use Rattle.e_prove.specs.inner.StopsOfSteps.{StepStopsAt, IsStopOrNoMemory, stop_of}
 use Rattle.e_prove.specs.inner.LicensedSteps.{fits_here}
 use Rattle.e_prove.specs.Stops.{IsStopBefore}
@@ -98,23 +98,23 @@ reached_right before xs ys ns ms k first a n names e d l r =
 -- ---- stops
 
 -- at the first step, with these names before it
-stop_at_first : (before : List StatementView) (x : PlacedStep) (xs : List PlacedStep) (m : Names) (ns : List Names) (first : ℕ) (h : StepStop) → StepStopsAt before x h → StopIn before (x ∷ xs) (m ∷ ns) first (stop_of h first m)
-stop_at_first before x xs m ns first (step_stop.Lacks wanted values) k = reached_first before x xs m ns first (Halts (step_stop.Lacks wanted values)) k
-stop_at_first before x xs m ns first (step_stop.TooWide wanted width) k = reached_first before x xs m ns first (Halts (step_stop.TooWide wanted width)) k
-stop_at_first before x xs m ns first step_stop.NoMemory k = tt
+stop_at_first : (before : List StatementView) (x : PlacedStep) (xs : List PlacedStep) (m : Names) (ns : List Names) (first : ℕ) (h : StopReason) → StepStopsAt before x h → StopIn before (x ∷ xs) (m ∷ ns) first (stop_of h first m)
+stop_at_first before x xs m ns first (stop_reason.Lacks wanted values) k = reached_first before x xs m ns first (Halts (stop_reason.Lacks wanted values)) k
+stop_at_first before x xs m ns first (stop_reason.TooWide wanted width) k = reached_first before x xs m ns first (Halts (stop_reason.TooWide wanted width)) k
+stop_at_first before x xs m ns first stop_reason.NoMemory k = tt
 
-pub stop_first : (before : List StatementView) (x : PlacedStep) (xs : List PlacedStep) (m : Names) (ns : List Names) (first : ℕ) (h : StepStop) (s : Stop) → StepStopsAt before x h → IsStopOrNoMemory h first m s → StopIn before (x ∷ xs) (m ∷ ns) first s
+pub stop_first : (before : List StatementView) (x : PlacedStep) (xs : List PlacedStep) (m : Names) (ns : List Names) (first : ℕ) (h : StopReason) (s : Stop) → StepStopsAt before x h → IsStopOrNoMemory h first m s → StopIn before (x ∷ xs) (m ∷ ns) first s
 stop_first before x xs m ns first h (stop.Unlicensed n wanted values names) k e = subst (StopIn before (x ∷ xs) (m ∷ ns) first) (sym e) (stop_at_first before x xs m ns first h k)
 stop_first before x xs m ns first h (stop.TooWide n wanted width names) k e = subst (StopIn before (x ∷ xs) (m ∷ ns) first) (sym e) (stop_at_first before x xs m ns first h k)
 stop_first before x xs m ns first h stop.NoMemory k e = tt
 
 -- where all that is found in the one script is found in the other, so is a stop
-pub stops_by : (before : List StatementView) (d e : Script) (x y : Place) (goal goal' : Goal) (n m : ℕ) (s : Stop) →
+pub stops_by : (before : List StatementView) (d e : Script) (x y : StateBefore) (goal goal' : Goal) (n m : ℕ) (s : Stop) →
     ((a : Arrival) (k : ℕ) (names : Names) → ReachesWithin before d x goal n a k names → ReachesWithin before e y goal' m a k names) → StopsWithin before d x goal n s → StopsWithin before e y goal' m s
 stops_by before d e x y goal goal' n m (stop.Unlicensed k wanted values names) f h =
-    let r = f (Halts (step_stop.Lacks wanted values)) k names (record { filled = h.filled; reached = h.stops }) in record { filled = r.filled; stops = r.reached }
+    let r = f (Halts (stop_reason.Lacks wanted values)) k names (record { filled = h.filled; reached = h.stops }) in record { filled = r.filled; stops = r.reached }
 stops_by before d e x y goal goal' n m (stop.TooWide k wanted width names) f h =
-    let r = f (Halts (step_stop.TooWide wanted width)) k names (record { filled = h.filled; reached = h.stops }) in record { filled = r.filled; stops = r.reached }
+    let r = f (Halts (stop_reason.TooWide wanted width)) k names (record { filled = h.filled; reached = h.stops }) in record { filled = r.filled; stops = r.reached }
 stops_by before d e x y goal goal' n m stop.NoMemory f h = record { filled = e; stops = tt }
 
 -- ---- where a stop is
@@ -125,7 +125,7 @@ at_less (a ∷ xs) zero x e = omega arith
 at_less (a ∷ xs) (suc p) x e = let k = at_less xs p x e in omega (arith, k)
 
 -- a stop within a script is at one of its steps
-pub stop_within : (before : List StatementView) (d : Script) (x : Place) (goal : Goal) (n : ℕ) (s : Stop) → StopsWithin before d x goal n s → IsStopBefore (n + size d) s
+pub stop_within : (before : List StatementView) (d : Script) (x : StateBefore) (goal : Goal) (n : ℕ) (s : Stop) → StopsWithin before d x goal n s → IsStopBefore (n + size d) s
 stop_within before d x goal n (stop.Unlicensed k wanted values names) h =
     let many = lines_length before d h.filled x.context.scope x.context.facts goal in
     omega (arith, many, h.stops.number, at_less _ h.stops.place h.stops.step h.stops.at)
@@ -139,13 +139,13 @@ before_more n m (stop.Unlicensed k wanted values names) le h = omega (arith, le,
 before_more n m (stop.TooWide k wanted width names) le h = omega (arith, le, h)
 before_more n m stop.NoMemory le h = tt
 
-stop_of_before : (h : StepStop) (n m : ℕ) (names : Names) → n < m → IsStopBefore m (stop_of h n names)
-stop_of_before (step_stop.Lacks wanted values) n m names less = less
-stop_of_before (step_stop.TooWide wanted width) n m names less = less
-stop_of_before step_stop.NoMemory n m names less = tt
+stop_of_before : (h : StopReason) (n m : ℕ) (names : Names) → n < m → IsStopBefore m (stop_of h n names)
+stop_of_before (stop_reason.Lacks wanted values) n m names less = less
+stop_of_before (stop_reason.TooWide wanted width) n m names less = less
+stop_of_before stop_reason.NoMemory n m names less = tt
 
 -- a stop at a step is before the next one
-pub stop_before : (h : StepStop) (n m : ℕ) (names : Names) (s : Stop) → n < m → IsStopOrNoMemory h n names s → IsStopBefore m s
+pub stop_before : (h : StopReason) (n m : ℕ) (names : Names) (s : Stop) → n < m → IsStopOrNoMemory h n names s → IsStopBefore m s
 stop_before h n m names (stop.Unlicensed a b c d) less e = subst (IsStopBefore m) (sym e) (stop_of_before h n m names less)
 stop_before h n m names (stop.TooWide a b c d) less e = subst (IsStopBefore m) (sym e) (stop_of_before h n m names less)
 stop_before h n m names stop.NoMemory less e = tt

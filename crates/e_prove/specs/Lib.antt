@@ -1,4 +1,4 @@
 pub mod Stops
-pub mod Places
+pub mod StatesBefore
 pub mod Laws
 pub mod inner

@@ -13,15 +13,15 @@ ghost use Rattle.e_deriv.specs.PlacedSteps.{theorem_at};
 ghost use Rattle.e_clause.specs.declared.cert.Version.TheVariants as version;
 ghost use Rattle.e_clause.specs.Versions.{is_cert_of};
 ghost use Rattle.e_prove.specs.inner.Applications.{CanApply, IsUse};
-ghost use Rattle.e_prove.specs.inner.NextPlaces.{after_apply};
+ghost use Rattle.e_prove.specs.inner.NextStates.{after_apply};
 ghost use Rattle.e_prove.specs.inner.StopsOfSteps.{StepStopsAmong, StepStopsFilling};
 ghost use Rattle.e_prove.specs.inner.StopsOfSteps.{StepStopsApplying, UnlessNoMemory};
 ghost use Rattle.e_prove.specs.inner.StopsOfSteps;
 ghost use Rattle.e_prove.specs.inner.LicensedSteps.{IsLicensedStep, IsStopOfStep};
 
 use crate::licence::licences;
-use crate::place::Place;
-use crate::step_stop::StepStop;
+use crate::state_before::StateBefore;
+use crate::stop_reason::StopReason;
 use e_clause::Cert;
 use e_deriv::{Step, Wanted, written_args};
 use e_licence::{Context, Filled, match_blanks};
@@ -53,12 +53,12 @@ pub struct Use {
 /// are filled by the least good choice. The made objects come into scope, and the shown literals
 /// are facts.
 #[tactic(auto, unfolding(e_deriv::specs::Script::step_script))]
-pub fn apply(
+pub fn license_apply(
     alloc: Global,
     application: &Application,
     statement: &Statement,
-    state: &mut Place,
-) -> Result<Step, StepStop>
+    state: &mut StateBefore,
+) -> Result<Step, StopReason>
     requires { CanApply (as_view statement.now) application.now.args.now state.old.context }
     ensures ok { IfOk result (λ d. (before : List StatementView) (certs : List Certificate)
         → theorem_at before application.now.theorem ≡ as_view statement.now → IsLicensedStep before
@@ -81,7 +81,7 @@ pub fn apply(
         }),
         Err(_) => {
             mem::drop(used);
-            Err(StepStop::NoMemory)
+            Err(StopReason::NoMemory)
         }
     }
 }
@@ -93,7 +93,7 @@ fn take_use(
     application: &Application,
     statement: &Statement,
     used: &Use,
-    state: &mut Place,
+    state: &mut StateBefore,
 ) -> Result<Items<Option<Obj>>, AllocError>
     requires apply { CanApply (as_view statement.now) application.now.args.now state.old.context }
     requires used { IsUse (as_view statement.now) application.now.args.now state.old.context
@@ -103,7 +103,7 @@ fn take_use(
         ≡ after_apply (as_view statement.now) used.now.args application.now.names.now state.old) }
 {
     state.grow(statement.made.items(), application.names)?;
-    state.join_equal(alloc, used.gives.items())?;
+    state.join_copied(alloc, used.gives.items())?;
     let args = without_blanks(alloc, used.args.items())?;
     Ok(args)
 }
@@ -115,7 +115,7 @@ fn use_with(
     statement: &Statement,
     pattern: &[Option<Obj>],
     context: &mut Context,
-) -> Result<Use, StepStop>
+) -> Result<Use, StopReason>
     requires { CanApply (as_view statement.now) pattern.now context.old }
     ensures ok { IfOk result (IsUse (as_view statement.now) pattern.now context.old) }
     ensures err { IfErr result (StepStopsApplying (as_view statement.now) context.old pattern.now) }
@@ -134,7 +134,7 @@ fn fill_blanks(
     statement: &Statement,
     pattern: &[Option<Obj>],
     context: &mut Context,
-) -> Result<Use, StepStop>
+) -> Result<Use, StopReason>
     requires { CanApply (as_view statement.now) pattern.now context.old }
     ensures ok { IfOk result (IsUse (as_view statement.now) pattern.now context.old) }
     ensures err { IfErr result (StepStopsFilling (as_view statement.now) context.old pattern.now) }
@@ -144,13 +144,13 @@ fn fill_blanks(
     match match_blanks(alloc, context, statement, pattern)? {
         Filled::Found(args) => match use_at(alloc, statement, args, context) {
             Ok(used) => Ok(used),
-            Err(step_stop) => Err(as_match(step_stop)),
+            Err(stop_reason) => Err(as_match(stop_reason)),
         },
-        Filled::None => Err(StepStop::Lacks {
+        Filled::None => Err(StopReason::Lacks {
             wanted: Wanted::Match,
             values: None,
         }),
-        Filled::TooWide(width) => Err(StepStop::TooWide {
+        Filled::TooWide(width) => Err(StopReason::TooWide {
             wanted: Wanted::Match,
             width,
         }),
@@ -159,18 +159,18 @@ fn fill_blanks(
 
 /// The stop of an application at the choice for its blanks: where that is too wide, it is the match
 /// that is answered to be too wide, not the literal.
-fn as_match(step_stop: StepStop) -> StepStop
-    ensures { result ≡ StopsOfSteps.match_stop step_stop }
+fn as_match(stop_reason: StopReason) -> StopReason
+    ensures { result ≡ StopsOfSteps.match_stop stop_reason }
 {
-    match step_stop {
-        StepStop::TooWide { wanted, width } => {
+    match stop_reason {
+        StopReason::TooWide { wanted, width } => {
             mem::drop(wanted);
-            StepStop::TooWide {
+            StopReason::TooWide {
                 wanted: Wanted::Match,
                 width,
             }
         }
-        step_stop => step_stop,
+        stop_reason => stop_reason,
     }
 }
 
@@ -180,7 +180,7 @@ fn use_at(
     statement: &Statement,
     args: Items<Obj>,
     context: &mut Context,
-) -> Result<Use, StepStop>
+) -> Result<Use, StopReason>
     requires statement { IsTrue (is_small_statement (as_view statement.now)) }
     requires scope { IsTrue (is_small context.old.scope) }
     requires fit { IsTrue (are_arguments (as_view statement.now) context.old.scope args) }
@@ -189,7 +189,7 @@ fn use_at(
     ensures args { IfOk result (λ u. u.args ≡ args) }
     ensures certified { IfOk result (λ u. IsTrue (certify_all context.old.scope context.old.facts
         (needs_of_use (as_view statement.now) args context.old.scope) u.certs.items)) }
-    ensures written { IfOk result (λ u. IsTrue (list_all (is_cert_of version.One) u.certs.items)) }
+    ensures version { IfOk result (λ u. IsTrue (list_all (is_cert_of version.One) u.certs.items)) }
     ensures gives { IfOk result
         (λ u. u.gives ≡ gives_of_use (as_view statement.now) args context.old.scope) }
     ensures err { IfErr result
@@ -202,14 +202,14 @@ fn use_at(
             mem::drop(needs);
             match answered {
                 Ok(certs) => Ok(Use { args, certs, gives }),
-                Err(step_stop) => {
+                Err(stop_reason) => {
                     mem::drop(gives);
-                    Err(step_stop)
+                    Err(stop_reason)
                 }
             }
         }
         Err(UseFault::BadArgs) => unreachable!(),
-        Err(UseFault::NoMemory) => Err(StepStop::NoMemory),
+        Err(UseFault::NoMemory) => Err(StopReason::NoMemory),
     }
 }
 

@@ -3,11 +3,11 @@ ghost use Rattle.std.specs.Prelude.{◌≤◌, IfOk, IfErr};
 ghost use Rattle.e_theorem.specs.Statements.{as_view, as_views};
 ghost use Rattle.e_deriv.specs.Script.{script_of, size};
 ghost use Rattle.e_deriv.specs.Fitting.{IsFitting};
-ghost use Rattle.e_prove.specs.Places.{IsStepPlace};
+ghost use Rattle.e_prove.specs.StatesBefore.{IsStateBeforeStep};
 ghost use Rattle.e_prove.specs.Stops.{StopIs, HasNames, IsStopBefore};
 
-use crate::place::Place;
 use crate::reach::reach;
+use crate::state_before::StateBefore;
 use e_book::Theorem;
 use e_deriv::{Goal, Stop};
 use e_literal::next_objects;
@@ -21,17 +21,17 @@ use std::mem;
 ///
 /// A stop is one of [`crate::prove`], at a step before this one. As there, each step of the script
 /// has to fit in its place, and so have the literals.
-pub fn context_at(
+pub fn state_before_step(
     alloc: Global,
     before: &[Statement],
     theorem: &Theorem,
     step: u32,
-) -> Result<Place, Stop>
+) -> Result<StateBefore, Stop>
     requires fitting { IsFitting (as_views before.now) (as_view theorem.now.statement)
         (script_of theorem.now.block) }
     requires first { 1 ≤ step }
     requires last { step ≤ size (script_of theorem.now.block) }
-    ensures place { IfOk result (IsStepPlace (as_views before.now) (as_view theorem.now.statement)
+    ensures state { IfOk result (IsStateBeforeStep (as_views before.now) (as_view theorem.now.statement)
         theorem.now.names (script_of theorem.now.block) step) }
     ensures stop { IfErr result (StopIs (as_views before.now) (as_view theorem.now.statement)
         (script_of theorem.now.block)) }
@@ -40,7 +40,7 @@ pub fn context_at(
     ensures earlier { IfErr result (IsStopBefore step) }
 {
     let statement = &theorem.statement;
-    let mut state = Place::first(alloc, statement, &theorem.names)?;
+    let mut state = StateBefore::first(alloc, statement, &theorem.names)?;
     let made = match next_objects(alloc, state.context.scope(), statement.made.items()) {
         Ok(made) => made,
         Err(_) => {

@@ -9,13 +9,13 @@ ghost use Rattle.e_prove.specs.inner.PassedSteps.{AreReadySteps, IsReadyFor, IsR
 ghost use Rattle.e_prove.specs.inner.PassedSteps.{IsDerivedFrom, IsPassed, KeepsHeld};
 ghost use Rattle.e_prove.specs.inner.PassedSteps.{StopsInSteps, StopsInStep, StopsWithin};
 
-use crate::application::{Application, apply};
+use crate::application::{Application, license_apply};
 use crate::close::{contradiction, qed};
 use crate::inner::{SuperposedParts, end_claim, end_superposition};
-use crate::place::Place;
-use crate::step::{cite, hence, make, superpose};
-use crate::step_stop::{count_or_stop, stop_at};
-use e_deriv::{Block, Close, Goal, Step, Stop, cases};
+use crate::state_before::StateBefore;
+use crate::step::{license_cite, license_hence, license_make, license_superpose};
+use crate::stop_reason::{count_or_stop, stop_at};
+use e_deriv::{Block, Close, Goal, Step, Stop, cases_close};
 use e_literal::Lit;
 use e_theorem::Statement;
 use std::alloc::Global;
@@ -29,7 +29,7 @@ pub fn prove_block(
     before: &[Statement],
     block: &Block,
     goal: &Goal,
-    state: &mut Place,
+    state: &mut StateBefore,
     number: &mut u32,
 ) -> Result<Block, Stop>
     requires ready { IsReadyFor (as_views before.now) (script_of block.now) state.old
@@ -67,7 +67,7 @@ pub fn prove_step(
     alloc: Global,
     before: &[Statement],
     step: &Step,
-    state: &mut Place,
+    state: &mut StateBefore,
     number: &mut u32,
 ) -> Result<Step, Stop>
     requires { IsReadyStep (as_views before.now) step.now state.old number.old }
@@ -77,11 +77,11 @@ pub fn prove_step(
 {
     match step {
         Step::Cite(by) => {
-            let answered = cite(alloc, by, state);
+            let answered = license_cite(alloc, by, state);
             count_or_stop(alloc, answered, state, number)
         }
         Step::Hence { lit, .. } => {
-            let answered = hence(alloc, lit, state);
+            let answered = license_hence(alloc, lit, state);
             count_or_stop(alloc, answered, state, number)
         }
         Step::Make {
@@ -89,7 +89,7 @@ pub fn prove_step(
             names,
             ..
         } => {
-            let answered = make(alloc, construction, names.items(), state);
+            let answered = license_make(alloc, construction, names.items(), state);
             count_or_stop(alloc, answered, state, number)
         }
         Step::Apply {
@@ -104,7 +104,7 @@ pub fn prove_step(
                 args: args.items(),
                 names: names.items(),
             };
-            let answered = apply(alloc, &application, statement, state);
+            let answered = license_apply(alloc, &application, statement, state);
             count_or_stop(alloc, answered, state, number)
         }
         Step::Claim { shown, inner } => {
@@ -134,7 +134,7 @@ fn prove_claim(
     before: &[Statement],
     shown: &[Lit],
     inner: &Block,
-    state: &mut Place,
+    state: &mut StateBefore,
     number: &mut u32,
 ) -> Result<Step, Stop>
     requires { AreReadySteps (as_views before.now) (Claim shown.now (script_of inner.now))
@@ -164,7 +164,7 @@ fn prove_superposed(
     before: &[Statement],
     parts: &SuperposedParts,
     inner: &Block,
-    state: &mut Place,
+    state: &mut StateBefore,
     number: &mut u32,
 ) -> Result<Step, Stop>
     requires { (certs : List Certificate) × AreReadySteps
@@ -184,11 +184,11 @@ fn prove_superposed(
         shown,
     } = *parts;
     let outer = state.enter_block(alloc)?;
-    let certs = match superpose(alloc, superposition, names, state) {
+    let certs = match license_superpose(alloc, superposition, names, state) {
         Ok(certs) => certs,
-        Err(step_stop) => {
+        Err(stop_reason) => {
             mem::drop(outer);
-            return Err(stop_at(alloc, step_stop, state, *number));
+            return Err(stop_at(alloc, stop_reason, state, *number));
         }
     };
     *number += 1;
@@ -210,7 +210,7 @@ fn prove_close(
     before: &[Statement],
     close: &Close,
     goal: &Goal,
-    state: &mut Place,
+    state: &mut StateBefore,
     number: &mut u32,
 ) -> Result<Close, Stop>
     requires ready { IsReadyFor (as_views before.now) (close_script close.now) state.old
@@ -253,7 +253,7 @@ fn prove_close(
             }
             match prove_block(alloc, before, second, goal, state, number) {
                 Ok(other) => {
-                    let derived = cases(alloc, lit, one, other)?;
+                    let derived = cases_close(alloc, lit, one, other)?;
                     Ok(derived)
                 }
                 Err(stop) => {

@@ -10,7 +10,7 @@ ghost use Rattle.e_prove.specs.inner.StopsOfSteps.{contradiction_by};
 ghost use Rattle.e_prove.specs.inner.LicensedSteps.{IsLicensedClose, IsStopOfClose};
 
 use crate::licence::licences;
-use crate::step_stop::StepStop;
+use crate::stop_reason::StopReason;
 use e_deriv::{Close, Goal, Wanted, goal_with};
 use e_licence::{Context, Refuted};
 use e_literal::{Items, Obj};
@@ -23,7 +23,7 @@ pub fn qed(
     objects: &[Obj],
     goal: &Goal,
     context: &mut Context,
-) -> Result<Close, StepStop>
+) -> Result<Close, StopReason>
     requires form { IsTrue (are_for (goal_view goal.now) context.old.scope objects.now) }
     requires lits { IsTrue
         (are_well_formed_in context.old.scope (goal_with (goal_view goal.now) objects.now)) }
@@ -43,7 +43,7 @@ pub fn qed(
 }
 
 /// A contradiction: the facts contradict each other.
-pub fn contradiction(alloc: Global, context: &mut Context) -> Result<Close, StepStop>
+pub fn contradiction(alloc: Global, context: &mut Context) -> Result<Close, StopReason>
     ensures ok { IfOk
         result (λ d. (before : List StatementView) (goal : BlockGoal) (written : Option Against)
         → IsLicensedClose before (Contradiction written) context.old goal d) }
@@ -57,7 +57,7 @@ pub fn contradiction(alloc: Global, context: &mut Context) -> Result<Close, Step
 }
 
 /// The close that an answer on a contradiction makes, or why it stops.
-fn close_by(answer: Refuted) -> Result<Close, StepStop>
+fn close_by(answer: Refuted) -> Result<Close, StopReason>
     ensures { result ≡ contradiction_by answer }
 {
     match answer {
@@ -68,11 +68,11 @@ fn close_by(answer: Refuted) -> Result<Close, StepStop>
         Refuted::No(values) => {
             let wanted = Wanted::Contradiction;
             let values = Some(values);
-            Err(StepStop::Lacks { wanted, values })
+            Err(StopReason::Lacks { wanted, values })
         }
         Refuted::TooWide(width) => {
             let wanted = Wanted::Contradiction;
-            Err(StepStop::TooWide { wanted, width })
+            Err(StopReason::TooWide { wanted, width })
         }
     }
 }

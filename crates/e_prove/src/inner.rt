@@ -3,12 +3,12 @@ ghost use Rattle.std.specs.Prelude.{◌≡◌, ◌<◌, List, length, IfOk, IfEr
 ghost use Rattle.e_deriv.specs.Script.{Script, Claim, Superposed};
 ghost use Rattle.e_deriv.specs.Script.{script_of, step_script};
 ghost use Rattle.e_deriv.specs.declared.stop.Stop.TheVariants.{NoMemory};
-ghost use Rattle.e_prove.specs.inner.NextPlaces.{CanJoinLast, IsOutsideWith};
+ghost use Rattle.e_prove.specs.inner.NextStates.{CanJoinLast, IsOutsideWith};
 
-use crate::place::Place;
+use crate::state_before::StateBefore;
 use e_clause::Cert;
 use e_construct::Superpose;
-use e_deriv::{Block, Names, Step, Stop, claim, superpose};
+use e_deriv::{Block, Names, Step, Stop, claim_step, superposed_step};
 use e_literal::{Items, Lit};
 use e_text::Name;
 use std::alloc::Global;
@@ -29,7 +29,7 @@ pub fn end_claim(
     shown: &[Lit],
     proved: Block,
     outer: Names,
-    state: &mut Place,
+    state: &mut StateBefore,
 ) -> Result<Step, Stop>
     requires held { 0 < length state.old.context.held }
     requires good { CanJoinLast shown.now state.old }
@@ -40,7 +40,7 @@ pub fn end_claim(
 {
     match state.leave_block_with(alloc, outer, shown) {
         Ok(()) => {
-            let step = claim(alloc, shown, proved)?;
+            let step = claim_step(alloc, shown, proved)?;
             Ok(step)
         }
         Err(_) => {
@@ -58,7 +58,7 @@ pub fn end_superposition(
     certs: Vec<Cert>,
     proved: Block,
     outer: Names,
-    state: &mut Place,
+    state: &mut StateBefore,
 ) -> Result<Step, Stop>
     requires held { 0 < length state.old.context.held }
     requires good { CanJoinLast parts.now.shown.now state.old }
@@ -76,7 +76,7 @@ pub fn end_superposition(
     let certs = Items::new(certs);
     match state.leave_block_with(alloc, outer, shown) {
         Ok(()) => {
-            let step = superpose(alloc, superposition, names, shown, certs, proved)?;
+            let step = superposed_step(alloc, superposition, names, shown, certs, proved)?;
             Ok(step)
         }
         Err(_) => {

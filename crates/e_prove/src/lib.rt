@@ -8,16 +8,16 @@ mod close;
 mod inner;
 mod laws;
 mod licence;
-mod place;
 mod prover;
 mod reach;
+mod state_before;
 mod step;
-mod step_stop;
+mod stop_reason;
 
-pub use before_step::context_at;
+pub use before_step::state_before_step;
 pub use laws::{
     derived_stops_for_memory, licensed_is_not_refused, licensed_stops_for_memory,
     refused_stops_there,
 };
-pub use place::Place;
 pub use prover::prove;
+pub use state_before::StateBefore;

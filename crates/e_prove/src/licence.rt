@@ -5,12 +5,12 @@ ghost use Rattle.e_literal.specs.Facts.{has, has_all, others};
 ghost use Rattle.e_literal.specs.Literal.{negation};
 ghost use Rattle.e_clause.specs.Certify.{certifies, certify_all};
 ghost use Rattle.e_clause.specs.LimitedFacts.{is_well_formed_in, are_well_formed_in};
-ghost use Rattle.e_deriv.specs.Steps.{is_cited as gives_cited};
+ghost use Rattle.e_deriv.specs.Steps.{is_cited};
 ghost use Rattle.e_clause.specs.declared.cert.Version.TheVariants as version;
 ghost use Rattle.e_clause.specs.Versions.{is_cert_of};
 ghost use Rattle.e_prove.specs.inner.StopsOfSteps.{StepStopsAmong};
 
-use crate::step_stop::StepStop;
+use crate::stop_reason::StopReason;
 use e_clause::{By, Cert, InstanceFault, instance};
 use e_deriv::Wanted;
 use e_facts::Facts;
@@ -21,11 +21,11 @@ use std::mem;
 
 /// A certificate of the literal, where it is allowed. It cites facts by literals, which are well
 /// formed.
-pub fn licence(alloc: Global, context: &mut Context, lit: &Lit) -> Result<Cert, StepStop>
+pub fn licence(alloc: Global, context: &mut Context, lit: &Lit) -> Result<Cert, StopReason>
     requires { IsTrue (is_well_formed_in context.old.scope lit.now) }
     ensures ok { IfOk result
         (λ c. IsTrue (certifies context.old.scope context.old.facts lit.now c)) }
-    ensures written { IfOk result (λ c. IsTrue (is_cert_of version.One c)) }
+    ensures version { IfOk result (λ c. IsTrue (is_cert_of version.One c)) }
     ensures err { IfErr result (StepStopsAmong context.old (lit.now ∷ [])) }
     ensures kept { context.new ≡ context.old }
 {
@@ -35,27 +35,27 @@ pub fn licence(alloc: Global, context: &mut Context, lit: &Lit) -> Result<Cert, 
         Licensed::No(values) => match copy(alloc, lit) {
             Ok(lit) => {
                 let wanted = Wanted::Literal(lit);
-                Err(StepStop::Lacks { wanted, values })
+                Err(StopReason::Lacks { wanted, values })
             }
             Err(_) => {
                 mem::drop(values);
-                Err(StepStop::NoMemory)
+                Err(StopReason::NoMemory)
             }
         },
         Licensed::TooWide(width) => {
             let wanted = Wanted::Literal(copy(alloc, lit)?);
-            Err(StepStop::TooWide { wanted, width })
+            Err(StopReason::TooWide { wanted, width })
         }
     }
 }
 
 /// A certificate of each literal, where each is allowed. They are asked for in order, and the first
 /// that is not allowed, or too wide to be decided, stops it.
-pub fn licences(alloc: Global, context: &mut Context, lits: &[Lit]) -> Result<Vec<Cert>, StepStop>
+pub fn licences(alloc: Global, context: &mut Context, lits: &[Lit]) -> Result<Vec<Cert>, StopReason>
     requires { IsTrue (are_well_formed_in context.old.scope lits.now) }
     ensures ok { IfOk result
         (λ cs. IsTrue (certify_all context.old.scope context.old.facts lits.now cs.items)) }
-    ensures written { IfOk result (λ cs. IsTrue (list_all (is_cert_of version.One) cs.items)) }
+    ensures version { IfOk result (λ cs. IsTrue (list_all (is_cert_of version.One) cs.items)) }
     ensures err { IfErr result (StepStopsAmong context.old lits.now) }
     ensures kept { context.new ≡ context.old }
 {
@@ -70,11 +70,11 @@ pub fn licences(alloc: Global, context: &mut Context, lits: &[Lit]) -> Result<Ve
 /// Whether the cited instance gives the literal: it is one of the instance, and the negation of each
 /// other is a fact.
 pub fn is_cited(alloc: Global, by: &By, facts: &Facts) -> Result<bool, AllocError>
-    ensures { IfOk result (λ b. b ≡ gives_cited facts.now by.now) }
+    ensures { IfOk result (λ b. b ≡ is_cited facts.now by.now) }
 {
     match instance(alloc, by.rule, by.args.items()) {
         Ok(lits) => {
-            if !has_same(&lits, &by.lit) {
+            if !is_among(&lits, &by.lit) {
                 return Ok(false);
             }
             others_fail(alloc, facts, &by.lit, &lits)
@@ -85,7 +85,7 @@ pub fn is_cited(alloc: Global, by: &By, facts: &Facts) -> Result<bool, AllocErro
 }
 
 /// Whether one of the literals is the same as this one.
-fn has_same(lits: &[Lit], lit: &Lit) -> bool
+fn is_among(lits: &[Lit], lit: &Lit) -> bool
     ensures { result ≡ has lits.now lit.now }
 {
     lits.iter().any(|m| same(m, lit))

@@ -14,7 +14,7 @@ ghost use Rattle.e_clause.specs.declared.cert.Version.TheVariants as version;
 ghost use Rattle.e_deriv.specs.Versions.{has_certs_of};
 
 use crate::block::prove_block;
-use crate::place::Place;
+use crate::state_before::StateBefore;
 use e_book::Theorem;
 use e_deriv::{Block, Goal, Stop};
 use e_literal::next_objects;
@@ -41,7 +41,7 @@ pub fn prove(alloc: Global, before: &[Statement], theorem: &Theorem) -> Result<B
         (λ d. Certified (as_views before.now) (as_view theorem.now.statement) (script_of d)) }
     ensures script { IfOk result (λ d. bare_script (script_of d)
         ≡ filled_by (bare_script (script_of theorem.now.block)) (script_of d)) }
-    ensures least { IfOk
+    ensures licensed { IfOk
         result (λ d. AllLicensed (as_views before.now) (proof_steps (as_views before.now)
         (as_view theorem.now.statement) (script_of theorem.now.block) (script_of d))) }
     ensures written { IfOk result
@@ -54,7 +54,7 @@ pub fn prove(alloc: Global, before: &[Statement], theorem: &Theorem) -> Result<B
         theorem.now.names (script_of theorem.now.block)) }
 {
     let statement = &theorem.statement;
-    let mut state = Place::first(alloc, statement, &theorem.names)?;
+    let mut state = StateBefore::first(alloc, statement, &theorem.names)?;
     let made = match next_objects(alloc, state.context.scope(), statement.made.items()) {
         Ok(made) => made,
         Err(_) => {

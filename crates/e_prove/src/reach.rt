@@ -8,15 +8,15 @@ ghost use Rattle.e_deriv.specs.Script.{Script, script_of, step_script};
 ghost use Rattle.e_deriv.specs.Script.{close_script, size as script_size};
 ghost use Rattle.e_prove.specs.Stops.{IsStopBefore};
 ghost use Rattle.e_deriv.specs.Goal.{goal_view};
-ghost use Rattle.e_prove.specs.inner.NextPlaces.{after_literal};
+ghost use Rattle.e_prove.specs.inner.NextStates.{after_literal};
 ghost use Rattle.e_prove.specs.inner.PassedSteps.{IsReadyFor, IsDerivedFrom, IsReadyStep};
 ghost use Rattle.e_prove.specs.inner.PassedSteps.{KeepsHeld, ReachesStep, ReachesInStep};
 ghost use Rattle.e_prove.specs.inner.PassedSteps.{IsFirstPassed, StopsWithin, StopsInStep};
 
 use crate::block::{prove_block, prove_step};
-use crate::place::Place;
-use crate::step::superpose;
-use crate::step_stop::stop_at;
+use crate::state_before::StateBefore;
+use crate::step::license_superpose;
+use crate::stop_reason::stop_at;
 use e_deriv::{Block, Close, Goal, Step, Stop, size};
 use e_literal::Lit;
 use e_theorem::Statement;
@@ -38,31 +38,31 @@ fn step_count(step: &Step) -> u32
 }
 
 /// Licenses the steps of a block before step `target`, where the block's first step has number
-/// `first`. The state is then what holds before `target`: the blocks around it are entered, and not
-/// left.
+/// `first_number`. The state is then what holds before `target`: the blocks around it are entered,
+/// and not left.
 #[cycle(reach)]
 pub fn reach(
     alloc: Global,
     before: &[Statement],
     block: &Block,
     goal: &Goal,
-    state: &mut Place,
-    first: u32,
+    state: &mut StateBefore,
+    first_number: u32,
     target: u32,
 ) -> Result<(), Stop>
     requires ready { IsReadyFor (as_views before.now) (script_of block.now) state.old
         (goal_view goal.now) }
-    requires few { first + script_size (script_of block.now) < 2 ^ 32 }
-    requires from { first ≤ target }
-    requires within { target < first + script_size (script_of block.now) }
+    requires few { first_number + script_size (script_of block.now) < 2 ^ 32 }
+    requires from { first_number ≤ target }
+    requires within { target < first_number + script_size (script_of block.now) }
     ensures reached { OnOk result (ReachesStep (as_views before.now) (script_of block.now)
-        state.old (goal_view goal.now) first target state.new) }
+        state.old (goal_view goal.now) first_number target state.new) }
     ensures kept { OnOk result (KeepsHeld state.old state.new) }
     ensures err { IfErr result (StopsWithin (as_views before.now) (script_of block.now) state.old
-        (goal_view goal.now) first) }
+        (goal_view goal.now) first_number) }
     ensures earlier { IfErr result (IsStopBefore target) }
 {
-    let mut number = first;
+    let mut number = first_number;
     for step in &block.steps {
         if number == target {
             return Ok(());
@@ -89,7 +89,7 @@ fn enter_step(
     alloc: Global,
     before: &[Statement],
     step: &Step,
-    state: &mut Place,
+    state: &mut StateBefore,
     number: u32,
     target: u32,
 ) -> Result<(), Stop>
@@ -121,9 +121,9 @@ fn enter_step(
             inner,
             ..
         } => {
-            match superpose(alloc, superposition, names.items(), state) {
+            match license_superpose(alloc, superposition, names.items(), state) {
                 Ok(certs) => mem::drop(certs),
-                Err(step_stop) => return Err(stop_at(alloc, step_stop, state, number)),
+                Err(stop_reason) => return Err(stop_at(alloc, stop_reason, state, number)),
             }
             let goal = Goal {
                 made: &[],
@@ -142,7 +142,7 @@ fn enter_close(
     before: &[Statement],
     close: &Close,
     goal: &Goal,
-    state: &mut Place,
+    state: &mut StateBefore,
     number: u32,
     target: u32,
 ) -> Result<(), Stop>
@@ -175,20 +175,20 @@ fn enter_close(
     }
 }
 
-/// Licenses the first block of a split, and begins the second: the negation of the literal is a
-/// fact.
+/// Licenses the first block of a split, and begins the second: the negation of the literal is
+/// a fact. The block's first step has number `first_number`.
 fn pass_first_case(
     alloc: Global,
     before: &[Statement],
     lit: &Lit,
     block: &Block,
     goal: &Goal,
-    state: &mut Place,
-    first: u32,
+    state: &mut StateBefore,
+    first_number: u32,
 ) -> Result<(), Stop>
     requires ready { IsReadyFor (as_views before.now) (script_of block.now)
         (after_literal lit.now state.old) (goal_view goal.now) }
-    requires few { first + script_size (script_of block.now) < 2 ^ 32 }
+    requires few { first_number + script_size (script_of block.now) < 2 ^ 32 }
     requires second { (derived : Script) → IsDerivedFrom (as_views before.now)
         (script_of block.now) (after_literal lit.now state.old) (goal_view goal.now) derived
         → IsTrue (are_limited_facts state.old.context.scope
@@ -196,7 +196,7 @@ fn pass_first_case(
     ensures passed { OnOk result (IsFirstPassed (as_views before.now) lit.now
         (script_of block.now) state.old (goal_view goal.now) state.new) }
     ensures err { IfErr result (StopsWithin (as_views before.now) (script_of block.now)
-        (after_literal lit.now state.old) (goal_view goal.now) first) }
+        (after_literal lit.now state.old) (goal_view goal.now) first_number) }
 {
     let outer = state.enter_block(alloc)?;
     match state.assume(alloc, lit) {
@@ -206,7 +206,7 @@ fn pass_first_case(
             return Err(Stop::NoMemory);
         }
     }
-    let mut number = first;
+    let mut number = first_number;
     match prove_block(alloc, before, block, goal, state, &mut number) {
         Ok(proved) => mem::drop(proved),
         Err(stop) => {

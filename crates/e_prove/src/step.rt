@@ -12,14 +12,14 @@ ghost use Rattle.e_construct.specs.Superposing;
 ghost use Rattle.e_clause.specs.Certify.{certify_all};
 ghost use Rattle.e_clause.specs.declared.cert.Version.TheVariants as version;
 ghost use Rattle.e_clause.specs.Versions.{is_cert_of};
-ghost use Rattle.e_prove.specs.inner.NextPlaces.{HasRoomForMore, after_literal};
-ghost use Rattle.e_prove.specs.inner.NextPlaces.{after_make, after_superposed};
+ghost use Rattle.e_prove.specs.inner.NextStates.{HasRoomForMore, after_literal};
+ghost use Rattle.e_prove.specs.inner.NextStates.{after_make, after_superposed};
 ghost use Rattle.e_prove.specs.inner.StopsOfSteps.{StepStopsAmong, UnlessNoMemory};
 ghost use Rattle.e_prove.specs.inner.LicensedSteps.{IsLicensedStep, IsStopOfStep};
 
 use crate::licence::{is_cited, licence, licences};
-use crate::place::Place;
-use crate::step_stop::StepStop;
+use crate::state_before::StateBefore;
+use crate::stop_reason::StopReason;
 use e_clause::{By, Cert};
 use e_construct::{Construction, Superpose};
 use e_deriv::{Step, Wanted, copy_by, copy_construction};
@@ -30,7 +30,7 @@ use std::mem;
 
 /// A citation: its literal is one of the instance, and the negation of each other is a fact.
 #[tactic(auto, unfolding(e_deriv::specs::Script::step_script))]
-pub fn cite(alloc: Global, by: &By, state: &mut Place) -> Result<Step, StepStop>
+pub fn license_cite(alloc: Global, by: &By, state: &mut StateBefore) -> Result<Step, StopReason>
     requires { IsTrue
         (are_limited_facts state.old.context.scope (with_fact state.old.context.facts by.now.lit)) }
     ensures ok { IfOk result (λ d. (before : List StatementView)
@@ -40,7 +40,7 @@ pub fn cite(alloc: Global, by: &By, state: &mut Place) -> Result<Step, StepStop>
     ensures kept { IfErr result (UnlessNoMemory (state.new ≡ state.old)) }
 {
     if !is_cited(alloc, by, state.context.facts())? {
-        return Err(StepStop::Lacks {
+        return Err(StopReason::Lacks {
             wanted: Wanted::Literal(copy(alloc, &by.lit)?),
             values: None,
         });
@@ -52,7 +52,7 @@ pub fn cite(alloc: Global, by: &By, state: &mut Place) -> Result<Step, StepStop>
 
 /// A hence: its literal is allowed.
 #[tactic(auto, unfolding(e_deriv::specs::Script::step_script))]
-pub fn hence(alloc: Global, lit: &Lit, state: &mut Place) -> Result<Step, StepStop>
+pub fn license_hence(alloc: Global, lit: &Lit, state: &mut StateBefore) -> Result<Step, StopReason>
     requires lit { IsTrue (is_well_formed_in state.old.context.scope lit.now) }
     requires after { IsTrue
         (are_limited_facts state.old.context.scope (with_fact state.old.context.facts lit.now)) }
@@ -70,14 +70,14 @@ pub fn hence(alloc: Global, lit: &Lit, state: &mut Place) -> Result<Step, StepSt
         }),
         Err(_) => {
             mem::drop(cert);
-            Err(StepStop::NoMemory)
+            Err(StopReason::NoMemory)
         }
     }
 }
 
-/// The literal is a fact; hands out an equal one. It fails only out of memory; no clause says what
+/// Makes the literal a fact, and hands out an equal one. It fails only out of memory; no clause says what
 /// holds then.
-fn assume_copy(alloc: Global, lit: &Lit, state: &mut Place) -> Result<Lit, AllocError>
+fn assume_copy(alloc: Global, lit: &Lit, state: &mut StateBefore) -> Result<Lit, AllocError>
     requires { IsTrue
         (are_limited_facts state.old.context.scope (with_fact state.old.context.facts lit.now)) }
     ensures lit { IfOk result (λ l. l ≡ lit.now) }
@@ -89,12 +89,12 @@ fn assume_copy(alloc: Global, lit: &Lit, state: &mut Place) -> Result<Lit, Alloc
 
 /// A construction: each literal that it needs is allowed.
 #[tactic(auto, unfolding(e_deriv::specs::Script::step_script))]
-pub fn make(
+pub fn license_make(
     alloc: Global,
     construction: &Construction,
     names: &[Name],
-    state: &mut Place,
-) -> Result<Step, StepStop>
+    state: &mut StateBefore,
+) -> Result<Step, StopReason>
     requires room { HasRoomForMore state.old.context.scope }
     requires needs { IsTrue (are_well_formed_in state.old.context.scope
         (Construct.needs_of_construction construction.now)) }
@@ -119,19 +119,19 @@ pub fn make(
         }),
         Err(_) => {
             mem::drop(certs);
-            Err(StepStop::NoMemory)
+            Err(StopReason::NoMemory)
         }
     }
 }
 
 /// A superposition before its block: each literal that it needs is allowed. The copied points come
 /// into scope, and what it gives are facts.
-pub fn superpose(
+pub fn license_superpose(
     alloc: Global,
     superposition: &Superpose,
     names: &[Name],
-    state: &mut Place,
-) -> Result<Vec<Cert>, StepStop>
+    state: &mut StateBefore,
+) -> Result<Vec<Cert>, StopReason>
     requires room { HasRoomForMore state.old.context.scope }
     requires needs { IsTrue (are_well_formed_in state.old.context.scope
         (Superposing.needs_of_superposition superposition.now)) }
@@ -139,7 +139,7 @@ pub fn superpose(
         in IsTrue (are_limited_facts after.context.scope after.context.facts) }
     ensures certs { IfOk result (λ cs. IsTrue (certify_all state.old.context.scope
         state.old.context.facts (Superposing.needs_of_superposition superposition.now) cs.items)) }
-    ensures written { IfOk result (λ cs. IsTrue (list_all (is_cert_of version.One) cs.items)) }
+    ensures version { IfOk result (λ cs. IsTrue (list_all (is_cert_of version.One) cs.items)) }
     ensures after { OnOk result
         (state.new ≡ after_superposed superposition.now names.now state.old) }
     ensures err { IfErr result
@@ -153,7 +153,7 @@ pub fn superpose(
         Ok(()) => Ok(certs),
         Err(_) => {
             mem::drop(certs);
-            Err(StepStop::NoMemory)
+            Err(StopReason::NoMemory)
         }
     }
 }

@@ -9,7 +9,8 @@ use crate::kept::CertQueue;
 use e_cert::{Certs, StepCerts};
 use e_clause::{Against, Cert};
 use e_deriv::{
-    Block, Close, Step, cases, claim, copy_by, copy_construction, copy_names, superpose,
+    Block, Close, Step, cases_close, claim_step, copy_by, copy_construction, copy_names,
+    superposed_step,
 };
 use e_literal::{Items, copy};
 use std::alloc::{AllocError, Global};
@@ -123,7 +124,7 @@ fn fill_step(alloc: Global, step: &Step, queue: &mut CertQueue) -> Result<Step, 
         }
         Step::Claim { shown, inner } => {
             let inner = fill(alloc, inner, queue)?;
-            claim(alloc, shown.items(), inner)
+            claim_step(alloc, shown.items(), inner)
         }
         Step::Superposed {
             superposition,
@@ -172,7 +173,7 @@ fn fill_close(alloc: Global, close: &Close, queue: &mut CertQueue) -> Result<Clo
         Close::Cases { lit, first, second } => {
             let first = fill(alloc, first, queue)?;
             match fill(alloc, second, queue) {
-                Ok(second) => cases(alloc, lit, first, second),
+                Ok(second) => cases_close(alloc, lit, first, second),
                 Err(error) => {
                     mem::drop(first);
                     Err(error)

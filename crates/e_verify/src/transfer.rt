@@ -36,13 +36,13 @@ pub fn transfer_certifies(
         return Ok(false);
     }
     let needs = negated_others(alloc, lits, lit)?;
-    parts_certify(alloc, facts, &needs, cert.parts.items())
+    parts_certify_needs(alloc, facts, &needs, cert.parts.items())
 }
 
 /// Whether there are as many parts as literals that are needed, and each certifies its literal. The
 /// definition takes the literals whose negations are needed, so they are negated back here.
 #[tactic(auto, using(crate::proofs::checking::PairedCertificates::parts))]
-fn parts_certify(
+fn parts_certify_needs(
     alloc: Global,
     facts: &Facts,
     needs: &[Lit],
@@ -60,7 +60,7 @@ fn parts_certify(
             if !part_certifies(alloc, facts, lit, part)? {
                 return Ok(false);
             }
-            parts_certify(alloc, facts, needs, parts)
+            parts_certify_needs(alloc, facts, needs, parts)
         }
         ([], [_, ..]) => Ok(false),
         ([_, ..], []) => Ok(false),

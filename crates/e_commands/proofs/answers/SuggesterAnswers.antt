@@ -33,9 +33,9 @@ use Rattle.e_book.proofs.fit_theorems.Fitting.{one_more_stated}
 use Rattle.e_names.proofs.titles.NotionsBeside.{one_more_notion}
 use Rattle.e_prove.proofs.StopsInLists.{at_less}
 use Rattle.e_suggest.specs.Suggestions.{SomeArgsAreTooWide}
-use Rattle.e_prove.specs.Places.{IsStepPlace}
+use Rattle.e_prove.specs.StatesBefore.{IsStateBeforeStep}
 use Rattle.e_prove.specs.Stops.{StopIs, HasNames, IsStopBefore}
-use Rattle.e_prove.specs.declared.place.Place.{Place}
+use Rattle.e_prove.specs.declared.state_before.StateBefore.{StateBefore}
 use Rattle.e_spell.specs.Spelling.{stop_text, too_wide_text, IsStop}
 use Rattle.e_book.specs.Canonical.{text_of}
 use Rattle.e_commands.specs.declared.output.Answer.{Answer}
@@ -231,8 +231,8 @@ is_stopped lines title step known t stops.NoMemory answer out next earlier wide 
 
 -- ---- the place
 
-answers_at : (lines : Rest) (title : List ℕ) (step : ℕ) (known : List TitledStatement) (t : TheoremView) (p : Place) (answer : Status) (out : List ℕ) → IsNextTitled lines title known t → t.title ≡ title
-    → IsStepPlace (stated_by known) (as_view t.statement) t.names t.script step p → AnswersAt p.names p.context.scope p.context.facts known title step answer out → IsBookAnswer lines title step answer out
+answers_at : (lines : Rest) (title : List ℕ) (step : ℕ) (known : List TitledStatement) (t : TheoremView) (p : StateBefore) (answer : Status) (out : List ℕ) → IsNextTitled lines title known t → t.title ≡ title
+    → IsStateBeforeStep (stated_by known) (as_view t.statement) t.names t.script step p → AnswersAt p.names p.context.scope p.context.facts known title step answer out → IsBookAnswer lines title step answer out
 answers_at lines title step known t p (status.Suggested n more) out next titled place (list, count, first, bytes) =
     record {
       due = next_up_to lines title known t (Suggests title step n more out) next
@@ -274,7 +274,7 @@ answers_at lines title step known t p (status.TooWide q n wanted width) out next
     }
 answers_at lines title step known t p answer out next titled place a = absurd a
 
-pub is_answered : (known : List TitledStatement) (t : TheoremView) (title : List ℕ) (step : ℕ) (p : Place) (answer : Status) (out : List ℕ) → t.title ≡ title → IsStepPlace (stated_by known) (as_view t.statement) t.names t.script step p
+pub is_answered : (known : List TitledStatement) (t : TheoremView) (title : List ℕ) (step : ℕ) (p : StateBefore) (answer : Status) (out : List ℕ) → t.title ≡ title → IsStateBeforeStep (stated_by known) (as_view t.statement) t.names t.script step p
     → AnswersAt p.names p.context.scope p.context.facts known title step answer out → AnswersNext known t title step answer out
 is_answered known t title step p answer out titled place a lines next = answers_at lines title step known t p answer out next titled place a
 
@@ -563,7 +563,7 @@ stopped_next (Err e) known t step stop has less refused named h = tt
 stopped_next (Ok a) known t step stop has less refused named h =
     λ lines next. is_stopped lines t.title step known t stop a.status a.line.items next (stops_own t.title step t stop has less) refused named h
 
-pub answered_next : {E : Type 0} (r : Result Answer E) (known : List TitledStatement) (t : TheoremView) (step : ℕ) (p : Place) → IsStepPlace (stated_by known) (as_view t.statement) t.names t.script step p
+pub answered_next : {E : Type 0} (r : Result Answer E) (known : List TitledStatement) (t : TheoremView) (step : ℕ) (p : StateBefore) → IsStateBeforeStep (stated_by known) (as_view t.statement) t.names t.script step p
     → AnswersIf r (AnswersAt p.names p.context.scope p.context.facts known t.title step) → AnswersIf r (AnswersNext known t t.title step)
 answered_next (Err e) known t step p place h = tt
 answered_next (Ok a) known t step p place h = is_answered known t t.title step p a.status a.line.items refl place h

@@ -108,7 +108,7 @@ blocks_more last known lines (e ∷ es) now rest d r =
 
 -- a theorem with a derivation has each of its lines licensed
 licensed : (known : List TitledStatement) (d : Derived) → IsDerived known d → IsLicensed known d.theorem
-licensed known d h = record { filled = d.derivation; licensed = h.least }
+licensed known d h = record { filled = d.derivation; licensed = h.licensed }
 
 pub begins : (lines : Rest) (old : Option (List ℕ)) → History lines old nothing_known lines old 0
 begins lines old = record { derived = []; sound = tt; begins = none_defined (end_line_number lines) nothing_known lines; grew = grown-nothing old; steps_are = refl }

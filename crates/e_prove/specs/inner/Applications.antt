@@ -36,5 +36,5 @@ pub record IsUse (t : StatementView) (pattern : List (Option Obj)) (x : Basis)
     (u : Use) : Type 0 where
   pub least : IsLeastChoice t x.scope x.facts pattern u.args
   pub certified : IsTrue (certify_all x.scope x.facts (needs_of_use t u.args x.scope) u.certs.items)
-  pub written : IsTrue (list_all (is_cert_of version.One) u.certs.items)
+  pub version : IsTrue (list_all (is_cert_of version.One) u.certs.items)
   pub gives : u.gives ≡ gives_of_use t u.args x.scope

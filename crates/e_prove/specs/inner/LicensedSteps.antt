@@ -15,8 +15,8 @@ use Rattle.e_deriv.specs.Fitting.{fits_with_blanks}
 use Rattle.e_clause.specs.declared.cert.Version.TheVariants as version
 use Rattle.e_deriv.specs.Versions.{has_certs_of}
 use Rattle.e_licence.specs.Contexts.{Basis}
-use Rattle.e_prove.specs.declared.place.Place.{Place}
-use Rattle.e_prove.specs.declared.step_stop.StepStop.{StepStop}
+use Rattle.e_prove.specs.declared.state_before.StateBefore.{StateBefore}
+use Rattle.e_prove.specs.declared.stop_reason.StopReason.{StopReason}
 use Rattle.e_prove.specs.inner.StopsOfSteps.{StepStopsAt}
 
 -- the steps of a script where these objects are in scope and these are the facts, whose blanks are
@@ -36,8 +36,8 @@ fits_here before y = fits_with_blanks before y y.here
 -- Where the step fits at state `x` it is licensed, with its blanks filled as in `derived`, and
 -- `derived` is certified. Without certificates `derived` is the step with its blanks filled. Its
 -- certificates cite facts by literals, which are well formed. State `after` holds after the step.
-pub record IsLicensedStep (before : List StatementView) (step : Step) (x : Place)
-    (derived : Step) (after : Place) : Type 0 where
+pub record IsLicensedStep (before : List StatementView) (step : Step) (x : StateBefore)
+    (derived : Step) (after : StateBefore) : Type 0 where
   pub licensed : (rest more : Script) (goal : Goal) →
       IsTrue (fits_here before
       (step_from_basis (step_script step rest) (step_script derived more) x.context goal)) →
@@ -52,7 +52,7 @@ pub record IsLicensedStep (before : List StatementView) (step : Step) (x : Place
       → bare_script more ≡ filled_by (bare_script rest) more →
       bare_script (step_script derived more)
       ≡ filled_by (bare_script (step_script step rest)) (step_script derived more)
-  pub written : (more : Script) → IsTrue (has_certs_of version.One more)
+  pub version : (more : Script) → IsTrue (has_certs_of version.One more)
       → IsTrue (has_certs_of version.One (step_script derived more))
   pub next : (rest more : Script) (goal : Goal) →
       steps_from_basis before (step_script step rest) (step_script derived more) x.context goal
@@ -67,7 +67,7 @@ pub record IsLicensedStep (before : List StatementView) (step : Step) (x : Place
   pub kept : after.context.held ≡ x.context.held
 
 -- at state `x` licensing stops by `h` at the step, however its blanks are filled
-abbrev pub IsStopOfStep : List StatementView → Step → Place → StepStop → Type 0
+abbrev pub IsStopOfStep : List StatementView → Step → StateBefore → StopReason → Type 0
 IsStopOfStep before step x h =
     (rest filled : Script) (goal : Goal)
     → StepStopsAt before (step_from_basis (step_script step rest) filled x.context goal) h
@@ -82,9 +82,9 @@ pub record IsLicensedClose (before : List StatementView) (close : Close) (x : Ba
       (steps_from_basis before (close_script derived) (close_script derived) x goal))
   pub erased : bare_script (close_script derived)
       ≡ filled_by (bare_script (close_script close)) (close_script derived)
-  pub written : IsTrue (has_certs_of version.One (close_script derived))
+  pub version : IsTrue (has_certs_of version.One (close_script derived))
 
 -- at state `x` licensing stops by `h` at the close
-abbrev pub IsStopOfClose : List StatementView → Close → Basis → Goal → StepStop → Type 0
+abbrev pub IsStopOfClose : List StatementView → Close → Basis → Goal → StopReason → Type 0
 IsStopOfClose before close x goal h =
     (filled : Script) → StepStopsAt before (step_from_basis (close_script close) filled x goal) h

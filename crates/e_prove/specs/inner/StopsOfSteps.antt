@@ -20,11 +20,11 @@ use Rattle.e_deriv.specs.Parts.{args_written, has_no_blank}
 use Rattle.e_deriv.specs.PlacedSteps.{PlacedStep}
 use Rattle.e_deriv.specs.Licensed.{Lacks as LineLacks, IsFirstNotAllowed}
 use Rattle.e_deriv.specs.Refused.{LiteralIsShown, IsShown, IsTooWide}
-use Rattle.e_prove.specs.declared.step_stop.StepStop.{StepStop}
-use Rattle.e_prove.specs.declared.step_stop.StepStop.TheVariants.{Lacks, TooWide, NoMemory}
+use Rattle.e_prove.specs.declared.stop_reason.StopReason.{StopReason}
+use Rattle.e_prove.specs.declared.stop_reason.StopReason.TheVariants.{Lacks, TooWide, NoMemory}
 
 -- the step lacks this, and the values show it; or it is too wide at this; or memory ran out
-abbrev pub StepStopsAt : List StatementView → PlacedStep → StepStop → Type 0
+abbrev pub StepStopsAt : List StatementView → PlacedStep → StopReason → Type 0
 StepStopsAt before x (Lacks wanted values) =
     LineLacks before x x.here wanted × IsShown x.here x.facts wanted values
 StepStopsAt before x (TooWide wanted width) = IsTooWide before x x.here wanted width
@@ -32,7 +32,7 @@ StepStopsAt before x NoMemory = Unit {0}
 
 -- the first of the literals that is not allowed is lacked, or one of them is too wide; or memory
 -- ran out
-abbrev pub StepStopsAmong : Basis → List Lit → StepStop → Type 0
+abbrev pub StepStopsAmong : Basis → List Lit → StopReason → Type 0
 StepStopsAmong x ls (Lacks (Literal l) values) =
     IsFirstNotAllowed x.scope x.facts ls l × LiteralIsShown x.facts l values
 StepStopsAmong x ls (TooWide (Literal l) width) =
@@ -45,7 +45,7 @@ StepStopsAmong x ls NoMemory = Unit {0}
 
 -- no choice for the blanks is good, or one that is not above the least good one is too wide; or
 -- memory ran out
-abbrev pub StepStopsFilling : StatementView → Basis → List (Option Obj) → StepStop → Type 0
+abbrev pub StepStopsFilling : StatementView → Basis → List (Option Obj) → StopReason → Type 0
 StepStopsFilling t x pattern (Lacks Match values) =
     NoneIsAllowed t x.scope x.facts pattern × (values ≡ None)
 StepStopsFilling t x pattern (TooWide Match width) =
@@ -58,41 +58,41 @@ StepStopsFilling t x pattern NoMemory = Unit {0}
 
 -- why an application of the statement stops: without blanks at one of its given literals, with
 -- blanks at their filling
-abbrev pub StepStopsApplying : StatementView → Basis → List (Option Obj) → StepStop → Type 0
+abbrev pub StepStopsApplying : StatementView → Basis → List (Option Obj) → StopReason → Type 0
 StepStopsApplying t x pattern h =
     MatchBool (has_no_blank pattern) (StepStopsAmong x (needs_of_use t (args_written pattern) x.scope) h)
     (StepStopsFilling t x pattern h)
 
 -- the stop, where what is too wide is answered as a match that is
-abbrev pub match_stop : StepStop → StepStop
+abbrev pub match_stop : StopReason → StopReason
 match_stop (TooWide wanted width) = TooWide Match width
 match_stop h = h
 
 -- what an answer on a contradiction makes of its close: the close with its certificate, or why it
 -- stops
-abbrev pub contradiction_by : Refuted → Result Close StepStop
+abbrev pub contradiction_by : Refuted → Result Close StopReason
 contradiction_by (refuted.Yes against) = Ok (ContradictionClose (Some against))
 contradiction_by (refuted.No values) = Err (Lacks Contradiction (Some values))
 contradiction_by (refuted.TooWide width) = Err (TooWide Contradiction width)
 
 -- the fact holds where memory did not run out
-abbrev pub UnlessNoMemory : Type 0 → StepStop → Type 0
+abbrev pub UnlessNoMemory : Type 0 → StopReason → Type 0
 UnlessNoMemory p NoMemory = Unit {0}
 UnlessNoMemory p h = p
 
 -- the stop by `h` at step `n`, where `names` are in scope
-abbrev pub stop_of : StepStop → ℕ → Names → Stop
+abbrev pub stop_of : StopReason → ℕ → Names → Stop
 stop_of (Lacks wanted values) n names = stop.Unlicensed n wanted values names
 stop_of (TooWide wanted width) n names = stop.TooWide n wanted width names
 stop_of NoMemory n names = stop.NoMemory
 
 -- the stop is that one, or there was no memory for a copy of the names
-abbrev pub IsStopOrNoMemory : StepStop → ℕ → Names → Stop → Type 0
+abbrev pub IsStopOrNoMemory : StopReason → ℕ → Names → Stop → Type 0
 IsStopOrNoMemory h n names stop.NoMemory = Unit {0}
 IsStopOrNoMemory h n names s = s ≡ stop_of h n names
 
 -- the stop of an answer `Err` at step `n`; an answer `Ok` has none but for want of memory
-abbrev pub IsStopOfAnswer : {A : Type 0} → Result A StepStop → ℕ → Names → Stop → Type 0
+abbrev pub IsStopOfAnswer : {A : Type 0} → Result A StopReason → ℕ → Names → Stop → Type 0
 IsStopOfAnswer (Ok a) n names stop.NoMemory = Unit {0}
 IsStopOfAnswer (Ok a) n names s = ⊥
 IsStopOfAnswer (Err h) n names s = IsStopOrNoMemory h n names s

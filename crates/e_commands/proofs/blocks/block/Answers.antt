@@ -17,7 +17,7 @@ returns-clause-block c =
         proves = proof_of_certified before statement derivation certified;
         certified = certified;
         own = c.in_ok-derivation.ensures.script;
-        least = rw c.statements.ensures at c.in_ok-derivation.ensures.least;
+        licensed = rw c.statements.ensures at c.in_ok-derivation.ensures.licensed;
         written = c.in_ok-derivation.ensures.written c.requires.good;
         version = c.in_ok-derivation.ensures.version;
       };

@@ -10,11 +10,11 @@ pub returns-then-steps-step : goal.returns-then-steps-step
 returns-then-steps-step c =
     too_short_next c.answer_with.result c.args.known.now (entry_of c.args.theorem.now) c.args.step (omega (arith, c.size-steps.ensures, c.if-steps-step.true)) c.answer_with.ensures
 
-pub context_at-requires-clause-fitting : goal.context_at-requires-clause-fitting
-context_at-requires-clause-fitting c = rw c.statements.ensures c.requires.fitting
+pub state_before_step-requires-clause-fitting : goal.state_before_step-requires-clause-fitting
+state_before_step-requires-clause-fitting c = rw c.statements.ensures c.requires.fitting
 
-pub context_at-requires-clause-last : goal.context_at-requires-clause-last
-context_at-requires-clause-last c = omega (arith, c.size-steps.ensures, c.if-steps-step.false)
+pub state_before_step-requires-clause-last : goal.state_before_step-requires-clause-last
+state_before_step-requires-clause-last c = omega (arith, c.size-steps.ensures, c.if-steps-step.false)
 
 pub returns-in-Err : goal.returns-in-Err
 returns-in-Err c =
@@ -23,4 +23,4 @@ returns-in-Err c =
 
 pub returns : goal.returns
 returns c =
-    answered_next c.answer_at-answer.result c.args.known.now (entry_of c.args.theorem.now) c.args.step c.in-Ok.place (rw c.statements.ensures at c.in-Ok.ensures.place) c.answer_at-answer.ensures
+    answered_next c.answer_at-answer.result c.args.known.now (entry_of c.args.theorem.now) c.args.step c.in-Ok.place (rw c.statements.ensures at c.in-Ok.ensures.state) c.answer_at-answer.ensures

@@ -23,4 +23,4 @@ keep-requires c = c.requires.good.0.fits.new
 pub returns : goal.returns
 returns c =
     licensed_passes c.args.known.now (record c.args.known.now { theorems = c.keep.new.known }) c.args.title c.args.step (entry_of c.args.theorem) (sym c.has_title.ensures ∙ c.if-has_title.false)
-    (record { filled = script_of c.in-Ok.derivation; licensed = rw c.statements.ensures at c.in-Ok.ensures.least }) c.requires.states (ap (λ (ts : List TitledStatement). record c.args.known.now { theorems = ts }) c.in_ok-keep.ensures)
+    (record { filled = script_of c.in-Ok.derivation; licensed = rw c.statements.ensures at c.in-Ok.ensures.licensed }) c.requires.states (ap (λ (ts : List TitledStatement). record c.args.known.now { theorems = ts }) c.in_ok-keep.ensures)

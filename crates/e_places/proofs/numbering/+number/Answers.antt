@@ -284,7 +284,7 @@ number_close-returns-in-Ok-number_block-clause-same t c =
     after_cases x c.assume.new.self c.number_block.new.state c.restore.new.self c.assume_not.new.self y.lit c.checkpoint-outer.result c.in_ok-assume-in-Cases.ensures c.checkpoint-outer.ensures c.in-Ok.ensures.kept c.restore.ensures
     c.in-Ok-assume_not.ensures
     in
-    if_ok c.cases.result c.cases.ensures
+    if_ok c.cases_close.result c.cases_close.ensures
     (λ k e. e
     ∙ cases_numbered before c.args.close.now y.lit y.first y.second c.deref.result.now c.deref-in-Cases.result.now c.in-Ok.one c.in-Ok-number_block.other x c.assume.new.self c.assume_not.new.self (goal_view c.args.goal.now) y.is c.deref.ensures
     c.deref-in-Cases.ensures c.in_ok-assume-in-Cases.ensures c.in-Ok.ensures.same back c.in-Ok-number_block.ensures.same)
@@ -297,7 +297,7 @@ number_close-returns-in-Ok-number_block-clause-few t c =
     after_cases x c.assume.new.self c.number_block.new.state c.restore.new.self c.assume_not.new.self y.lit c.checkpoint-outer.result c.in_ok-assume-in-Cases.ensures c.checkpoint-outer.ensures c.in-Ok.ensures.kept c.restore.ensures
     c.in-Ok-assume_not.ensures
     in
-    where_ok c.cases.result
+    where_ok c.cases_close.result
     (cases_few (as_views c.args.before.now) c.args.close.now y.lit y.first y.second c.deref.result.now c.deref-in-Cases.result.now x c.assume.new.self c.assume_not.new.self (goal_view c.args.goal.now) (omega (arith, c.len.ensures, c.if-len-ge-PLACES.false))
     y.is c.deref.ensures c.deref-in-Cases.ensures c.in_ok-assume-in-Cases.ensures c.in-Ok.ensures.few back c.in-Ok-number_block.ensures.few)
 
@@ -309,5 +309,5 @@ number_close-returns-in-Ok-number_block-clause-kept t c =
     after_cases x c.assume.new.self c.number_block.new.state c.restore.new.self c.assume_not.new.self y.lit c.checkpoint-outer.result c.in_ok-assume-in-Cases.ensures c.checkpoint-outer.ensures c.in-Ok.ensures.kept c.restore.ensures
     c.in-Ok-assume_not.ensures
     in
-    where_ok c.cases.result
+    where_ok c.cases_close.result
     (kept_on x c.assume_not.new.self c.number_block-in-Cases.new.state (subst (KeepsFirstFacts x) (sym back) (stay_joined x.facts (negation y.lit))) c.in-Ok-number_block.ensures.kept)

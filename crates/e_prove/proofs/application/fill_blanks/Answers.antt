@@ -15,4 +15,4 @@ returns-in-Err-clause-err c =
     let t = as_view c.args.statement.now in
     let x = c.solve.new.self in
     subst (λ (b : Basis). StepStopsFilling t b c.args.pattern.now c.as_match.result) c.in_ok-solve.ensures
-    (match_stops_so t x c.args.pattern.now c.in-Found.args c.in-Err.step_stop c.as_match.result (subst (FilledIs t x c.args.pattern.now) c.in-Found.is c.in_ok-args.ensures) c.in-Err.ensures.err c.as_match.ensures)
+    (match_stops_so t x c.args.pattern.now c.in-Found.args c.in-Err.stop_reason c.as_match.result (subst (FilledIs t x c.args.pattern.now) c.in-Found.is c.in_ok-args.ensures) c.in-Err.ensures.err c.as_match.ensures)

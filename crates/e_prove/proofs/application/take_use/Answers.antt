@@ -1,6 +1,6 @@
 use Rattle.std.proofs.Common.{◌≡◌, length, refl, ap, ◌∙◌, arith}
 use Rattle.e_theorem.specs.Statements.{as_view}
-use Rattle.e_prove.proofs.NextPlaces.{applied_after, good_applied}
+use Rattle.e_prove.proofs.NextStates.{applied_after, good_applied}
 use Rattle.e_prove.proofs.Applications.{room_for}
 use Rattle.e_prove.proofs.application.take_use.Goals as goal
 
@@ -25,8 +25,8 @@ grow-requires-clause-circles c =
     let same : length c.items.result.now ≡ length c.args.statement.now.made = ap length c.items.ensures in
     omega (arith, same, room.circles)
 
-pub join_equal-requires : goal.join_equal-requires
-join_equal-requires c =
+pub join_copied-requires : goal.join_copied-requires
+join_copied-requires c =
     let u = c.args.used.now in
     let lits = c.requires.apply.lits u.args c.requires.used.least.good.is_choice in
     good_applied (as_view c.args.statement.now) u.args c.args.state.now.context c.grow.new.self.context c.items.result.now c.items-2.result.now c.items.ensures
@@ -35,5 +35,5 @@ join_equal-requires c =
 pub returns-clause-after : goal.returns-clause-after
 returns-clause-after c =
     let u = c.args.used.now in
-    applied_after (as_view c.args.statement.now) u.args c.args.application.now.names.now c.args.state.now c.grow.new.self c.join_equal.new.self c.items.result.now c.items-2.result.now c.items.ensures
-    (c.items-2.ensures ∙ c.requires.used.gives) c.in_ok-grow.ensures.scope c.in_ok-grow.ensures.names c.in_ok-join_equal.ensures
+    applied_after (as_view c.args.statement.now) u.args c.args.application.now.names.now c.args.state.now c.grow.new.self c.join_copied.new.self c.items.result.now c.items-2.result.now c.items.ensures
+    (c.items-2.ensures ∙ c.requires.used.gives) c.in_ok-grow.ensures.scope c.in_ok-grow.ensures.names c.in_ok-join_copied.ensures

@@ -28,7 +28,7 @@ pub returns-in-Err-clause-err : goal.returns-in-Err-clause-err
 returns-in-Err-clause-err c =
     let x = c.args.context.now in
     let all = needs_there (as_view c.args.statement.now) x.scope c.scope.result c.args.args c.items.result.now c.in-Ok.field-0.needs c.items-in-Ok.result.now c.items.ensures c.scope.ensures c.in-Ok.ensures.needs c.items-in-Ok.ensures in
-    subst (λ ls. StepStopsAmong x ls c.in-Err.step_stop) all c.in-Err.ensures.err
+    subst (λ ls. StepStopsAmong x ls c.in-Err.stop_reason) all c.in-Err.ensures.err
 
 pub returns-in-Ok-answered-clause-certified : goal.returns-in-Ok-answered-clause-certified
 returns-in-Ok-answered-clause-certified c =

@@ -18,7 +18,7 @@ use_at-requires-clause-needs c =
 pub returns-in-Some-clause-ok : goal.returns-in-Some-clause-ok
 returns-in-Some-clause-ok c =
     let w = written_is c.args.pattern.now c.in-Some.args.items c.new.result (sym (ap (option_map (λ v. v.items)) c.in-Some.is) ∙ c.in_ok-args.ensures) c.new.ensures in
-    used_is_written (as_view c.args.statement.now) c.args.pattern.now c.args.context.now c.new.result c.use_at.result w.no_blank c.requires.fits w.is c.use_at.ensures.args c.use_at.ensures.certified c.use_at.ensures.written c.use_at.ensures.gives
+    used_is_written (as_view c.args.statement.now) c.args.pattern.now c.args.context.now c.new.result c.use_at.result w.no_blank c.requires.fits w.is c.use_at.ensures.args c.use_at.ensures.certified c.use_at.ensures.version c.use_at.ensures.gives
 
 pub returns-in-Some-clause-err : goal.returns-in-Some-clause-err
 returns-in-Some-clause-err c =

@@ -11,7 +11,7 @@ use Rattle.e_deriv.specs.declared.block.Close.TheVariants.{Qed}
 use Rattle.e_deriv.specs.Script.{Claim as ClaimScript, Superposed as SuperposedScript, script_of, step_script, close_script, size}
 use Rattle.e_deriv.specs.Goal.{goal_of, are_for, goal_with, goal_view}
 use Rattle.e_construct.specs.Superposing as superposing
-use Rattle.e_prove.specs.inner.NextPlaces.{HasRoomForMore, after_literal, after_superposed}
+use Rattle.e_prove.specs.inner.NextStates.{HasRoomForMore, after_literal, after_superposed}
 use Rattle.e_prove.specs.inner.Applications.{CanApply}
 use Rattle.e_prove.specs.inner.LicensedSteps.{IsLicensedStep, IsStopOfClose, IsStopOfStep}
 use Rattle.e_prove.specs.inner.PassedSteps.{IsReadyFor, IsReadyStep, IsDerivedFrom, IsPassed, StopsInSteps, StopsWithin}
@@ -320,34 +320,34 @@ prove_close-returns-in-Err-prove_block-clause-err t c =
 
 -- ---- steps that have no block inside
 
-pub prove_step-cite-answered-requires : goal.prove_step-cite-answered-requires
-prove_step-cite-answered-requires t c = cite_good (as_views c.args.before.now) c.in-Cite.by c.args.state.now c.args.number.now (subst (λ s. IsReadyStep (as_views c.args.before.now) s c.args.state.now c.args.number.now) c.in-Cite.is c.requires)
+pub prove_step-license_cite-answered-requires : goal.prove_step-license_cite-answered-requires
+prove_step-license_cite-answered-requires t c = cite_good (as_views c.args.before.now) c.in-Cite.by c.args.state.now c.args.number.now (subst (λ s. IsReadyStep (as_views c.args.before.now) s c.args.state.now c.args.number.now) c.in-Cite.is c.requires)
 
 pub prove_step-count_or_stop-requires : goal.prove_step-count_or_stop-requires
 prove_step-count_or_stop-requires t c = let one = at_least (step_script c.args.step.now c.requires.rest) in omega (arith, one, c.requires.few)
 
-pub prove_step-hence-answered-requires-clause-lit : goal.prove_step-hence-answered-requires-clause-lit
-prove_step-hence-answered-requires-clause-lit t c =
+pub prove_step-license_hence-answered-requires-clause-lit : goal.prove_step-license_hence-answered-requires-clause-lit
+prove_step-license_hence-answered-requires-clause-lit t c =
     one_good c.args.state.now.context.scope c.in-Hence.lit
     (hence_good (as_views c.args.before.now) c.in-Hence.lit c.in-Hence.cert c.args.state.now c.args.number.now (subst (λ s. IsReadyStep (as_views c.args.before.now) s c.args.state.now c.args.number.now) c.in-Hence.is c.requires)).needs
 
-pub prove_step-hence-answered-requires-clause-after : goal.prove_step-hence-answered-requires-clause-after
-prove_step-hence-answered-requires-clause-after t c =
+pub prove_step-license_hence-answered-requires-clause-after : goal.prove_step-license_hence-answered-requires-clause-after
+prove_step-license_hence-answered-requires-clause-after t c =
     (hence_good (as_views c.args.before.now) c.in-Hence.lit c.in-Hence.cert c.args.state.now c.args.number.now (subst (λ s. IsReadyStep (as_views c.args.before.now) s c.args.state.now c.args.number.now) c.in-Hence.is c.requires)).after
 
 pub prove_step-count_or_stop-requires-in-Hence : goal.prove_step-count_or_stop-requires-in-Hence
 prove_step-count_or_stop-requires-in-Hence t c = let one = at_least (step_script c.args.step.now c.requires.rest) in omega (arith, one, c.requires.few)
 
-pub prove_step-make-answered-requires-clause-room : goal.prove_step-make-answered-requires-clause-room
-prove_step-make-answered-requires-clause-room t c =
+pub prove_step-license_make-answered-requires-clause-room : goal.prove_step-license_make-answered-requires-clause-room
+prove_step-license_make-answered-requires-clause-room t c =
     make_room (as_views c.args.before.now) c.in-Make.construction c.in-Make.names c.in-Make.certs c.args.state.now c.args.number.now (subst (λ s. IsReadyStep (as_views c.args.before.now) s c.args.state.now c.args.number.now) c.in-Make.is c.requires)
 
-pub prove_step-make-answered-requires-clause-needs : goal.prove_step-make-answered-requires-clause-needs
-prove_step-make-answered-requires-clause-needs t c =
+pub prove_step-license_make-answered-requires-clause-needs : goal.prove_step-license_make-answered-requires-clause-needs
+prove_step-license_make-answered-requires-clause-needs t c =
     (make_good (as_views c.args.before.now) c.in-Make.construction c.in-Make.names c.in-Make.certs c.args.state.now c.args.number.now (subst (λ s. IsReadyStep (as_views c.args.before.now) s c.args.state.now c.args.number.now) c.in-Make.is c.requires)).needs
 
-pub prove_step-make-answered-requires-clause-after : goal.prove_step-make-answered-requires-clause-after
-prove_step-make-answered-requires-clause-after t c =
+pub prove_step-license_make-answered-requires-clause-after : goal.prove_step-license_make-answered-requires-clause-after
+prove_step-license_make-answered-requires-clause-after t c =
     (make_good (as_views c.args.before.now) c.in-Make.construction c.in-Make.names c.in-Make.certs c.args.state.now c.args.number.now (subst (λ s. IsReadyStep (as_views c.args.before.now) s c.args.state.now c.args.number.now) c.in-Make.is c.requires)).after
 
 pub prove_step-count_or_stop-requires-in-Make : goal.prove_step-count_or_stop-requires-in-Make
@@ -356,44 +356,44 @@ prove_step-count_or_stop-requires-in-Make t c = let one = at_least (step_script 
 pub prove_step-returns-in-Cite-clause-ok : goal.prove_step-returns-in-Cite-clause-ok
 prove_step-returns-in-Cite-clause-ok t c =
     let x = c.args.state.now in
-    let after = c.cite-answered.new.state in
+    let after = c.license_cite-answered.new.state in
     subst (λ s. IfOk c.count_or_stop.result (λ d. IsPassed (as_views c.args.before.now) (step_script s) x c.args.number.now (step_script d) after c.count_or_stop.new.number)) (sym c.in-Cite.is)
-    (numbered_passed (as_views c.args.before.now) (Cite c.in-Cite.by) x after c.args.number.now c.count_or_stop.new.number c.cite-answered.result c.count_or_stop.result (cite_one c.in-Cite.by) (ok_map _ _ c.cite-answered.result (λ d h. h (as_views c.args.before.now)) c.cite-answered.ensures.ok) c.count_or_stop.ensures.ok c.count_or_stop.ensures.next)
+    (numbered_passed (as_views c.args.before.now) (Cite c.in-Cite.by) x after c.args.number.now c.count_or_stop.new.number c.license_cite-answered.result c.count_or_stop.result (cite_one c.in-Cite.by) (ok_map _ _ c.license_cite-answered.result (λ d h. h (as_views c.args.before.now)) c.license_cite-answered.ensures.ok) c.count_or_stop.ensures.ok c.count_or_stop.ensures.next)
 
 pub prove_step-returns-in-Cite-clause-err : goal.prove_step-returns-in-Cite-clause-err
 prove_step-returns-in-Cite-clause-err t c =
     let x = c.args.state.now in
-    numbered_stops (as_views c.args.before.now) c.args.step.now x c.cite-answered.new.state c.args.number.now c.cite-answered.result c.count_or_stop.result
-    (err_map _ _ c.cite-answered.result (λ h k. subst (λ s. IsStopOfStep (as_views c.args.before.now) s x h) (sym c.in-Cite.is) (k (as_views c.args.before.now))) c.cite-answered.ensures.err) c.cite-answered.ensures.kept c.count_or_stop.ensures.err
+    numbered_stops (as_views c.args.before.now) c.args.step.now x c.license_cite-answered.new.state c.args.number.now c.license_cite-answered.result c.count_or_stop.result
+    (err_map _ _ c.license_cite-answered.result (λ h k. subst (λ s. IsStopOfStep (as_views c.args.before.now) s x h) (sym c.in-Cite.is) (k (as_views c.args.before.now))) c.license_cite-answered.ensures.err) c.license_cite-answered.ensures.kept c.count_or_stop.ensures.err
 
 pub prove_step-returns-in-Hence-clause-ok : goal.prove_step-returns-in-Hence-clause-ok
 prove_step-returns-in-Hence-clause-ok t c =
     let x = c.args.state.now in
-    let after = c.hence-answered.new.state in
+    let after = c.license_hence-answered.new.state in
     subst (λ s. IfOk c.count_or_stop-in-Hence.result (λ d. IsPassed (as_views c.args.before.now) (step_script s) x c.args.number.now (step_script d) after c.count_or_stop-in-Hence.new.number)) (sym c.in-Hence.is)
-    (numbered_passed (as_views c.args.before.now) (Hence c.in-Hence.lit c.in-Hence.cert) x after c.args.number.now c.count_or_stop-in-Hence.new.number c.hence-answered.result c.count_or_stop-in-Hence.result (hence_one c.in-Hence.lit c.in-Hence.cert)
-    (ok_map _ _ c.hence-answered.result (λ d h. h (as_views c.args.before.now) c.in-Hence.cert) c.hence-answered.ensures.ok) c.count_or_stop-in-Hence.ensures.ok c.count_or_stop-in-Hence.ensures.next)
+    (numbered_passed (as_views c.args.before.now) (Hence c.in-Hence.lit c.in-Hence.cert) x after c.args.number.now c.count_or_stop-in-Hence.new.number c.license_hence-answered.result c.count_or_stop-in-Hence.result (hence_one c.in-Hence.lit c.in-Hence.cert)
+    (ok_map _ _ c.license_hence-answered.result (λ d h. h (as_views c.args.before.now) c.in-Hence.cert) c.license_hence-answered.ensures.ok) c.count_or_stop-in-Hence.ensures.ok c.count_or_stop-in-Hence.ensures.next)
 
 pub prove_step-returns-in-Hence-clause-err : goal.prove_step-returns-in-Hence-clause-err
 prove_step-returns-in-Hence-clause-err t c =
     let x = c.args.state.now in
-    numbered_stops (as_views c.args.before.now) c.args.step.now x c.hence-answered.new.state c.args.number.now c.hence-answered.result c.count_or_stop-in-Hence.result
-    (err_map _ _ c.hence-answered.result (λ h k. subst (λ s. IsStopOfStep (as_views c.args.before.now) s x h) (sym c.in-Hence.is) (k (as_views c.args.before.now) c.in-Hence.cert)) c.hence-answered.ensures.err) c.hence-answered.ensures.kept c.count_or_stop-in-Hence.ensures.err
+    numbered_stops (as_views c.args.before.now) c.args.step.now x c.license_hence-answered.new.state c.args.number.now c.license_hence-answered.result c.count_or_stop-in-Hence.result
+    (err_map _ _ c.license_hence-answered.result (λ h k. subst (λ s. IsStopOfStep (as_views c.args.before.now) s x h) (sym c.in-Hence.is) (k (as_views c.args.before.now) c.in-Hence.cert)) c.license_hence-answered.ensures.err) c.license_hence-answered.ensures.kept c.count_or_stop-in-Hence.ensures.err
 
 pub prove_step-returns-in-Make-clause-ok : goal.prove_step-returns-in-Make-clause-ok
 prove_step-returns-in-Make-clause-ok t c =
     let x = c.args.state.now in
-    let after = c.make-answered.new.state in
+    let after = c.license_make-answered.new.state in
     subst (λ s. IfOk c.count_or_stop-in-Make.result (λ d. IsPassed (as_views c.args.before.now) (step_script s) x c.args.number.now (step_script d) after c.count_or_stop-in-Make.new.number)) (sym c.in-Make.is)
-    (numbered_passed (as_views c.args.before.now) (Make c.in-Make.construction c.in-Make.names c.in-Make.certs) x after c.args.number.now c.count_or_stop-in-Make.new.number c.make-answered.result c.count_or_stop-in-Make.result (make_one c.in-Make.construction c.in-Make.names c.in-Make.certs)
-    (ok_map _ _ c.make-answered.result (λ d h. subst (λ ns. IsLicensedStep (as_views c.args.before.now) (Make c.in-Make.construction ns c.in-Make.certs) x d after) c.items.ensures (h (as_views c.args.before.now) c.in-Make.certs)) c.make-answered.ensures.ok) c.count_or_stop-in-Make.ensures.ok c.count_or_stop-in-Make.ensures.next)
+    (numbered_passed (as_views c.args.before.now) (Make c.in-Make.construction c.in-Make.names c.in-Make.certs) x after c.args.number.now c.count_or_stop-in-Make.new.number c.license_make-answered.result c.count_or_stop-in-Make.result (make_one c.in-Make.construction c.in-Make.names c.in-Make.certs)
+    (ok_map _ _ c.license_make-answered.result (λ d h. subst (λ ns. IsLicensedStep (as_views c.args.before.now) (Make c.in-Make.construction ns c.in-Make.certs) x d after) c.items.ensures (h (as_views c.args.before.now) c.in-Make.certs)) c.license_make-answered.ensures.ok) c.count_or_stop-in-Make.ensures.ok c.count_or_stop-in-Make.ensures.next)
 
 pub prove_step-returns-in-Make-clause-err : goal.prove_step-returns-in-Make-clause-err
 prove_step-returns-in-Make-clause-err t c =
     let x = c.args.state.now in
-    numbered_stops (as_views c.args.before.now) c.args.step.now x c.make-answered.new.state c.args.number.now c.make-answered.result c.count_or_stop-in-Make.result
-    (err_map _ _ c.make-answered.result (λ h k. subst (λ s. IsStopOfStep (as_views c.args.before.now) s x h) (sym c.in-Make.is) (subst (λ ns. IsStopOfStep (as_views c.args.before.now) (Make c.in-Make.construction ns c.in-Make.certs) x h) c.items.ensures (k (as_views c.args.before.now) c.in-Make.certs))) c.make-answered.ensures.err)
-    c.make-answered.ensures.kept c.count_or_stop-in-Make.ensures.err
+    numbered_stops (as_views c.args.before.now) c.args.step.now x c.license_make-answered.new.state c.args.number.now c.license_make-answered.result c.count_or_stop-in-Make.result
+    (err_map _ _ c.license_make-answered.result (λ h k. subst (λ s. IsStopOfStep (as_views c.args.before.now) s x h) (sym c.in-Make.is) (subst (λ ns. IsStopOfStep (as_views c.args.before.now) (Make c.in-Make.construction ns c.in-Make.certs) x h) c.items.ensures (k (as_views c.args.before.now) c.in-Make.certs))) c.license_make-answered.ensures.err)
+    c.license_make-answered.ensures.kept c.count_or_stop-in-Make.ensures.err
 
 -- ---- an application
 
@@ -407,8 +407,8 @@ prove_step-bounds-before-theorem t c =
 pub prove_step-count_or_stop-requires-in-Apply : goal.prove_step-count_or_stop-requires-in-Apply
 prove_step-count_or_stop-requires-in-Apply t c = let one = at_least (step_script c.args.step.now c.requires.rest) in omega (arith, one, c.requires.few)
 
-pub prove_step-apply-answered-requires : goal.prove_step-apply-answered-requires
-prove_step-apply-answered-requires t c =
+pub prove_step-license_apply-answered-requires : goal.prove_step-license_apply-answered-requires
+prove_step-license_apply-answered-requires t c =
     let x = c.args.state.now in
     let y = c.in-Apply in
     let ready = apply_good (as_views c.args.before.now) y.theorem y.args y.names y.certs x c.args.number.now (subst (λ s. IsReadyStep (as_views c.args.before.now) s x c.args.number.now) y.is c.requires) in
@@ -425,13 +425,13 @@ prove_step-returns-in-Apply-clause-ok t c =
     let many = as_many c.args.before.now in
     let place : y.theorem < length c.args.before.now = omega (arith, many, ready.place) in
     let is = theorem_is c.args.before.now y.theorem c.index-before-theorem.result place c.index-before-theorem.is in
-    let after = c.apply-answered.new.state in
+    let after = c.license_apply-answered.new.state in
     subst (λ s. IfOk c.count_or_stop-in-Apply.result (λ d. IsPassed (as_views c.args.before.now) (step_script s) x c.args.number.now (step_script d) after c.count_or_stop-in-Apply.new.number)) (sym y.is)
-    (numbered_passed (as_views c.args.before.now) (Apply y.theorem y.args y.names y.certs) x after c.args.number.now c.count_or_stop-in-Apply.new.number c.apply-answered.result c.count_or_stop-in-Apply.result (apply_one y.theorem y.args y.names y.certs)
-    (ok_map _ _ c.apply-answered.result
+    (numbered_passed (as_views c.args.before.now) (Apply y.theorem y.args y.names y.certs) x after c.args.number.now c.count_or_stop-in-Apply.new.number c.license_apply-answered.result c.count_or_stop-in-Apply.result (apply_one y.theorem y.args y.names y.certs)
+    (ok_map _ _ c.license_apply-answered.result
     (λ d h. subst (λ ns. IsLicensedStep (as_views c.args.before.now) (Apply y.theorem y.args ns y.certs) x d after) c.items-in-Apply-2.ensures
     (subst (λ es. IsLicensedStep (as_views c.args.before.now) (Apply y.theorem es c.items-in-Apply-2.result.now y.certs) x d after) c.items-in-Apply.ensures (h (as_views c.args.before.now) y.certs is)))
-    c.apply-answered.ensures.ok)
+    c.license_apply-answered.ensures.ok)
     c.count_or_stop-in-Apply.ensures.ok c.count_or_stop-in-Apply.ensures.next)
 
 pub prove_step-returns-in-Apply-clause-err : goal.prove_step-returns-in-Apply-clause-err
@@ -442,13 +442,13 @@ prove_step-returns-in-Apply-clause-err t c =
     let many = as_many c.args.before.now in
     let place : y.theorem < length c.args.before.now = omega (arith, many, ready.place) in
     let is = theorem_is c.args.before.now y.theorem c.index-before-theorem.result place c.index-before-theorem.is in
-    numbered_stops (as_views c.args.before.now) c.args.step.now x c.apply-answered.new.state c.args.number.now c.apply-answered.result c.count_or_stop-in-Apply.result
-    (err_map _ _ c.apply-answered.result
+    numbered_stops (as_views c.args.before.now) c.args.step.now x c.license_apply-answered.new.state c.args.number.now c.license_apply-answered.result c.count_or_stop-in-Apply.result
+    (err_map _ _ c.license_apply-answered.result
     (λ h k. subst (λ s. IsStopOfStep (as_views c.args.before.now) s x h) (sym y.is)
     (subst (λ ns. IsStopOfStep (as_views c.args.before.now) (Apply y.theorem y.args ns y.certs) x h) c.items-in-Apply-2.ensures
     (subst (λ es. IsStopOfStep (as_views c.args.before.now) (Apply y.theorem es c.items-in-Apply-2.result.now y.certs) x h) c.items-in-Apply.ensures (k (as_views c.args.before.now) y.certs is))))
-    c.apply-answered.ensures.err)
-    c.apply-answered.ensures.kept c.count_or_stop-in-Apply.ensures.err
+    c.license_apply-answered.ensures.err)
+    c.license_apply-answered.ensures.kept c.count_or_stop-in-Apply.ensures.err
 
 -- ---- a claim
 
@@ -559,22 +559,22 @@ prove_step-returns-in-Superposed-clause-err t c =
     c.deref-in-Superposed.ensures)
     (err_with c.prove_superposed.result (λ s certs. StopsInSteps before (whole certs) c.args.state.now c.args.number.now s) y.certs c.prove_superposed.ensures.err)
 
-pub prove_superposed-superpose-requires-clause-room : goal.prove_superposed-superpose-requires-clause-room
-prove_superposed-superpose-requires-clause-room t c =
+pub prove_superposed-license_superpose-requires-clause-room : goal.prove_superposed-license_superpose-requires-clause-room
+prove_superposed-license_superpose-requires-clause-room t c =
     let h = c.args.parts.now in
     let x = c.args.state.now in
     let parts = superposed_begins (as_views c.args.before.now) h.superposition.now h.names.now h.shown.now c.requires.0 (script_of c.args.inner.now) x c.args.number.now c.requires.1 in
     subst (λ z. HasRoomForMore z.context.scope) (sym c.in_ok-outer.ensures.held) (room_of_small x.context.scope parts.scope)
 
-pub prove_superposed-superpose-requires-clause-needs : goal.prove_superposed-superpose-requires-clause-needs
-prove_superposed-superpose-requires-clause-needs t c =
+pub prove_superposed-license_superpose-requires-clause-needs : goal.prove_superposed-license_superpose-requires-clause-needs
+prove_superposed-license_superpose-requires-clause-needs t c =
     let h = c.args.parts.now in
     let x = c.args.state.now in
     let parts = superposed_begins (as_views c.args.before.now) h.superposition.now h.names.now h.shown.now c.requires.0 (script_of c.args.inner.now) x c.args.number.now c.requires.1 in
     subst (λ z. are_well_formed_in z.context.scope (superposing.needs_of_superposition h.superposition.now) ≡ true) (sym c.in_ok-outer.ensures.held) parts.needs
 
-pub prove_superposed-superpose-requires-clause-after : goal.prove_superposed-superpose-requires-clause-after
-prove_superposed-superpose-requires-clause-after t c =
+pub prove_superposed-license_superpose-requires-clause-after : goal.prove_superposed-license_superpose-requires-clause-after
+prove_superposed-license_superpose-requires-clause-after t c =
     let before = as_views c.args.before.now in
     let h = c.args.parts.now in
     let x = c.args.state.now in
@@ -587,11 +587,11 @@ pub prove_superposed-returns-in-Err-clause-err : goal.prove_superposed-returns-i
 prove_superposed-returns-in-Err-clause-err t c =
     let h = c.args.parts.now in
     let x = c.args.state.now in
-    let s = c.in-Err.step_stop in
+    let s = c.in-Err.stop_reason in
     let hs = x.context.held ++ state_of x.context ∷ [] in
-    superposed_is_refused (as_views c.args.before.now) h.superposition.now h.names.now h.shown.now (script_of c.args.inner.now) x c.superpose.new.state c.args.number.now s c.stop_at.result
+    superposed_is_refused (as_views c.args.before.now) h.superposition.now h.names.now h.shown.now (script_of c.args.inner.now) x c.license_superpose.new.state c.args.number.now s c.stop_at.result
     (step_stops_outside hs x c.enter_block.new.self (superposing.needs_of_superposition h.superposition.now) s c.in_ok-outer.ensures.held c.in-Err.ensures.err)
-    (names_outside hs x c.enter_block.new.self c.superpose.new.state s c.in_ok-outer.ensures.held c.in-Err.ensures.kept) c.stop_at.ensures
+    (names_outside hs x c.enter_block.new.self c.license_superpose.new.state s c.in_ok-outer.ensures.held c.in-Err.ensures.kept) c.stop_at.ensures
 
 pub prove_superposed-overflow_add-number : goal.prove_superposed-overflow_add-number
 prove_superposed-overflow_add-number t c =
@@ -610,7 +610,7 @@ prove_superposed-prove_block-requires t c =
     let begun = c.in-Ok.ensures.after ∙ ap (after_superposed h.superposition.now h.names.now) c.in_ok-outer.ensures.held in (
       search (rules, the_lemmas),
       (
-        ready_inside before inner (after_superposed h.superposition.now h.names.now x) c.superpose.new.state (goal_of h.shown.now) hs begun parts.block,
+        ready_inside before inner (after_superposed h.superposition.now h.names.now x) c.license_superpose.new.state (goal_of h.shown.now) hs begun parts.block,
         superposed_numbers before h.superposition.now h.names.now h.shown.now c.requires.0 inner x c.args.number.now c.requires.1,
       ),
     )
@@ -629,7 +629,7 @@ prove_superposed-end_superposition-requires-clause-good t c =
     let inner = script_of c.args.inner.now in
     let hs = x.context.held ++ state_of x.context ∷ [] in
     let begun = c.in-Ok.ensures.after ∙ ap (after_superposed h.superposition.now h.names.now) c.in_ok-outer.ensures.held in
-    let derived = derived_outside before inner (after_superposed h.superposition.now h.names.now x) c.superpose.new.state (goal_of h.shown.now) (script_of c.in-Ok-prove_block.proved) hs begun c.in-Ok-prove_block.ensures.derived in
+    let derived = derived_outside before inner (after_superposed h.superposition.now h.names.now x) c.license_superpose.new.state (goal_of h.shown.now) (script_of c.in-Ok-prove_block.proved) hs begun c.in-Ok-prove_block.ensures.derived in
     good_after x c.prove_block.new.state h.shown.now h.shown.now (c.in-Ok-prove_block.ensures.kept ∙ ap (λ w. w.context.held) begun) refl
     (superposed_ends before h.superposition.now h.names.now h.shown.now c.requires.0 inner (script_of c.in-Ok-prove_block.proved) x c.args.number.now derived c.requires.1)
 
@@ -642,9 +642,9 @@ prove_superposed-returns-in-Ok-prove_block-clause-ok t c =
     let hs = x.context.held ++ state_of x.context ∷ [] in
     let certified = subst (λ z. certify_all z.context.scope z.context.facts (superposing.needs_of_superposition h.superposition.now) c.in-Ok.certs.items ≡ true) c.in_ok-outer.ensures.held c.in-Ok.ensures.certs in
     let begun = c.in-Ok.ensures.after ∙ ap (after_superposed h.superposition.now h.names.now) c.in_ok-outer.ensures.held in
-    let derived = derived_outside before inner (after_superposed h.superposition.now h.names.now x) c.superpose.new.state (goal_of h.shown.now) (script_of c.in-Ok-prove_block.proved) hs begun c.in-Ok-prove_block.ensures.derived in
+    let derived = derived_outside before inner (after_superposed h.superposition.now h.names.now x) c.license_superpose.new.state (goal_of h.shown.now) (script_of c.in-Ok-prove_block.proved) hs begun c.in-Ok-prove_block.ensures.derived in
     superposed_is_passed before h.superposition.now h.names.now h.shown.now c.in-Ok.certs.items inner x c.prove_block.new.state c.end_superposition.new.state c.args.number.now c.prove_block.new.number c.in_ok-outer.outer c.in-Ok-prove_block.proved c.end_superposition.result
-    (superposed_begins before h.superposition.now h.names.now h.shown.now c.requires.0 inner x c.args.number.now c.requires.1) (certified, c.in-Ok.ensures.written) derived c.in-Ok-prove_block.ensures.next c.in_ok-outer.ensures.names
+    (superposed_begins before h.superposition.now h.names.now h.shown.now c.requires.0 inner x c.args.number.now c.requires.1) (certified, c.in-Ok.ensures.version) derived c.in-Ok-prove_block.ensures.next c.in_ok-outer.ensures.names
     (c.in-Ok-prove_block.ensures.kept ∙ ap (λ w. w.context.held) begun) c.end_superposition.ensures.step c.end_superposition.ensures.after
 
 pub prove_superposed-returns-in-Err-prove_block-clause-err : goal.prove_superposed-returns-in-Err-prove_block-clause-err
@@ -657,5 +657,5 @@ prove_superposed-returns-in-Err-prove_block-clause-err t c =
     let certified = subst (λ z. certify_all z.context.scope z.context.facts (superposing.needs_of_superposition h.superposition.now) c.in-Ok.certs.items ≡ true) c.in_ok-outer.ensures.held c.in-Ok.ensures.certs in
     let begun = c.in-Ok.ensures.after ∙ ap (after_superposed h.superposition.now h.names.now) c.in_ok-outer.ensures.held in
     superposed_is_stopped before h.superposition.now h.names.now h.shown.now c.in-Ok.certs.items inner x c.args.number.now c.in-Err-prove_block.stop (superposed_begins before h.superposition.now h.names.now h.shown.now c.requires.0 inner x c.args.number.now c.requires.1)
-    (certified, c.in-Ok.ensures.written)
-    (stops_outside before inner (after_superposed h.superposition.now h.names.now x) c.superpose.new.state (goal_of h.shown.now) (c.args.number.now + 1) c.in-Err-prove_block.stop hs begun c.in-Err-prove_block.ensures.err)
+    (certified, c.in-Ok.ensures.version)
+    (stops_outside before inner (after_superposed h.superposition.now h.names.now x) c.license_superpose.new.state (goal_of h.shown.now) (c.args.number.now + 1) c.in-Err-prove_block.stop hs begun c.in-Err-prove_block.ensures.err)

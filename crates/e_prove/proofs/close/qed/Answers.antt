@@ -27,4 +27,4 @@ returns-clause-ok c before written =
     let certs = c.in_ok-certs.certs.items in
     closed_qed before c.args.objects.now c.new.result written certs c.new-2.result c.in_ok-wanted.wanted.items x (goal_view c.args.goal.now)
     (c.new.ensures ∙ c.in_ok-copied.ensures.items) c.new-2.ensures c.in_ok-wanted.ensures c.requires.form
-    (subst (λ ls. IsTrue (certify_all x.scope x.facts ls certs)) c.deref.ensures.value c.in_ok-certs.ensures.ok) c.in_ok-certs.ensures.written
+    (subst (λ ls. IsTrue (certify_all x.scope x.facts ls certs)) c.deref.ensures.value c.in_ok-certs.ensures.ok) c.in_ok-certs.ensures.version

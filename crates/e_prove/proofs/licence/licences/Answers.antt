@@ -10,11 +10,11 @@ use Rattle.e_prove.proofs.licence.licences.Goals as goal
 pub returns-in_err-cert-clause-err : goal.returns-in_err-cert-clause-err
 returns-in_err-cert-clause-err c =
     let l = c.lit-item.result in
-    let step_stop = c.in_err-cert.field-0.0 in
+    let stop_reason = c.in_err-cert.field-0.0 in
     let p = err_from_is_err_and c.from_residual.result c.from_residual.ensures.1 in
     rw (p.1, p.2)
-    (stops_among c.args.context.now c.args.lits.now c.loop-lit.lit-index c.loop-lit.certs.items l step_stop
-    c.loop-lit-test.true c.lit-item.is c.loop-lit.invariant.certified (subst (λ (b : Basis). StepStopsAmong b (l ∷ []) step_stop) c.loop-lit.invariant.same c.in_err-cert.ensures.err))
+    (stops_among c.args.context.now c.args.lits.now c.loop-lit.lit-index c.loop-lit.certs.items l stop_reason
+    c.loop-lit-test.true c.lit-item.is c.loop-lit.invariant.certified (subst (λ (b : Basis). StepStopsAmong b (l ∷ []) stop_reason) c.loop-lit.invariant.same c.in_err-cert.ensures.err))
 
 pub returns-in_err-cert-clause-kept : goal.returns-in_err-cert-clause-kept
 returns-in_err-cert-clause-kept c = c.in_err-cert.ensures.kept ∙ c.loop-lit.invariant.same
@@ -32,5 +32,5 @@ loop-lit-preserved c =
           rw c.in_ok-push.ensures.items
           (certify_next c.args.context.now c.args.lits.now c.loop-lit.lit-index c.loop-lit.certs.items l cert c.loop-lit-test.true c.lit-item.is c.loop-lit.invariant.certified
           (subst (λ (b : Basis). certifies b.scope b.facts l cert ≡ true) c.loop-lit.invariant.same c.in_ok-cert.ensures.ok));
-      written = rw c.in_ok-push.ensures.items (certs_more c.loop-lit.certs.items cert c.loop-lit.invariant.written c.in_ok-cert.ensures.written);
+      version = rw c.in_ok-push.ensures.items (certs_more c.loop-lit.certs.items cert c.loop-lit.invariant.version c.in_ok-cert.ensures.version);
     }

@@ -11,5 +11,5 @@ invariant-loop-lit l =
     record {
       same : l.context ≡ l.initial.context;
       certified : IsTrue (certify_all l.initial.context.scope l.initial.context.facts (take l.lit-index l.lits) l.certs.items);
-      written : IsTrue (list_all (is_cert_of version.One) l.certs.items);
+      version : IsTrue (list_all (is_cert_of version.One) l.certs.items);
     }

@@ -50,4 +50,4 @@ returns-clause-names c =
 
 pub returns-in-Ok-prove_block-clause-written : goal.returns-in-Ok-prove_block-clause-written
 returns-in-Ok-prove_block-clause-written c =
-    each_written_well (script_of c.args.theorem.now.block) (script_of c.in-Ok-prove_block.proved) c.in-Ok-prove_block.ensures.derived.erased c.in-Ok-prove_block.ensures.derived.written
+    each_written_well (script_of c.args.theorem.now.block) (script_of c.in-Ok-prove_block.proved) c.in-Ok-prove_block.ensures.derived.erased c.in-Ok-prove_block.ensures.derived.version

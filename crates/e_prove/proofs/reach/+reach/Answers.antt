@@ -5,7 +5,7 @@ use Rattle.e_theorem.specs.Statements.{as_views}
 use Rattle.e_deriv.specs.declared.block.Close.TheViews.{the_lemmas}
 use Rattle.e_deriv.specs.Script.{script_of, step_script, close_script, size}
 use Rattle.e_deriv.specs.Goal.{goal_of, goal_view}
-use Rattle.e_prove.specs.inner.NextPlaces.{after_literal, after_superposed}
+use Rattle.e_prove.specs.inner.NextStates.{after_literal, after_superposed}
 use Rattle.e_prove.specs.inner.PassedSteps.{IsReadyFor, IsReadyStep, IsDerivedFrom, IsFirstPassed, ReachesStep, StopsWithin}
 use Rattle.e_prove.proofs.LicensedLiterals.{err_map}
 use Rattle.e_prove.proofs.StopsInLists.{stop_before, stop_within, before_more}
@@ -20,12 +20,12 @@ use Rattle.e_book.proofs.canonical.ScriptParts.{at_least}
 
 pub reach-loop-step-init : goal.reach-loop-step-init
 reach-loop-step-init t c =
-    record { done = []; passed = passed_start (as_views c.args.before.now) c.args.block.now.steps.items [] c.args.state.now c.args.first refl; from = c.requires.from }
+    record { done = []; passed = passed_start (as_views c.args.before.now) c.args.block.now.steps.items [] c.args.state.now c.args.first_number refl; from = c.requires.from }
 
 pub reach-returns-then-number-target-clause-reached : goal.reach-returns-then-number-target-clause-reached
 reach-returns-then-number-target-clause-reached t c =
     step_here (as_views c.args.before.now) c.args.block.now.steps.items c.deref-step-items.result.now c.loop-step.invariant.done (close_script c.args.block.now.close) c.loop-step.step-index c.step-item.result c.args.state.now c.loop-step.state
-    (goal_view c.args.goal.now) c.args.first c.loop-step.number c.args.target c.deref-step-items.ensures.value c.loop-step-test.true c.step-item.is (search rules) c.loop-step.invariant.passed c.requires.ready
+    (goal_view c.args.goal.now) c.args.first_number c.loop-step.number c.args.target c.deref-step-items.ensures.value c.loop-step-test.true c.step-item.is (search rules) c.loop-step.invariant.passed c.requires.ready
 
 pub reach-returns-then-number-target-clause-kept : goal.reach-returns-then-number-target-clause-kept
 reach-returns-then-number-target-clause-kept t c = c.loop-step.invariant.passed.kept
@@ -33,21 +33,21 @@ reach-returns-then-number-target-clause-kept t c = c.loop-step.invariant.passed.
 pub reach-step_count-lines-requires : goal.reach-step_count-lines-requires
 reach-step_count-lines-requires t c =
     let ready = step_ready (as_views c.args.before.now) c.args.block.now.steps.items c.deref-step-items.result.now c.loop-step.invariant.done (close_script c.args.block.now.close) c.loop-step.step-index c.step-item.result c.args.state.now c.loop-step.state
-    (goal_view c.args.goal.now) c.args.first c.loop-step.number c.deref-step-items.ensures.value c.loop-step-test.true c.step-item.is c.loop-step.invariant.passed c.requires.ready c.requires.few
+    (goal_view c.args.goal.now) c.args.first_number c.loop-step.number c.deref-step-items.ensures.value c.loop-step-test.true c.step-item.is c.loop-step.invariant.passed c.requires.ready c.requires.few
     in
     lines_fit c.step-item.result ready.rest c.loop-step.number ready.few
 
 pub reach-overflow_add-next : goal.reach-overflow_add-next
 reach-overflow_add-next t c =
     let ready = step_ready (as_views c.args.before.now) c.args.block.now.steps.items c.deref-step-items.result.now c.loop-step.invariant.done (close_script c.args.block.now.close) c.loop-step.step-index c.step-item.result c.args.state.now c.loop-step.state
-    (goal_view c.args.goal.now) c.args.first c.loop-step.number c.deref-step-items.ensures.value c.loop-step-test.true c.step-item.is c.loop-step.invariant.passed c.requires.ready c.requires.few
+    (goal_view c.args.goal.now) c.args.first_number c.loop-step.number c.deref-step-items.ensures.value c.loop-step-test.true c.step-item.is c.loop-step.invariant.passed c.requires.ready c.requires.few
     in
     omega (arith, ready.few, c.step_count-lines.ensures ready.rest)
 
 pub reach-enter_step-requires : goal.reach-enter_step-requires
 reach-enter_step-requires t c =
     let ready = step_ready (as_views c.args.before.now) c.args.block.now.steps.items c.deref-step-items.result.now c.loop-step.invariant.done (close_script c.args.block.now.close) c.loop-step.step-index c.step-item.result c.args.state.now c.loop-step.state
-    (goal_view c.args.goal.now) c.args.first c.loop-step.number c.deref-step-items.ensures.value c.loop-step-test.true c.step-item.is c.loop-step.invariant.passed c.requires.ready c.requires.few
+    (goal_view c.args.goal.now) c.args.first_number c.loop-step.number c.deref-step-items.ensures.value c.loop-step-test.true c.step-item.is c.loop-step.invariant.passed c.requires.ready c.requires.few
     in (
       search (rules, the_lemmas),
       (
@@ -63,7 +63,7 @@ pub reach-returns-then-target-next-clause-reached : goal.reach-returns-then-targ
 reach-returns-then-target-next-clause-reached t c =
     on_ok_map _ _ c.enter_step.result
     (step_reaches (as_views c.args.before.now) c.args.block.now.steps.items c.deref-step-items.result.now c.loop-step.invariant.done (close_script c.args.block.now.close) c.loop-step.step-index c.step-item.result c.args.state.now c.loop-step.state
-    c.enter_step.new.state (goal_view c.args.goal.now) c.args.first c.loop-step.number c.args.target c.deref-step-items.ensures.value c.loop-step-test.true c.step-item.is c.loop-step.invariant.passed c.requires.ready)
+    c.enter_step.new.state (goal_view c.args.goal.now) c.args.first_number c.loop-step.number c.args.target c.deref-step-items.ensures.value c.loop-step-test.true c.step-item.is c.loop-step.invariant.passed c.requires.ready)
     c.enter_step.ensures.reached
 
 pub reach-returns-then-target-next-clause-kept : goal.reach-returns-then-target-next-clause-kept
@@ -74,13 +74,13 @@ pub reach-returns-then-target-next-clause-err : goal.reach-returns-then-target-n
 reach-returns-then-target-next-clause-err t c =
     err_map _ _ c.enter_step.result
     (λ stop k. step_stops (as_views c.args.before.now) c.args.block.now.steps.items c.deref-step-items.result.now c.loop-step.invariant.done (close_script c.args.block.now.close) c.loop-step.step-index c.step-item.result c.args.state.now c.loop-step.state
-    (goal_view c.args.goal.now) c.args.first c.loop-step.number stop c.deref-step-items.ensures.value c.loop-step-test.true c.step-item.is c.loop-step.invariant.passed c.requires.ready k)
+    (goal_view c.args.goal.now) c.args.first_number c.loop-step.number stop c.deref-step-items.ensures.value c.loop-step-test.true c.step-item.is c.loop-step.invariant.passed c.requires.ready k)
     c.enter_step.ensures.err
 
 pub reach-prove_step-requires : goal.reach-prove_step-requires
 reach-prove_step-requires t c =
     step_ready (as_views c.args.before.now) c.args.block.now.steps.items c.deref-step-items.result.now c.loop-step.invariant.done (close_script c.args.block.now.close) c.loop-step.step-index c.step-item.result c.args.state.now c.loop-step.state
-    (goal_view c.args.goal.now) c.args.first c.loop-step.number c.deref-step-items.ensures.value c.loop-step-test.true c.step-item.is c.loop-step.invariant.passed c.requires.ready c.requires.few
+    (goal_view c.args.goal.now) c.args.first_number c.loop-step.number c.deref-step-items.ensures.value c.loop-step-test.true c.step-item.is c.loop-step.invariant.passed c.requires.ready c.requires.few
 
 pub reach-loop-step-preserved : goal.reach-loop-step-preserved
 reach-loop-step-preserved t c =
@@ -88,7 +88,7 @@ reach-loop-step-preserved t c =
       done = c.loop-step.invariant.done ++ c.in-Ok.proved ∷ [];
       passed =
           step_passed (as_views c.args.before.now) c.args.block.now.steps.items c.deref-step-items.result.now c.loop-step.invariant.done (c.loop-step.invariant.done ++ c.in-Ok.proved ∷ []) c.loop-step.step-index c.step-item.result
-          c.in-Ok.proved c.args.state.now c.loop-step.state c.prove_step.new.state c.args.first c.loop-step.number c.prove_step.new.number c.deref-step-items.ensures.value c.loop-step-test.true c.step-item.is refl
+          c.in-Ok.proved c.args.state.now c.loop-step.state c.prove_step.new.state c.args.first_number c.loop-step.number c.prove_step.new.number c.deref-step-items.ensures.value c.loop-step-test.true c.step-item.is refl
           c.loop-step.invariant.passed c.in-Ok.ensures.ok;
       from = omega (
         arith,
@@ -101,12 +101,12 @@ reach-loop-step-preserved t c =
 pub reach-returns-in-Err-clause-err : goal.reach-returns-in-Err-clause-err
 reach-returns-in-Err-clause-err t c =
     step_stops (as_views c.args.before.now) c.args.block.now.steps.items c.deref-step-items.result.now c.loop-step.invariant.done (close_script c.args.block.now.close) c.loop-step.step-index c.step-item.result c.args.state.now c.loop-step.state
-    (goal_view c.args.goal.now) c.args.first c.loop-step.number c.in-Err.stop c.deref-step-items.ensures.value c.loop-step-test.true c.step-item.is c.loop-step.invariant.passed c.requires.ready c.in-Err.ensures.err
+    (goal_view c.args.goal.now) c.args.first_number c.loop-step.number c.in-Err.stop c.deref-step-items.ensures.value c.loop-step-test.true c.step-item.is c.loop-step.invariant.passed c.requires.ready c.in-Err.ensures.err
 
 pub reach-returns-in-Err-clause-earlier : goal.reach-returns-in-Err-clause-earlier
 reach-returns-in-Err-clause-earlier t c =
     let ready = step_ready (as_views c.args.before.now) c.args.block.now.steps.items c.deref-step-items.result.now c.loop-step.invariant.done (close_script c.args.block.now.close) c.loop-step.step-index c.step-item.result c.args.state.now c.loop-step.state
-    (goal_view c.args.goal.now) c.args.first c.loop-step.number c.deref-step-items.ensures.value c.loop-step-test.true c.step-item.is c.loop-step.invariant.passed c.requires.ready c.requires.few
+    (goal_view c.args.goal.now) c.args.first_number c.loop-step.number c.deref-step-items.ensures.value c.loop-step-test.true c.step-item.is c.loop-step.invariant.passed c.requires.ready c.requires.few
     in
     step_stops_before (as_views c.args.before.now) c.step-item.result c.loop-step.state c.loop-step.number c.step_count-lines.result c.args.target c.in-Err.stop ready (c.step_count-lines.ensures ready.rest)
     (omega (arith, c.if-target-next.false)) c.in-Err.ensures.err
@@ -116,7 +116,7 @@ reach-returns-in-Err-clause-earlier t c =
 pub reach-returns-then-number-target-2-clause-reached : goal.reach-returns-then-number-target-2-clause-reached
 reach-returns-then-number-target-2-clause-reached t c =
     close_here (as_views c.args.before.now) c.args.block.now.steps.items c.deref-step-items.result.now c.loop-step.invariant.done (close_script c.args.block.now.close) c.loop-step.step-index c.args.state.now c.loop-step.state
-    (goal_view c.args.goal.now) c.args.first c.loop-step.number c.args.target c.deref-step-items.ensures.value c.loop-step-test.false (search rules) c.loop-step.invariant.passed c.requires.ready
+    (goal_view c.args.goal.now) c.args.first_number c.loop-step.number c.args.target c.deref-step-items.ensures.value c.loop-step-test.false (search rules) c.loop-step.invariant.passed c.requires.ready
 
 pub reach-returns-then-number-target-2-clause-kept : goal.reach-returns-then-number-target-2-clause-kept
 reach-returns-then-number-target-2-clause-kept t c = c.loop-step.invariant.passed.kept
@@ -127,10 +127,10 @@ reach-enter_close-requires t c =
     let close = close_script c.args.block.now.close in
     let i = c.loop-step.step-index in
     let p = c.loop-step.invariant.passed in
-    let few = close_few (as_views c.args.before.now) items c.deref-step-items.result.now c.loop-step.invariant.done close i c.args.state.now c.loop-step.state c.args.first c.loop-step.number c.deref-step-items.ensures.value c.loop-step-test.false p in (
+    let few = close_few (as_views c.args.before.now) items c.deref-step-items.result.now c.loop-step.invariant.done close i c.args.state.now c.loop-step.state c.args.first_number c.loop-step.number c.deref-step-items.ensures.value c.loop-step-test.false p in (
       search (rules, the_lemmas),
       (
-        close_ready (as_views c.args.before.now) items c.deref-step-items.result.now c.loop-step.invariant.done close i c.args.state.now c.loop-step.state (goal_view c.args.goal.now) c.args.first c.loop-step.number c.deref-step-items.ensures.value
+        close_ready (as_views c.args.before.now) items c.deref-step-items.result.now c.loop-step.invariant.done close i c.args.state.now c.loop-step.state (goal_view c.args.goal.now) c.args.first_number c.loop-step.number c.deref-step-items.ensures.value
             c.loop-step-test.false p c.requires.ready,
         (
           omega (arith, few, c.requires.few),
@@ -146,7 +146,7 @@ pub reach-returns-clause-reached : goal.reach-returns-clause-reached
 reach-returns-clause-reached t c =
     on_ok_map _ _ c.enter_close.result
     (close_reaches (as_views c.args.before.now) c.args.block.now.steps.items c.deref-step-items.result.now c.loop-step.invariant.done (close_script c.args.block.now.close) c.loop-step.step-index c.args.state.now c.loop-step.state
-    c.enter_close.new.state (goal_view c.args.goal.now) c.args.first c.loop-step.number c.args.target c.deref-step-items.ensures.value c.loop-step-test.false c.loop-step.invariant.passed c.requires.ready)
+    c.enter_close.new.state (goal_view c.args.goal.now) c.args.first_number c.loop-step.number c.args.target c.deref-step-items.ensures.value c.loop-step-test.false c.loop-step.invariant.passed c.requires.ready)
     c.enter_close.ensures.reached
 
 pub reach-returns-clause-kept : goal.reach-returns-clause-kept
@@ -157,7 +157,7 @@ pub reach-returns-clause-err : goal.reach-returns-clause-err
 reach-returns-clause-err t c =
     err_map _ _ c.enter_close.result
     (λ stop k. close_stops (as_views c.args.before.now) c.args.block.now.steps.items c.deref-step-items.result.now c.loop-step.invariant.done (close_script c.args.block.now.close) c.loop-step.step-index c.args.state.now c.loop-step.state
-    (goal_view c.args.goal.now) c.args.first c.loop-step.number stop c.deref-step-items.ensures.value c.loop-step-test.false c.loop-step.invariant.passed c.requires.ready k)
+    (goal_view c.args.goal.now) c.args.first_number c.loop-step.number stop c.deref-step-items.ensures.value c.loop-step-test.false c.loop-step.invariant.passed c.requires.ready k)
     c.enter_close.ensures.err
 
 -- ---- the block inside a step
@@ -218,21 +218,21 @@ enter_step-returns-in-Claim-clause-err t c =
     (subst (λ b. StopsWithin (as_views c.args.before.now) (script_of b) x (goal_of c.items.result.now) (c.args.number + 1) stop) c.deref.ensures k)))
     c.reach.ensures.err
 
-pub enter_step-superpose-requires-clause-room : goal.enter_step-superpose-requires-clause-room
-enter_step-superpose-requires-clause-room t c =
+pub enter_step-license_superpose-requires-clause-room : goal.enter_step-license_superpose-requires-clause-room
+enter_step-license_superpose-requires-clause-room t c =
     let x = c.args.state.now in
     let y = c.in-Superposed in
     let parts = superposed_parts (as_views c.args.before.now) y.superposition y.names y.shown y.certs y.inner x c.args.number (subst (λ s. IsReadyStep (as_views c.args.before.now) s x c.args.number) y.is c.requires.ready) in
     room_of_small x.context.scope parts.scope
 
-pub enter_step-superpose-requires-clause-needs : goal.enter_step-superpose-requires-clause-needs
-enter_step-superpose-requires-clause-needs t c =
+pub enter_step-license_superpose-requires-clause-needs : goal.enter_step-license_superpose-requires-clause-needs
+enter_step-license_superpose-requires-clause-needs t c =
     let x = c.args.state.now in
     let y = c.in-Superposed in
     (superposed_parts (as_views c.args.before.now) y.superposition y.names y.shown y.certs y.inner x c.args.number (subst (λ s. IsReadyStep (as_views c.args.before.now) s x c.args.number) y.is c.requires.ready)).needs
 
-pub enter_step-superpose-requires-clause-after : goal.enter_step-superpose-requires-clause-after
-enter_step-superpose-requires-clause-after t c =
+pub enter_step-license_superpose-requires-clause-after : goal.enter_step-license_superpose-requires-clause-after
+enter_step-license_superpose-requires-clause-after t c =
     let x = c.args.state.now in
     let y = c.in-Superposed in
     let parts = superposed_parts (as_views c.args.before.now) y.superposition y.names y.shown y.certs y.inner x c.args.number (subst (λ s. IsReadyStep (as_views c.args.before.now) s x c.args.number) y.is c.requires.ready) in
@@ -243,13 +243,13 @@ pub enter_step-returns-in-Err-clause-err : goal.enter_step-returns-in-Err-clause
 enter_step-returns-in-Err-clause-err t c =
     let x = c.args.state.now in
     let y = c.in-Superposed in
-    let h = c.in-Err.step_stop in
-    superposed_refused (as_views c.args.before.now) c.args.step.now y.superposition y.names y.shown y.certs y.inner x c.superpose.new.state c.args.number h c.stop_at.result y.is c.in-Err.ensures.err
-    (same_state_names x c.superpose.new.state h c.in-Err.ensures.kept) c.stop_at.ensures
+    let h = c.in-Err.stop_reason in
+    superposed_refused (as_views c.args.before.now) c.args.step.now y.superposition y.names y.shown y.certs y.inner x c.license_superpose.new.state c.args.number h c.stop_at.result y.is c.in-Err.ensures.err
+    (same_state_names x c.license_superpose.new.state h c.in-Err.ensures.kept) c.stop_at.ensures
 
 pub enter_step-returns-in-Err-clause-earlier : goal.enter_step-returns-in-Err-clause-earlier
 enter_step-returns-in-Err-clause-earlier t c =
-    stop_before c.in-Err.step_stop c.args.number c.args.target c.superpose.new.state.names c.stop_at.result c.requires.inside c.stop_at.ensures
+    stop_before c.in-Err.stop_reason c.args.number c.args.target c.license_superpose.new.state.names c.stop_at.result c.requires.inside c.stop_at.ensures
 
 pub enter_step-overflow_add-number-in-Superposed : goal.enter_step-overflow_add-number-in-Superposed
 enter_step-overflow_add-number-in-Superposed t c = let one = at_least (step_script c.args.step.now c.requires.ready.rest) in omega (arith, one, c.requires.ready.few)
@@ -267,8 +267,8 @@ enter_step-reach-requires-in-Superposed t c =
     let count = ap (λ s. size (step_script s rest)) y.is ∙ superposed_count y.superposition y.names y.shown y.certs y.inner rest in (
       search (rules, the_lemmas),
       (
-        subst (λ b. IsReadyFor (as_views c.args.before.now) (script_of b) c.superpose.new.state (goal_of c.items-in-Superposed-2.result.now)) (sym c.deref-in-Superposed.ensures)
-            (subst (λ ls. IsReadyFor (as_views c.args.before.now) (script_of y.inner.value) c.superpose.new.state (goal_of ls)) (sym c.items-in-Superposed-2.ensures)
+        subst (λ b. IsReadyFor (as_views c.args.before.now) (script_of b) c.license_superpose.new.state (goal_of c.items-in-Superposed-2.result.now)) (sym c.deref-in-Superposed.ensures)
+            (subst (λ ls. IsReadyFor (as_views c.args.before.now) (script_of y.inner.value) c.license_superpose.new.state (goal_of ls)) (sym c.items-in-Superposed-2.ensures)
             (subst (λ z. IsReadyFor (as_views c.args.before.now) (script_of y.inner.value) z (goal_of y.shown)) (sym begun) parts.block)),
         (
           omega (arith, same, few),
@@ -288,10 +288,10 @@ enter_step-returns-in-Ok-clause-reached t c =
     on_ok_map _ _ c.reach-in-Superposed.result
     (λ k. superposed_entered (as_views c.args.before.now) c.args.step.now y.superposition y.names y.shown y.certs c.in-Ok.certs.items y.inner x c.reach-in-Superposed.new.state c.args.number c.args.target y.is
     (superposed_parts (as_views c.args.before.now) y.superposition y.names y.shown y.certs y.inner x c.args.number (subst (λ s. IsReadyStep (as_views c.args.before.now) s x c.args.number) y.is c.requires.ready))
-    (c.in-Ok.ensures.certs, c.in-Ok.ensures.written)
+    (c.in-Ok.ensures.certs, c.in-Ok.ensures.version)
     (subst (λ z. ReachesStep (as_views c.args.before.now) (script_of y.inner.value) z (goal_of y.shown) (c.args.number + 1) c.args.target c.reach-in-Superposed.new.state) begun
-    (subst (λ ls. ReachesStep (as_views c.args.before.now) (script_of y.inner.value) c.superpose.new.state (goal_of ls) (c.args.number + 1) c.args.target c.reach-in-Superposed.new.state) c.items-in-Superposed-2.ensures
-    (subst (λ b. ReachesStep (as_views c.args.before.now) (script_of b) c.superpose.new.state (goal_of c.items-in-Superposed-2.result.now) (c.args.number + 1) c.args.target c.reach-in-Superposed.new.state) c.deref-in-Superposed.ensures k))))
+    (subst (λ ls. ReachesStep (as_views c.args.before.now) (script_of y.inner.value) c.license_superpose.new.state (goal_of ls) (c.args.number + 1) c.args.target c.reach-in-Superposed.new.state) c.items-in-Superposed-2.ensures
+    (subst (λ b. ReachesStep (as_views c.args.before.now) (script_of b) c.license_superpose.new.state (goal_of c.items-in-Superposed-2.result.now) (c.args.number + 1) c.args.target c.reach-in-Superposed.new.state) c.deref-in-Superposed.ensures k))))
     c.reach-in-Superposed.ensures.reached
 
 pub enter_step-returns-in-Ok-clause-kept : goal.enter_step-returns-in-Ok-clause-kept
@@ -307,10 +307,10 @@ enter_step-returns-in-Ok-clause-err t c =
     err_map _ _ c.reach-in-Superposed.result
     (λ stop k. superposed_stopped (as_views c.args.before.now) c.args.step.now y.superposition y.names y.shown y.certs c.in-Ok.certs.items y.inner x c.args.number stop y.is
     (superposed_parts (as_views c.args.before.now) y.superposition y.names y.shown y.certs y.inner x c.args.number (subst (λ s. IsReadyStep (as_views c.args.before.now) s x c.args.number) y.is c.requires.ready))
-    (c.in-Ok.ensures.certs, c.in-Ok.ensures.written)
+    (c.in-Ok.ensures.certs, c.in-Ok.ensures.version)
     (subst (λ z. StopsWithin (as_views c.args.before.now) (script_of y.inner.value) z (goal_of y.shown) (c.args.number + 1) stop) begun
-    (subst (λ ls. StopsWithin (as_views c.args.before.now) (script_of y.inner.value) c.superpose.new.state (goal_of ls) (c.args.number + 1) stop) c.items-in-Superposed-2.ensures
-    (subst (λ b. StopsWithin (as_views c.args.before.now) (script_of b) c.superpose.new.state (goal_of c.items-in-Superposed-2.result.now) (c.args.number + 1) stop) c.deref-in-Superposed.ensures k))))
+    (subst (λ ls. StopsWithin (as_views c.args.before.now) (script_of y.inner.value) c.license_superpose.new.state (goal_of ls) (c.args.number + 1) stop) c.items-in-Superposed-2.ensures
+    (subst (λ b. StopsWithin (as_views c.args.before.now) (script_of b) c.license_superpose.new.state (goal_of c.items-in-Superposed-2.result.now) (c.args.number + 1) stop) c.deref-in-Superposed.ensures k))))
     c.reach-in-Superposed.ensures.err
 
 -- ---- the blocks of a split

@@ -6,7 +6,7 @@ use Rattle.e_licence.specs.Contexts.{state_of}
 use Rattle.e_theorem.specs.Statements.{as_views}
 use Rattle.e_deriv.specs.Script.{script_of}
 use Rattle.e_deriv.specs.Goal.{goal_view}
-use Rattle.e_prove.specs.inner.NextPlaces.{after_literal}
+use Rattle.e_prove.specs.inner.NextStates.{after_literal}
 use Rattle.e_prove.proofs.PassedSteps.{stops_for_memory, stops_as_memory}
 use Rattle.e_prove.proofs.ReadySteps.{block_facts}
 use Rattle.e_prove.proofs.HeldStates.{ready_inside, derived_outside, stops_outside, some_held, left_is}
@@ -58,16 +58,16 @@ returns-in-Err-prove_block-clause-err c =
     let x = c.args.state.now in
     let hs = x.context.held ++ state_of x.context ∷ [] in
     let entered = c.in-Ok.ensures ∙ ap (after_literal c.args.lit.now) c.in_ok-outer.ensures.held in
-    stops_outside (as_views c.args.before.now) (script_of c.args.block.now) (after_literal c.args.lit.now x) c.assume.new.self (goal_view c.args.goal.now) c.args.first c.in-Err-prove_block.stop hs entered c.in-Err-prove_block.ensures.err
+    stops_outside (as_views c.args.before.now) (script_of c.args.block.now) (after_literal c.args.lit.now x) c.assume.new.self (goal_view c.args.goal.now) c.args.first_number c.in-Err-prove_block.stop hs entered c.in-Err-prove_block.ensures.err
 
 pub returns-in_err-outer-clause-err : goal.returns-in_err-outer-clause-err
 returns-in_err-outer-clause-err c =
-    stops_as_memory (as_views c.args.before.now) (script_of c.args.block.now) (after_literal c.args.lit.now c.args.state.now) (goal_view c.args.goal.now) c.args.first c.from_residual.result (search rules)
+    stops_as_memory (as_views c.args.before.now) (script_of c.args.block.now) (after_literal c.args.lit.now c.args.state.now) (goal_view c.args.goal.now) c.args.first_number c.from_residual.result (search rules)
 
 pub returns-in-Err-clause-err : goal.returns-in-Err-clause-err
 returns-in-Err-clause-err c =
-    stops_for_memory (as_views c.args.before.now) (script_of c.args.block.now) (after_literal c.args.lit.now c.args.state.now) (goal_view c.args.goal.now) c.args.first
+    stops_for_memory (as_views c.args.before.now) (script_of c.args.block.now) (after_literal c.args.lit.now c.args.state.now) (goal_view c.args.goal.now) c.args.first_number
 
 pub returns-in_err-assume_not-clause-err : goal.returns-in_err-assume_not-clause-err
 returns-in_err-assume_not-clause-err c =
-    stops_as_memory (as_views c.args.before.now) (script_of c.args.block.now) (after_literal c.args.lit.now c.args.state.now) (goal_view c.args.goal.now) c.args.first c.from_residual-in_err-assume_not.result (search rules)
+    stops_as_memory (as_views c.args.before.now) (script_of c.args.block.now) (after_literal c.args.lit.now c.args.state.now) (goal_view c.args.goal.now) c.args.first_number c.from_residual-in_err-assume_not.result (search rules)

@@ -10,8 +10,8 @@ use Rattle.e_verify.proofs.checking.FormedInstances.{instance_formed, needs_form
 use Rattle.e_verify.proofs.checking.PairedCertificates.{transfer_is, ok_as}
 use Rattle.e_verify.proofs.transfer.transfer_certifies.Goals as goal
 
-pub parts_certify-requires-clause-lits : goal.parts_certify-requires-clause-lits
-parts_certify-requires-clause-lits c =
+pub parts_certify_needs-requires-clause-lits : goal.parts_certify_needs-requires-clause-lits
+parts_certify_needs-requires-clause-lits c =
     let t = c.args.cert.now in
     let inst = ap (Inst t.rule) (sym c.items.ensures) ∙ sym c.in_ok-lits.ensures ∙ ap (option_map (λ v. v.items)) c.in-Some.is in
     ap (list_all is_well_formed) (c.deref-2.ensures.value ∙ c.in_ok-needs.ensures) ∙ needs_formed c.in-Some.lits.items c.args.lit.now (instance_formed t.rule t.args c.in-Some.lits.items inst)
@@ -23,5 +23,5 @@ returns c =
     let lits = c.in-Some.lits.items in
     let inst = ap (Inst t.rule) (sym c.items.ensures) ∙ sym c.in_ok-lits.ensures ∙ ap (option_map (λ v. v.items)) c.in-Some.is in
     let one = ap (λ ls. has ls c.args.lit.now) (sym c.deref.ensures.value) ∙ sym c.is_among.ensures ∙ c.if-not-is_among.false in
-    ok_as c.parts_certify.result (parts_certify facts (map negation c.deref-2.result.now) c.items-2.result.now) (transfer_certifies facts c.args.lit.now t) c.parts_certify.ensures
+    ok_as c.parts_certify_needs.result (parts_certify facts (map negation c.deref-2.result.now) c.items-2.result.now) (transfer_certifies facts c.args.lit.now t) c.parts_certify_needs.ensures
     (transfer_is facts c.args.lit.now t lits c.deref-2.result.now c.items-2.result.now (sym c.is_transfer.ensures ∙ c.if-not-is_transfer.false) inst one (c.deref-2.ensures.value ∙ c.in_ok-needs.ensures) c.items-2.ensures)

@@ -1,8 +1,0 @@
-use Rattle.std.proofs.Common.{◌∷◌, ◌++◌, [], ap, ◌∙◌}
-use Rattle.e_licence.specs.Contexts.{Basis, state_of}
-use Rattle.e_prove.proofs.place.Place.enter_block.Goals as goal
-
-pub returns-clause-held : goal.returns-clause-held
-returns-clause-held c =
-    let x = c.args.self.now in
-    ap (λ (b : Basis). record x { context = b }) (c.in_ok-hold.ensures.ok ∙ ap (λ (b : Basis). record b { held = b.held ++ state_of b ∷ [] }) c.in_ok-solve.ensures)

@@ -1,5 +1,0 @@
-use Rattle.e_prove.proofs.HeldStates.{left_so}
-use Rattle.e_prove.proofs.place.Place.leave_block.Goals as goal
-
-pub returns : goal.returns
-returns c = left_so c.args.names c.args.self.now c.release.new.self c.release.ensures
