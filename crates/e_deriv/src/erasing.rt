@@ -76,7 +76,7 @@ fn erase_step(alloc: Global, step: &Step) -> Result<Step, AllocError>
         } => {
             let inner = erase(alloc, inner)?;
             let certs = Items::empty(alloc);
-            superpose(
+            superposed_step(
                 alloc,
                 superposition,
                 names.items(),

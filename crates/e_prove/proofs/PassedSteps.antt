@@ -25,7 +25,7 @@ use Rattle.e_prove.specs.declared.stop_reason.StopReason.TheVariants as stop_rea
 use Rattle.e_prove.specs.declared.state_before.StateBefore.{StateBefore}
 use Rattle.e_prove.specs.inner.StopsOfSteps.{StepStopsAt, UnlessNoMemory, IsStopOrNoMemory, IsStopOfAnswer}
 use Rattle.e_prove.specs.inner.LicensedSteps.{IsLicensedStep, IsStopOfStep, IsLicensedClose, IsStopOfClose, step_from_basis, steps_from_basis, fits_here}
-use Rattle.e_prove.specs.inner.PassedSteps.{IsReadyFor, IsDerivedFrom, KeepsHeld, Arrival, Stands, IsReachedIn, StopIn, ReachesWithin, ReachesStep, StopsWithin, IsPassed, StopsInStep}
+use Rattle.e_prove.specs.inner.PassedSteps.{IsReadyFor, IsDerivedFrom, KeepsHeld, Arrival, Stands, IsReachedIn, StopsInList, ReachesWithin, ReachesStep, StopsWithin, IsPassed, StopsInStep}
 use Rattle.e_prove.proofs.StopsInLists.{reached_first, reached_after, stop_first, stops_by, stop_before, tests_again, fits_here_is_blind, scope_is_blind}
 
 -- ---- nothing licensed yet, and one thing after another
@@ -182,8 +182,8 @@ stops_first before here x goal n h s k e =
     record {
       filled = here;
       stops =
-          subst (λ xs. StopIn before xs (names_of_steps before x.names here) n s) (sym a.1)
-          (subst (λ ns. StopIn before (y ∷ a.0) ns n s) (sym b.1) (stop_first before y a.0 x.names b.0 n h s k e));
+          subst (λ xs. StopsInList before xs (names_of_steps before x.names here) n s) (sym a.1)
+          (subst (λ ns. StopsInList before (y ∷ a.0) ns n s) (sym b.1) (stop_first before y a.0 x.names b.0 n h s k e));
     }
 
 -- before the first step of a script this holds

@@ -20,7 +20,7 @@ use Rattle.e_prove.specs.declared.stop_reason.StopReason.{StopReason}
 use Rattle.e_prove.specs.declared.state_before.StateBefore.{StateBefore}
 use Rattle.e_prove.specs.inner.NextStates.{after_block, after_superposed, entered_at, IsOutsideWith}
 use Rattle.e_prove.specs.inner.StopsOfSteps.{StepStopsAmong, UnlessNoMemory, IsStopOrNoMemory}
-use Rattle.e_prove.specs.inner.PassedSteps.{IsReadyFor, AreReadySteps, IsDerivedFrom, KeepsHeld, StopsWithin, IsPassed, StopsInSteps}
+use Rattle.e_prove.specs.inner.PassedSteps.{IsReadyFor, AreReadyBeforeSome, IsDerivedFrom, KeepsHeld, StopsWithin, IsPassed, StopsInSteps}
 use Rattle.e_prove.specs.Stops.{IsStopBefore}
 use Rattle.e_prove.proofs.HeldStates.{after_is}
 use Rattle.e_prove.proofs.PassedSteps.{passed_as, stops_first, same_names}
@@ -30,7 +30,7 @@ use Rattle.e_prove.proofs.InnerBlocks.{ClaimReady, claim_ready, claim_rest, clai
 
 -- ---- steps as the code has them
 
-pub ready_as : (before : List StatementView) (f g : Script → Script) (x : StateBefore) (n : ℕ) → ((d : Script) → g d ≡ f d) → AreReadySteps before g x n → AreReadySteps before f x n
+pub ready_as : (before : List StatementView) (f g : Script → Script) (x : StateBefore) (n : ℕ) → ((d : Script) → g d ≡ f d) → AreReadyBeforeSome before g x n → AreReadyBeforeSome before f x n
 ready_as before f g x n e r = record {
   rest = r.rest;
   goal = r.goal;
@@ -67,13 +67,13 @@ pub claim_is : (s : Step) (shown seen : List Lit) (inner : Box Block Global) (bl
 claim_is s shown seen inner block is same at rest =
     ap (λ t. step_script t rest) is ∙ step_script-Claim shown inner rest ∙ ap (λ ls. Claim ls (script_of inner.value) rest) (sym same) ∙ ap (λ b. Claim seen (script_of b) rest) (sym at)
 
-pub claim_begins : (before : List StatementView) (shown : List Lit) (inner : Script) (x : StateBefore) (n : ℕ) → AreReadySteps before (Claim shown inner) x n → ClaimReady before shown inner x
+pub claim_begins : (before : List StatementView) (shown : List Lit) (inner : Script) (x : StateBefore) (n : ℕ) → AreReadyBeforeSome before (Claim shown inner) x n → ClaimReady before shown inner x
 claim_begins before shown inner x n r = claim_ready before shown inner r.rest x r.goal r.ready
 
-pub claim_numbers : (before : List StatementView) (shown : List Lit) (inner : Script) (x : StateBefore) (n : ℕ) → AreReadySteps before (Claim shown inner) x n → n + 1 + size inner < 2 ^ 32
+pub claim_numbers : (before : List StatementView) (shown : List Lit) (inner : Script) (x : StateBefore) (n : ℕ) → AreReadyBeforeSome before (Claim shown inner) x n → n + 1 + size inner < 2 ^ 32
 claim_numbers before shown inner x n r = claim_few shown inner r.rest n r.few
 
-pub claim_ends : (before : List StatementView) (shown : List Lit) (inner derived : Script) (x : StateBefore) (n : ℕ) → IsDerivedFrom before inner x (goal_of shown) derived → AreReadySteps before (Claim shown inner) x n
+pub claim_ends : (before : List StatementView) (shown : List Lit) (inner derived : Script) (x : StateBefore) (n : ℕ) → IsDerivedFrom before inner x (goal_of shown) derived → AreReadyBeforeSome before (Claim shown inner) x n
     → are_limited_facts x.context.scope (with_facts x.context.facts shown) ≡ true
 claim_ends before shown inner derived x n d r = block_facts before r.rest (after_block shown x) r.goal (claim_rest before shown inner derived r.rest x r.goal d r.ready)
 
@@ -102,16 +102,16 @@ superposed_is s superposition names copies shown seen certs inner block is given
     ap (λ t. step_script t rest) is ∙ step_script-Superposed superposition names shown certs inner rest ∙ ap (λ ns. Superposed superposition ns shown certs (script_of inner.value) rest) (sym given)
     ∙ ap (λ ls. Superposed superposition copies ls certs (script_of inner.value) rest) (sym same) ∙ ap (λ b. Superposed superposition copies seen certs (script_of b) rest) (sym at)
 
-pub superposed_begins : (before : List StatementView) (superposition : Superpose) (names : List (List ℕ)) (shown : List Lit) (certs : List Cert) (inner : Script) (x : StateBefore) (n : ℕ) → AreReadySteps before (Superposed superposition names shown certs inner) x n
+pub superposed_begins : (before : List StatementView) (superposition : Superpose) (names : List (List ℕ)) (shown : List Lit) (certs : List Cert) (inner : Script) (x : StateBefore) (n : ℕ) → AreReadyBeforeSome before (Superposed superposition names shown certs inner) x n
     → SuperposedReady before superposition names shown inner x
 superposed_begins before superposition names shown certs inner x n r = superposed_ready before superposition names shown certs inner r.rest x r.goal r.ready
 
-pub superposed_numbers : (before : List StatementView) (superposition : Superpose) (names : List (List ℕ)) (shown : List Lit) (certs : List Cert) (inner : Script) (x : StateBefore) (n : ℕ) → AreReadySteps before (Superposed superposition names shown certs inner) x n
+pub superposed_numbers : (before : List StatementView) (superposition : Superpose) (names : List (List ℕ)) (shown : List Lit) (certs : List Cert) (inner : Script) (x : StateBefore) (n : ℕ) → AreReadyBeforeSome before (Superposed superposition names shown certs inner) x n
     → n + 1 + size inner < 2 ^ 32
 superposed_numbers before superposition names shown certs inner x n r = superposed_few superposition names shown certs inner r.rest n r.few
 
 pub superposed_ends : (before : List StatementView) (superposition : Superpose) (names : List (List ℕ)) (shown : List Lit) (certs : List Cert) (inner derived : Script) (x : StateBefore) (n : ℕ)
-    → IsDerivedFrom before inner (after_superposed superposition names x) (goal_of shown) derived → AreReadySteps before (Superposed superposition names shown certs inner) x n → are_limited_facts x.context.scope (with_facts x.context.facts shown) ≡ true
+    → IsDerivedFrom before inner (after_superposed superposition names x) (goal_of shown) derived → AreReadyBeforeSome before (Superposed superposition names shown certs inner) x n → are_limited_facts x.context.scope (with_facts x.context.facts shown) ≡ true
 superposed_ends before superposition names shown certs inner derived x n d r =
     block_facts before r.rest (after_block shown x) r.goal (superposed_rest before superposition names shown certs inner derived r.rest x r.goal d r.ready)
 

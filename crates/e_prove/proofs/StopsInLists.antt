@@ -31,7 +31,7 @@ use Rattle.e_prove.specs.declared.stop_reason.StopReason.TheVariants as stop_rea
 use Rattle.e_prove.specs.inner.StopsOfSteps.{StepStopsAt, IsStopOrNoMemory, stop_of}
 use Rattle.e_prove.specs.inner.LicensedSteps.{fits_here}
 use Rattle.e_prove.specs.Stops.{IsStopBefore}
-use Rattle.e_prove.specs.inner.PassedSteps.{Arrival, Halts, ArrivesAt, IsReachedIn, StopIn, ReachesWithin, StopsWithin}
+use Rattle.e_prove.specs.inner.PassedSteps.{Arrival, Halts, ArrivesAt, IsReachedIn, StopsInList, ReachesWithin, StopsWithin}
 
 -- ---- places
 
@@ -98,14 +98,14 @@ reached_right before xs ys ns ms k first a n names e d l r =
 -- ---- stops
 
 -- at the first step, with these names before it
-stop_at_first : (before : List StatementView) (x : PlacedStep) (xs : List PlacedStep) (m : Names) (ns : List Names) (first : ℕ) (h : StopReason) → StepStopsAt before x h → StopIn before (x ∷ xs) (m ∷ ns) first (stop_of h first m)
+stop_at_first : (before : List StatementView) (x : PlacedStep) (xs : List PlacedStep) (m : Names) (ns : List Names) (first : ℕ) (h : StopReason) → StepStopsAt before x h → StopsInList before (x ∷ xs) (m ∷ ns) first (stop_of h first m)
 stop_at_first before x xs m ns first (stop_reason.Lacks wanted values) k = reached_first before x xs m ns first (Halts (stop_reason.Lacks wanted values)) k
 stop_at_first before x xs m ns first (stop_reason.TooWide wanted width) k = reached_first before x xs m ns first (Halts (stop_reason.TooWide wanted width)) k
 stop_at_first before x xs m ns first stop_reason.NoMemory k = tt
 
-pub stop_first : (before : List StatementView) (x : PlacedStep) (xs : List PlacedStep) (m : Names) (ns : List Names) (first : ℕ) (h : StopReason) (s : Stop) → StepStopsAt before x h → IsStopOrNoMemory h first m s → StopIn before (x ∷ xs) (m ∷ ns) first s
-stop_first before x xs m ns first h (stop.Unlicensed n wanted values names) k e = subst (StopIn before (x ∷ xs) (m ∷ ns) first) (sym e) (stop_at_first before x xs m ns first h k)
-stop_first before x xs m ns first h (stop.TooWide n wanted width names) k e = subst (StopIn before (x ∷ xs) (m ∷ ns) first) (sym e) (stop_at_first before x xs m ns first h k)
+pub stop_first : (before : List StatementView) (x : PlacedStep) (xs : List PlacedStep) (m : Names) (ns : List Names) (first : ℕ) (h : StopReason) (s : Stop) → StepStopsAt before x h → IsStopOrNoMemory h first m s → StopsInList before (x ∷ xs) (m ∷ ns) first s
+stop_first before x xs m ns first h (stop.Unlicensed n wanted values names) k e = subst (StopsInList before (x ∷ xs) (m ∷ ns) first) (sym e) (stop_at_first before x xs m ns first h k)
+stop_first before x xs m ns first h (stop.TooWide n wanted width names) k e = subst (StopsInList before (x ∷ xs) (m ∷ ns) first) (sym e) (stop_at_first before x xs m ns first h k)
 stop_first before x xs m ns first h stop.NoMemory k e = tt
 
 -- where all that is found in the one script is found in the other, so is a stop

@@ -43,14 +43,14 @@ DerivedStopsForMemory =
     → Certified before t d → NoneWide before (derivation_steps before t d) →
     StopIs before t d stop → stop ≡ NoMemory
 
--- the stop is a refusal at step n, which lacks this; or memory ran out
+-- the stop is a refusal at step `n`, which lacks `wanted`; or memory ran out
 abbrev pub IsRefusalAt : ℕ → Wanted → Stop → Type 0
 IsRefusalAt n wanted (Unlicensed step lacked values names) = (step ≡ n) × (lacked ≡ wanted)
 IsRefusalAt n wanted (TooWide step lacked width names) = ⊥
 IsRefusalAt n wanted NoMemory = Unit {0}
 
--- where step n is the first that is not licensed, and no step up to it is wide, each stop is there,
--- and says what is lacked, or is out of memory
+-- where step `n` is the first that is not licensed, and no step up to it is wide, each stop is at
+-- step `n`, which lacks `wanted`, or is out of memory
 abbrev pub RefusedStopsThere : Type 0
 RefusedStopsThere =
     (before : List StatementView) (t : StatementView) (script : Script) (n : ℕ) (wanted : Wanted)

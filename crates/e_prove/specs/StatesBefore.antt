@@ -8,9 +8,9 @@ use Rattle.e_deriv.specs.Naming.{names_of_steps, declared_names}
 use Rattle.e_deriv.specs.Licensed.{IsContext}
 use Rattle.e_prove.specs.declared.state_before.StateBefore.{StateBefore}
 
--- All steps before the one with this number are licensed, with their blanks filled by the least
--- good choices; these are the objects in scope before it and the facts, with no state held, and the
--- names of the objects, where those are the names of the statement's declared and made objects.
+-- All steps before step `n` are licensed, with their blanks filled by the least good choices; `p`
+-- has the objects in scope before step `n` and the facts, with no state held, and the names of the
+-- objects, where `names` are those of the statement's declared and made objects.
 pub record IsStateBeforeStep (before : List StatementView) (t : StatementView) (names : Names)
     (script : Script) (n : ℕ) (p : StateBefore) : Type 0 where
   pub step : PlacedStep

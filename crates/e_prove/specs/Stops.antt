@@ -8,8 +8,8 @@ use Rattle.e_deriv.specs.Script.{Script}
 use Rattle.e_deriv.specs.Naming.{names_of_steps, declared_names}
 use Rattle.e_deriv.specs.Refused.{IsRefused, IsTooWideAt}
 
--- the step is the first that is not licensed, it lacks this, and the values show it; or each step
--- before is licensed, and the step is too wide at what is wanted there; or memory ran out
+-- `step` is the first that is not licensed, it lacks `wanted`, and `values` show it; or each step
+-- before `step` is licensed, and `step` is too wide at `wanted`; or memory ran out
 abbrev pub StopIs : List StatementView → StatementView → Script → Stop → Type 0
 StopIs before t script (Unlicensed step wanted values names) =
     IsRefused before t script step wanted values
@@ -17,8 +17,8 @@ StopIs before t script (TooWide step wanted width names) =
     IsTooWideAt before t script step wanted width
 StopIs before t script NoMemory = Unit {0}
 
--- the names are those in scope before the step, where these are the names of the statement's
--- declared and made objects
+-- `seen` are the names in scope before `step`, where `names` are those of the statement's declared
+-- and made objects
 abbrev pub HasNames : List StatementView → StatementView → Names → Script → Stop → Type 0
 HasNames before t names script (Unlicensed step wanted values seen) =
     Some seen ≡ slice_get (names_of_steps before (declared_names t names) script) (step - 1)
@@ -26,7 +26,7 @@ HasNames before t names script (TooWide step wanted width seen) =
     Some seen ≡ slice_get (names_of_steps before (declared_names t names) script) (step - 1)
 HasNames before t names script NoMemory = Unit {0}
 
--- the stop is at a step before the one with this number, or memory ran out
+-- the stop is at a step before step `n`, or memory ran out
 abbrev pub IsStopBefore : ℕ → Stop → Type 0
 IsStopBefore n (Unlicensed step wanted values names) = step < n
 IsStopBefore n (TooWide step wanted width names) = step < n

@@ -31,8 +31,8 @@ pub fn state_before_step(
         (script_of theorem.now.block) }
     requires first { 1 ≤ step }
     requires last { step ≤ size (script_of theorem.now.block) }
-    ensures state { IfOk result (IsStateBeforeStep (as_views before.now) (as_view theorem.now.statement)
-        theorem.now.names (script_of theorem.now.block) step) }
+    ensures state { IfOk result (IsStateBeforeStep (as_views before.now)
+        (as_view theorem.now.statement) theorem.now.names (script_of theorem.now.block) step) }
     ensures stop { IfErr result (StopIs (as_views before.now) (as_view theorem.now.statement)
         (script_of theorem.now.block)) }
     ensures names { IfErr result (HasNames (as_views before.now) (as_view theorem.now.statement)

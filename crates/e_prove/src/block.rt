@@ -5,7 +5,7 @@ ghost use Rattle.e_theorem.specs.Statements.{as_views};
 ghost use Rattle.e_deriv.specs.Script.{Claim, Superposed, script_of};
 ghost use Rattle.e_deriv.specs.Script.{step_script, close_script, size};
 ghost use Rattle.e_deriv.specs.Goal.{goal_view};
-ghost use Rattle.e_prove.specs.inner.PassedSteps.{AreReadySteps, IsReadyFor, IsReadyStep};
+ghost use Rattle.e_prove.specs.inner.PassedSteps.{AreReadyBeforeSome, IsReadyFor, IsReadyStep};
 ghost use Rattle.e_prove.specs.inner.PassedSteps.{IsDerivedFrom, IsPassed, KeepsHeld};
 ghost use Rattle.e_prove.specs.inner.PassedSteps.{StopsInSteps, StopsInStep, StopsWithin};
 
@@ -137,7 +137,7 @@ fn prove_claim(
     state: &mut StateBefore,
     number: &mut u32,
 ) -> Result<Step, Stop>
-    requires { AreReadySteps (as_views before.now) (Claim shown.now (script_of inner.now))
+    requires { AreReadyBeforeSome (as_views before.now) (Claim shown.now (script_of inner.now))
         state.old number.old }
     ensures ok { IfOk result
         (λ d. IsPassed (as_views before.now) (Claim shown.now (script_of inner.now)) state.old
@@ -167,7 +167,7 @@ fn prove_superposed(
     state: &mut StateBefore,
     number: &mut u32,
 ) -> Result<Step, Stop>
-    requires { (certs : List Certificate) × AreReadySteps
+    requires { (certs : List Certificate) × AreReadyBeforeSome
         (as_views before.now) (Superposed parts.now.superposition.now parts.now.names.now
         parts.now.shown.now certs (script_of inner.now)) state.old number.old }
     ensures ok { IfOk result (λ d. (certs : List Certificate)

@@ -45,11 +45,11 @@ pub fn qed(
 /// A contradiction: the facts contradict each other.
 pub fn contradiction(alloc: Global, context: &mut Context) -> Result<Close, StopReason>
     ensures ok { IfOk
-        result (λ d. (before : List StatementView) (goal : BlockGoal) (written : Option Against)
-        → IsLicensedClose before (Contradiction written) context.old goal d) }
+        result (λ d. (before : List StatementView) (goal : BlockGoal) (old : Option Against)
+        → IsLicensedClose before (Contradiction old) context.old goal d) }
     ensures err { IfErr
-        result (λ h. (before : List StatementView) (goal : BlockGoal) (written : Option Against)
-        → IsStopOfClose before (Contradiction written) context.old goal h) }
+        result (λ h. (before : List StatementView) (goal : BlockGoal) (old : Option Against)
+        → IsStopOfClose before (Contradiction old) context.old goal h) }
     ensures kept { context.new ≡ context.old }
 {
     let answer = context.refute(alloc)?;

@@ -67,8 +67,8 @@ pub fn reach(
         if number == target {
             return Ok(());
         }
-        let lines = step_count(step);
-        let next = number + lines;
+        let count = step_count(step);
+        let next = number + count;
         if target < next {
             return enter_step(alloc, before, step, state, number, target);
         }

@@ -8,8 +8,8 @@ ghost use Rattle.e_clause.specs.LimitedFacts.{are_limited_facts};
 ghost use Rattle.e_theorem.specs.Statements.{as_view};
 ghost use Rattle.e_deriv.specs.Goal.{facts_of_statement};
 ghost use Rattle.e_deriv.specs.Naming.{with_new_names};
-ghost use Rattle.e_prove.specs.inner.NextStates.{start_with_names, entered_at, IsOutsideAgain, IsOutsideWith};
-ghost use Rattle.e_prove.specs.inner.NextStates.{CanJoinLast, HasRoomForMore};
+ghost use Rattle.e_prove.specs.inner.NextStates.{start_with_names, entered_at, IsOutsideAgain};
+ghost use Rattle.e_prove.specs.inner.NextStates.{IsOutsideWith, CanJoinLast, HasRoomForMore};
 ghost use Rattle.e_prove.specs.inner.NextStates.{after_literal, after_make, after_superposed};
 
 use e_construct::{Construction, Superpose};
@@ -126,9 +126,11 @@ impl StateBefore {
         requires points { self.old.context.scope.points + length sorts.now < 2 ^ 16 }
         requires lines { self.old.context.scope.lines + length sorts.now < 2 ^ 16 }
         requires circles { self.old.context.scope.circles + length sorts.now < 2 ^ 16 }
-        ensures scope { OnOk result (self.new.context
-            ≡ record self.old.context { scope = Scopes.with_sorts self.old.context.scope sorts.now }) }
-        ensures names { OnOk result (self.new.names ≡ with_new_names self.old.names sorts.now names.now) }
+        ensures scope { OnOk result (self.new.context ≡ record self.old.context {
+          scope = Scopes.with_sorts self.old.context.scope sorts.now;
+        }) }
+        ensures names { OnOk result
+            (self.new.names ≡ with_new_names self.old.names sorts.now names.now) }
     {
         let scope = with_sorts(self.context.scope(), sorts);
         self.context.widen(scope);

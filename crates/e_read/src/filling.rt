@@ -135,7 +135,7 @@ fn fill_step(alloc: Global, step: &Step, queue: &mut CertQueue) -> Result<Step, 
         } => {
             let certs = next_certs(alloc, queue).into_items();
             match fill(alloc, inner, queue) {
-                Ok(inner) => superpose(
+                Ok(inner) => superposed_step(
                     alloc,
                     superposition,
                     names.items(),

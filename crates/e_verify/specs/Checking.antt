@@ -45,16 +45,16 @@ pub record IsCheckable (before : List StatementView) (d : Script) (x : StepState
   pub few : first + size d < 2 ^ 32
 
 -- `whole` puts some steps before a rest. There are a rest and a goal for which the whole can be
--- checked from state `x`.
-pub record AreCheckable (before : List StatementView) (whole : Script → Script) (x : StepState)
-    (first : ℕ) : Type 0 where
+-- checked from state `x`, where its first step has number `first`.
+pub record AreCheckableBeforeSome (before : List StatementView) (whole : Script → Script)
+    (x : StepState) (first : ℕ) : Type 0 where
   pub rest : Script
   pub goal : Goal
   pub ready : IsCheckable before (whole rest) x goal first
 
 -- the same of one step
 abbrev pub IsCheckableStep : List StatementView → Step → StepState → ℕ → Type 0
-IsCheckableStep before step x first = AreCheckable before (step_script step) x first
+IsCheckableStep before step x first = AreCheckableBeforeSome before (step_script step) x first
 
 -- the facts of `after` begin with those of `x`
 abbrev pub KeepsFirstFacts : StepState → StepState → Type 0
@@ -73,9 +73,9 @@ pub record IsChecked (before : List StatementView) (whole : Script → Script) (
   pub formed : IsTrue certified → IsTrue (list_all is_well_formed x.facts)
       → IsTrue (list_all is_well_formed after.facts)
 
--- `whole` puts some steps before a rest. Checking these steps has led from state `x`, where the first
--- has number `first`, to state `after` and number `next`; so the verdict on a rest from there is that
--- on the whole.
+-- `whole` puts some steps before a rest. Checking these steps has led from state `x`, where the
+-- first has number `first`, to state `after` and number `next`; so the verdict on a rest from there
+-- is that on the whole.
 pub record AreVerified (before : List StatementView) (whole : Script → Script) (x : StepState)
     (first : ℕ) (after : StepState) (next : ℕ) : Type 0 where
   pub ready : (rest : Script) (goal : Goal) → IsCheckable before (whole rest) x goal first

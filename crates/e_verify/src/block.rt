@@ -7,7 +7,7 @@ ghost use Rattle.e_theorem.specs.Statements.{as_views};
 ghost use Rattle.e_deriv.specs.Fitting.{is_small_statement};
 ghost use Rattle.e_deriv.specs.Script.{Claim, Superposed, script_of, step_script, close_script};
 ghost use Rattle.e_verify.specs.declared.reject.Reject.TheVariants.{Bad as IsBad};
-ghost use Rattle.e_verify.specs.Checking.{AreCheckable, IsCheckable, IsCheckableStep};
+ghost use Rattle.e_verify.specs.Checking.{AreCheckableBeforeSome, IsCheckable, IsCheckableStep};
 ghost use Rattle.e_verify.specs.Checking.{AreVerified, KeepsFirstFacts, RejectsInSteps};
 ghost use Rattle.e_verify.specs.Checking.{RejectIs, RejectsInStep, verdict_at};
 ghost use Rattle.e_deriv.specs.Goal.{goal_view};
@@ -24,8 +24,8 @@ use e_literal::{Lit, in_scope};
 use e_theorem::Statement;
 use std::alloc::Global;
 
-/// Checks the steps of a block in order, with the blocks inside it, where its first step has this
-/// number. The answer is the number of the step after it.
+/// Checks the steps of a block in order, with the blocks inside it, where its first step has number
+/// `first_number`. The answer is the number of the step after it.
 #[cycle(block)]
 pub fn verify_block(
     alloc: Global,
@@ -33,18 +33,18 @@ pub fn verify_block(
     block: &Block,
     goal: &Goal,
     state: &mut StepState,
-    first: u32,
+    first_number: u32,
 ) -> Result<u32, Reject>
     requires ready { IsCheckable (as_views before.now) (script_of block.now) state.old
-        (goal_view goal.now) first }
+        (goal_view goal.now) first_number }
     requires statements { IsTrue (list_all is_small_statement (as_views before.now)) }
     ensures ok { IfOk result (λ next. verdict_at (as_views before.now) (script_of block.now)
-        state.old (goal_view goal.now) first ≡ Ok next) }
+        state.old (goal_view goal.now) first_number ≡ Ok next) }
     ensures kept { OnOk result (KeepsFirstFacts state.old state.new) }
     ensures err { IfErr result (RejectIs (verdict_at (as_views before.now) (script_of block.now)
-        state.old (goal_view goal.now) first)) }
+        state.old (goal_view goal.now) first_number)) }
 {
-    let mut number = first;
+    let mut number = first_number;
     for step in &block.steps {
         number = verify_step(alloc, before, step, state, number)?;
     }
@@ -119,8 +119,8 @@ fn verify_claim(
     state: &mut StepState,
     number: u32,
 ) -> Result<u32, Reject>
-    requires ready { AreCheckable (as_views before.now) (Claim shown.now (script_of inner.now))
-        state.old number }
+    requires ready { AreCheckableBeforeSome (as_views before.now)
+        (Claim shown.now (script_of inner.now)) state.old number }
     requires statements { IsTrue (list_all is_small_statement (as_views before.now)) }
     ensures ok { IfOk result (λ next. AreVerified (as_views before.now)
         (Claim shown.now (script_of inner.now)) state.old number state.new next) }
@@ -156,7 +156,7 @@ fn verify_superposed(
     state: &mut StepState,
     number: u32,
 ) -> Result<u32, Reject>
-    requires ready { (names : List (List ℕ)) × AreCheckable (as_views before.now)
+    requires ready { (names : List (List ℕ)) × AreCheckableBeforeSome (as_views before.now)
         (Superposed parts.now.superposition.now names parts.now.shown.now
         parts.now.certs.now (script_of inner.now)) state.old number }
     requires statements { IsTrue (list_all is_small_statement (as_views before.now)) }

@@ -181,8 +181,8 @@ fn check_use(
     Ok(true)
 }
 
-/// Whether a superposition is certified; then the copied points are in scope, and what it gives are
-/// facts.
+/// Checks a superposition without its block: where it is certified, the copied points come into
+/// scope, what it gives become facts, and the answer is true.
 pub fn check_superpose(
     alloc: Global,
     superposition: &Superpose,

@@ -15,23 +15,25 @@ use Rattle.e_clause.specs.Versions.{is_cert_of}
 use Rattle.e_licence.specs.Contexts.{Basis}
 use Rattle.e_prove.specs.declared.application.Use.{Use}
 
--- at these arguments the literals that the statement needs are in scope and well formed; so are the
--- facts with those that it gives, and their terms are few
+-- At the arguments `args` the literals that statement `t` needs are in scope and well formed; so
+-- are the facts with those that `t` gives, and their terms are few.
 pub record LitsFitAt (t : StatementView) (args : List Obj) (x : Basis) : Type 0 where
   pub needs : IsTrue (are_well_formed_in x.scope (needs_of_use t args x.scope))
   pub after : IsTrue
-      (are_limited_facts (with_sorts x.scope t.made) (with_facts x.facts (gives_of_use t args x.scope)))
+      (are_limited_facts (with_sorts x.scope t.made)
+      (with_facts x.facts (gives_of_use t args x.scope)))
 
--- the arguments fit the statement, whatever their blanks are filled with, and at each choice its
--- literals fit; there are numbers for all objects
+-- The arguments `pattern` fit statement `t`, whatever their blanks are filled with, and at each
+-- choice for the blanks its literals fit; there are numbers for all objects.
 pub record CanApply (t : StatementView) (pattern : List (Option Obj)) (x : Basis) : Type 0 where
   pub fits : IsTrue (is_pattern t x.scope pattern)
   pub statement : IsTrue (is_small_statement t)
   pub scope : IsTrue (is_small x.scope)
   pub lits : (args : List Obj) → IsTrue (is_choice t x.scope pattern args) → LitsFitAt t args x
 
--- the arguments are the least good choice, each given literal has its certificate there, which
--- names literals that are well formed, and these are the shown ones
+-- The arguments of `u` are the least good choice for the blanks of `pattern`, each literal that `t`
+-- needs there has its certificate, which names literals that are well formed, and `u.gives` are the
+-- literals that `t` gives there.
 pub record IsUse (t : StatementView) (pattern : List (Option Obj)) (x : Basis)
     (u : Use) : Type 0 where
   pub least : IsLeastChoice t x.scope x.facts pattern u.args

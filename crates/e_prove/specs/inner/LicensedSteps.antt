@@ -19,8 +19,8 @@ use Rattle.e_prove.specs.declared.state_before.StateBefore.{StateBefore}
 use Rattle.e_prove.specs.declared.stop_reason.StopReason.{StopReason}
 use Rattle.e_prove.specs.inner.StopsOfSteps.{StepStopsAt}
 
--- the steps of a script where these objects are in scope and these are the facts, whose blanks are
--- filled as in the second script
+-- the steps of `script` with its blanks filled as in `filled`, where `x` has the objects in scope
+-- and the facts
 abbrev pub steps_from_basis : List StatementView → Script → Script → Basis → Goal → List PlacedStep
 steps_from_basis before script filled x goal =
     placed_steps before script filled x.scope x.facts goal
@@ -29,7 +29,7 @@ steps_from_basis before script filled x goal =
 abbrev pub step_from_basis : Script → Script → Basis → Goal → PlacedStep
 step_from_basis script filled x goal = placed_step script filled x.scope x.facts goal
 
--- the placed step fits, whatever its blanks are filled with
+-- the placed step `y` fits, whatever its blanks are filled with
 abbrev pub fits_here : List StatementView → PlacedStep → Bool
 fits_here before y = fits_with_blanks before y y.here
 
@@ -72,8 +72,8 @@ IsStopOfStep before step x h =
     (rest filled : Script) (goal : Goal)
     → StepStopsAt before (step_from_basis (step_script step rest) filled x.context goal) h
 
--- At state `x` the close is licensed, and `derived` is certified, by certificates that cite facts by
--- literals, which are well formed. Without certificates the two are the same.
+-- At state `x` the close is licensed, and `derived` is certified, by certificates that cite facts
+-- by literals, which are well formed. Without certificates the two are the same.
 pub record IsLicensedClose (before : List StatementView) (close : Close) (x : Basis) (goal : Goal)
     (derived : Close) : Type 0 where
   pub licensed : AllLicensed before

@@ -17,8 +17,8 @@ use Rattle.e_deriv.specs.Naming.{with_new_names, declared_names}
 use Rattle.e_licence.specs.Contexts.{State, state_of}
 use Rattle.e_prove.specs.declared.state_before.StateBefore.{StateBefore}
 
--- before the first step of a statement's proof, where these are the names of its declared and made
--- objects
+-- before the first step of the proof of statement `t`, where `names` are those of its declared and
+-- made objects
 abbrev pub start_with_names : StatementView → Names → StateBefore
 start_with_names t names =
     record {
@@ -30,7 +30,7 @@ start_with_names t names =
 abbrev pub after_literal : Lit → StateBefore → StateBefore
 after_literal l x = record x { context = record x.context { facts = with_fact x.context.facts l } }
 
--- after a construction, whose new objects have these names
+-- after a construction, whose new objects have `names`
 abbrev pub after_make : Construction → List (List ℕ) → StateBefore → StateBefore
 after_make construction names x =
     record {
@@ -41,7 +41,7 @@ after_make construction names x =
       names = with_new_names x.names (sorts_made construction) names;
     }
 
--- after an application of the statement at these arguments, whose new objects have these names
+-- after an application of statement `t` at `args`, whose new objects have `names`
 abbrev pub after_apply : StatementView → List Obj → List (List ℕ) → StateBefore → StateBefore
 after_apply t args names x =
     record {
@@ -52,7 +52,7 @@ after_apply t args names x =
       names = with_new_names x.names t.made names;
     }
 
--- after a superposition, whose copied points have these names: what its block begins with
+-- after a superposition, whose copied points have `names`: what its block begins with
 abbrev pub after_superposed : Superpose → List (List ℕ) → StateBefore → StateBefore
 after_superposed superposition names x =
     record {
@@ -64,20 +64,21 @@ after_superposed superposition names x =
       names = with_new_names x.names superposing.sorts_copied names;
     }
 
--- after an inner block that shows these literals
+-- after an inner block that shows the literals `shown`
 abbrev pub after_block : List Lit → StateBefore → StateBefore
 after_block shown x =
     record x { context = record x.context { facts = with_facts x.context.facts shown } }
 
--- with other held states
+-- state `x` with `held` for the states outside of the open blocks, the innermost last
 abbrev pub with_held : List State → StateBefore → StateBefore
 with_held held x = record x { context = record x.context { held = held } }
 
--- where a block inside begins: the present state is held
+-- where a block inside begins: the present state is the innermost outside of the open blocks
 abbrev pub entered_at : StateBefore → StateBefore
 entered_at x = with_held (x.context.held ++ state_of x.context ∷ []) x
 
--- the last held state is there again, with these names
+-- `after` is the innermost of the states outside of the open blocks of `x`, with `names`; the other
+-- states are those outside of it
 abbrev pub IsOutsideAgain : Names → StateBefore → StateBefore → Type 0
 IsOutsideAgain names x after =
     (before : List State) (last : State) → x.context.held ≡ before ++ last ∷ [] →
@@ -86,7 +87,7 @@ IsOutsideAgain names x after =
       names = names;
     }
 
--- and these literals are facts there
+-- the same, where the literals `shown` are facts besides
 abbrev pub IsOutsideWith : Names → List Lit → StateBefore → StateBefore → Type 0
 IsOutsideWith names shown x after =
     (before : List State) (last : State) → x.context.held ≡ before ++ last ∷ [] →
@@ -95,13 +96,13 @@ IsOutsideWith names shown x after =
       names = names;
     }
 
--- they may join the facts of the last held state
+-- the literals `shown` may join the facts of the innermost state outside of the open blocks of `x`
 abbrev pub CanJoinLast : List Lit → StateBefore → Type 0
 CanJoinLast shown x =
     (before : List State) (last : State) → x.context.held ≡ before ++ last ∷ []
     → IsTrue (are_limited_facts last.scope (with_facts last.facts shown))
 
--- two objects more of each sort have numbers of 16 bits
+-- in scope `s` two objects more of each sort have numbers of 16 bits
 pub record HasRoomForMore (s : Scope) : Type 0 where
   pub points : s.points + 2 < 2 ^ 16
   pub lines : s.lines + 2 < 2 ^ 16

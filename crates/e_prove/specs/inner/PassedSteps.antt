@@ -42,8 +42,8 @@ pub record IsReadyFor (before : List StatementView) (script : Script) (x : State
 
 -- `whole` puts some steps before a rest. There are a rest and a goal for which the whole is ready
 -- from state `x`, and the numbers of its steps, which begin with `first`, have 32 bits.
-pub record AreReadySteps (before : List StatementView) (whole : Script → Script) (x : StateBefore)
-    (first : ℕ) : Type 0 where
+pub record AreReadyBeforeSome (before : List StatementView) (whole : Script → Script)
+    (x : StateBefore) (first : ℕ) : Type 0 where
   pub rest : Script
   pub goal : Goal
   pub ready : IsReadyFor before (whole rest) x goal
@@ -51,7 +51,7 @@ pub record AreReadySteps (before : List StatementView) (whole : Script → Scrip
 
 -- the same of one step
 abbrev pub IsReadyStep : List StatementView → Step → StateBefore → ℕ → Type 0
-IsReadyStep before step x first = AreReadySteps before (step_script step) x first
+IsReadyStep before step x first = AreReadyBeforeSome before (step_script step) x first
 
 -- From state `x` the script is licensed, with its blanks filled as in `derived`, and `derived` is
 -- certified. Without certificates `derived` is the script with its blanks filled. Its certificates
@@ -72,11 +72,12 @@ KeepsHeld x after = after.context.held ≡ x.context.held
 -- ---- stops
 
 -- what is found at a step: that licensing stops there, by `h`; or which objects are in scope before
--- it, and which literals are facts
+-- the step, and which literals are facts
 pub data Arrival : Type 0 where
   Halts : (h : StopReason) → Arrival
   Stands : (scope : Scope) (facts : List Lit) → Arrival
 
+-- the arrival is found at the placed step `y`
 abbrev pub ArrivesAt : List StatementView → PlacedStep → Arrival → Type 0
 ArrivesAt before y (Halts h) = StepStopsAt before y h
 ArrivesAt before y (Stands scope facts) = (y.scope ≡ scope) × (y.facts ≡ facts)
@@ -93,12 +94,14 @@ pub record IsReachedIn (before : List StatementView) (xs : List PlacedStep) (ns 
   pub arrives : ArrivesAt before step a
   pub named : slice_get ns place ≡ Some names
 
-abbrev pub StopIn : List StatementView → List PlacedStep → List Names → ℕ → Stop → Type 0
-StopIn before xs ns first (stop.Unlicensed n wanted values names) =
+-- licensing stops by the stop at one of the steps `xs`, the first of which has number `first`; `ns`
+-- are the names in scope before each
+abbrev pub StopsInList : List StatementView → List PlacedStep → List Names → ℕ → Stop → Type 0
+StopsInList before xs ns first (stop.Unlicensed n wanted values names) =
     IsReachedIn before xs ns first (Halts (Lacks wanted values)) n names
-StopIn before xs ns first (stop.TooWide n wanted width names) =
+StopsInList before xs ns first (stop.TooWide n wanted width names) =
     IsReachedIn before xs ns first (Halts (TooWide wanted width)) n names
-StopIn before xs ns first stop.NoMemory = Unit {0}
+StopsInList before xs ns first stop.NoMemory = Unit {0}
 
 -- arrival `a` is found at step `n` of the script, from state `x`, with the blanks before it filled
 -- as in `filled`
@@ -109,22 +112,24 @@ pub record ReachesWithin (before : List StatementView) (script : Script) (x : St
       (names_of_steps before x.names script) first a n names
 
 -- before step `n` of the script the state is `y`, with the blanks before it filled somehow
-abbrev pub ReachesStep : List StatementView → Script → StateBefore → Goal → ℕ → ℕ → StateBefore → Type 0
+abbrev pub ReachesStep : List StatementView → Script → StateBefore → Goal → ℕ → ℕ
+    → StateBefore → Type 0
 ReachesStep before script x goal first n y =
     ReachesWithin before script x goal first (Stands y.context.scope y.context.facts) n y.names
 
 -- licensing stops by `s` at a step of the script, with the blanks before it filled as in `filled`
-pub record StopsWithin (before : List StatementView) (script : Script) (x : StateBefore) (goal : Goal)
-    (first : ℕ) (s : Stop) : Type 0 where
+pub record StopsWithin (before : List StatementView) (script : Script) (x : StateBefore)
+    (goal : Goal) (first : ℕ) (s : Stop) : Type 0 where
   pub filled : Script
-  pub stops : StopIn before (steps_from_basis before script filled x.context goal)
+  pub stops : StopsInList before (steps_from_basis before script filled x.context goal)
       (names_of_steps before x.names script) first s
 
 -- ---- what has been licensed
 
--- `whole` puts some steps before a rest. Licensing these steps leads from state `x`, where the first
--- has number `first`, to state `after` and number `next`. So a derivation of a rest from `after` is,
--- by `derived`, one of the whole from `x`; and a stop or an arrival in the rest is one in the whole.
+-- `whole` puts some steps before a rest. Licensing these steps leads from state `x`, where the
+-- first has number `first`, to state `after` and number `next`. So a derivation of a rest from
+-- `after` is, by `derived`, one of the whole from `x`; and a stop or an arrival in the rest is one
+-- in the whole.
 pub record IsPassed (before : List StatementView) (whole : Script → Script) (x : StateBefore)
     (first : ℕ) (derived : Script → Script) (after : StateBefore) (next : ℕ) : Type 0 where
   pub ready : (rest : Script) (goal : Goal) → IsReadyFor before (whole rest) x goal
@@ -141,7 +146,8 @@ pub record IsPassed (before : List StatementView) (whole : Script → Script) (x
   pub number : (rest : Script) → first + size (whole rest) ≡ next + size rest
   pub kept : KeepsHeld x after
 
--- licensing the steps that `whole` puts before a rest stops by `s` at one of them, whatever the rest
+-- licensing the steps that `whole` puts before a rest stops by `s` at one of them, whatever the
+-- rest
 abbrev pub StopsInSteps : List StatementView → (Script → Script) → StateBefore → ℕ → Stop → Type 0
 StopsInSteps before whole x first s =
     (rest : Script) (goal : Goal) → IsReadyFor before (whole rest) x goal
@@ -160,8 +166,8 @@ ReachesInStep before step x first n y =
 
 -- The first block of a split has been licensed from `x` with its literal as a fact; in `after` the
 -- negation of the literal is a fact.
-pub record IsFirstPassed (before : List StatementView) (lit : Lit) (block : Script) (x : StateBefore)
-    (goal : Goal) (after : StateBefore) : Type 0 where
+pub record IsFirstPassed (before : List StatementView) (lit : Lit) (block : Script)
+    (x : StateBefore) (goal : Goal) (after : StateBefore) : Type 0 where
   pub derived : Script
   pub is_derived : IsDerivedFrom before block (after_literal lit x) goal derived
   pub is_after : after ≡ after_literal (negation lit) x

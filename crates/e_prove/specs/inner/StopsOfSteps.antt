@@ -23,15 +23,16 @@ use Rattle.e_deriv.specs.Refused.{LiteralIsShown, IsShown, IsTooWide}
 use Rattle.e_prove.specs.declared.stop_reason.StopReason.{StopReason}
 use Rattle.e_prove.specs.declared.stop_reason.StopReason.TheVariants.{Lacks, TooWide, NoMemory}
 
--- the step lacks this, and the values show it; or it is too wide at this; or memory ran out
+-- the placed step `x` lacks `wanted`, and `values` show it; or `x` is too wide at `wanted`; or
+-- memory ran out
 abbrev pub StepStopsAt : List StatementView → PlacedStep → StopReason → Type 0
 StepStopsAt before x (Lacks wanted values) =
     LineLacks before x x.here wanted × IsShown x.here x.facts wanted values
 StepStopsAt before x (TooWide wanted width) = IsTooWide before x x.here wanted width
 StepStopsAt before x NoMemory = Unit {0}
 
--- the first of the literals that is not allowed is lacked, or one of them is too wide; or memory
--- ran out
+-- the first of the literals `ls` that is not allowed is lacked, or one of them is too wide; or
+-- memory ran out
 abbrev pub StepStopsAmong : Basis → List Lit → StopReason → Type 0
 StepStopsAmong x ls (Lacks (Literal l) values) =
     IsFirstNotAllowed x.scope x.facts ls l × LiteralIsShown x.facts l values
@@ -43,8 +44,8 @@ StepStopsAmong x ls (TooWide Match width) = ⊥
 StepStopsAmong x ls (TooWide Contradiction width) = ⊥
 StepStopsAmong x ls NoMemory = Unit {0}
 
--- no choice for the blanks is good, or one that is not above the least good one is too wide; or
--- memory ran out
+-- no choice for the blanks of `pattern` is good, or one that is not above the least good one is too
+-- wide; or memory ran out
 abbrev pub StepStopsFilling : StatementView → Basis → List (Option Obj) → StopReason → Type 0
 StepStopsFilling t x pattern (Lacks Match values) =
     NoneIsAllowed t x.scope x.facts pattern × (values ≡ None)
@@ -60,10 +61,11 @@ StepStopsFilling t x pattern NoMemory = Unit {0}
 -- blanks at their filling
 abbrev pub StepStopsApplying : StatementView → Basis → List (Option Obj) → StopReason → Type 0
 StepStopsApplying t x pattern h =
-    MatchBool (has_no_blank pattern) (StepStopsAmong x (needs_of_use t (args_written pattern) x.scope) h)
+    MatchBool (has_no_blank pattern)
+    (StepStopsAmong x (needs_of_use t (args_written pattern) x.scope) h)
     (StepStopsFilling t x pattern h)
 
--- the stop, where what is too wide is answered as a match that is
+-- the reason, where a literal that is too wide is answered as a match that is
 abbrev pub match_stop : StopReason → StopReason
 match_stop (TooWide wanted width) = TooWide Match width
 match_stop h = h
@@ -75,7 +77,7 @@ contradiction_by (refuted.Yes against) = Ok (ContradictionClose (Some against))
 contradiction_by (refuted.No values) = Err (Lacks Contradiction (Some values))
 contradiction_by (refuted.TooWide width) = Err (TooWide Contradiction width)
 
--- the fact holds where memory did not run out
+-- `p` holds where memory did not run out
 abbrev pub UnlessNoMemory : Type 0 → StopReason → Type 0
 UnlessNoMemory p NoMemory = Unit {0}
 UnlessNoMemory p h = p
@@ -86,7 +88,7 @@ stop_of (Lacks wanted values) n names = stop.Unlicensed n wanted values names
 stop_of (TooWide wanted width) n names = stop.TooWide n wanted width names
 stop_of NoMemory n names = stop.NoMemory
 
--- the stop is that one, or there was no memory for a copy of the names
+-- the stop by `h` at step `n`, or there was no memory for a copy of `names`
 abbrev pub IsStopOrNoMemory : StopReason → ℕ → Names → Stop → Type 0
 IsStopOrNoMemory h n names stop.NoMemory = Unit {0}
 IsStopOrNoMemory h n names s = s ≡ stop_of h n names

@@ -33,7 +33,7 @@ use Rattle.e_verify.specs.declared.step_state.StepState.{StepState}
 use Rattle.e_verify.specs.declared.step_state.Checkpoint.{Checkpoint}
 use Rattle.e_verify.specs.StepStates.{state_with_facts, state_after_superposed, checkpoint_of_state, state_restored}
 use Rattle.e_clause.specs.Written.{is_writable_cert, is_writable_against}
-use Rattle.e_verify.specs.Checking.{step_in_state, verdict_at, RejectIs, IsCheckable, IsCheckableStep, AreCheckable, KeepsFirstFacts, AreVerified, RejectsInSteps, RejectsInStep}
+use Rattle.e_verify.specs.Checking.{step_in_state, verdict_at, RejectIs, IsCheckable, IsCheckableStep, AreCheckableBeforeSome, KeepsFirstFacts, AreVerified, RejectsInSteps, RejectsInStep}
 use Rattle.e_verify.proofs.checking.FirstLines.{some_lines, qed_lines, contradiction_lines}
 use Rattle.e_deriv.proofs.Keeping.{stay_on, stay_joined, stay_all}
 use Rattle.e_verify.proofs.checking.CertifiedLines.{superposed_fits}
@@ -142,7 +142,7 @@ passed_as before f g x y n m e p =
       kept = p.kept;
     }
 
-pub ready_as : (before : List StatementView) (f g : Script → Script) (x : StepState) (n : ℕ) → ((d : Script) → g d ≡ f d) → AreCheckable before g x n → AreCheckable before f x n
+pub ready_as : (before : List StatementView) (f g : Script → Script) (x : StepState) (n : ℕ) → ((d : Script) → g d ≡ f d) → AreCheckableBeforeSome before g x n → AreCheckableBeforeSome before f x n
 ready_as before f g x n e r = record { rest = r.rest; goal = r.goal; ready = subst (λ d. IsCheckable before d x r.goal n) (e r.rest) r.ready }
 
 pub all_passed_as : (before : List StatementView) (f g : Script → Script) (x y : StepState) (n : ℕ) (r : Result ℕ Reject) → ((d : Script) → g d ≡ f d) → IfOk r (λ m. AreVerified before f x n y m) → IfOk r (λ m. AreVerified before g x n y m)
@@ -162,13 +162,13 @@ pub err_with : {N : Type 0} (r : Result ℕ Reject) (P : Reject → N → Type 0
 err_with (Ok m) P names h = tt
 err_with (Err k) P names h = h names
 
-pub few_lines : (before : List StatementView) (whole : Script → Script) (x : StepState) (n : ℕ) → AreCheckable before whole x n → n + 1 < 2 ^ 32
+pub few_lines : (before : List StatementView) (whole : Script → Script) (x : StepState) (n : ℕ) → AreCheckableBeforeSome before whole x n → n + 1 < 2 ^ 32
 few_lines before whole x n r = few_one before (whole r.rest) x r.goal n r.ready
 
-pub formed_lines : (before : List StatementView) (whole : Script → Script) (x : StepState) (n : ℕ) → AreCheckable before whole x n → list_all is_well_formed x.facts ≡ true
+pub formed_lines : (before : List StatementView) (whole : Script → Script) (x : StepState) (n : ℕ) → AreCheckableBeforeSome before whole x n → list_all is_well_formed x.facts ≡ true
 formed_lines before whole x n r = r.ready.facts
 
-pub small_lines : (before : List StatementView) (whole : Script → Script) (x : StepState) (n : ℕ) → AreCheckable before whole x n → is_small x.scope ≡ true
+pub small_lines : (before : List StatementView) (whole : Script → Script) (x : StepState) (n : ℕ) → AreCheckableBeforeSome before whole x n → is_small x.scope ≡ true
 small_lines before whole x n r = scope_small before (whole r.rest) x r.goal n r.ready
 
 -- ---- a claim
@@ -177,7 +177,7 @@ pub claim_is : (s : Step) (shown seen : List Lit) (inner : Box Block Global) (bl
 claim_is s shown seen inner block is same at rest =
     ap (λ t. step_script t rest) is ∙ step_script-Claim shown inner rest ∙ ap (λ ls. Claim ls (script_of inner.value) rest) (sym same) ∙ ap (λ b. Claim seen (script_of b) rest) (sym at)
 
-pub claim_ready : (before : List StatementView) (shown : List Lit) (inner : Script) (x : StepState) (n : ℕ) → AreCheckable before (Claim shown inner) x n → IsCheckable before inner x (goal_of shown) (n + 1)
+pub claim_ready : (before : List StatementView) (shown : List Lit) (inner : Script) (x : StepState) (n : ℕ) → AreCheckableBeforeSome before (Claim shown inner) x n → IsCheckable before inner x (goal_of shown) (n + 1)
 claim_ready before shown inner x n r = claim_inner before shown inner r.rest x r.goal n r.ready
 
 pub claim_fails : (before : List StatementView) (shown : List Lit) (inner : Script) (x : StepState) (n : ℕ) → are_over x.scope shown ≡ false → RejectsInSteps before (Claim shown inner) x n (Bad n)
@@ -202,12 +202,12 @@ superposed_is s superposition names shown over certs seen inner block is like sa
     ap (λ t. step_script t rest) is ∙ step_script-Superposed superposition names shown certs inner rest ∙ ap (λ ls. Superposed superposition names ls certs (script_of inner.value) rest) (sym like)
     ∙ ap (λ cs. Superposed superposition names over cs (script_of inner.value) rest) (sym same) ∙ ap (λ b. Superposed superposition names over seen (script_of b) rest) (sym at)
 
-pub superposed_parts : (before : List StatementView) (superposition : Superpose) (names : List (List ℕ)) (shown : List Lit) (certs : List Cert) (inner : Script) (x : StepState) (n : ℕ) → AreCheckable before (Superposed superposition names shown certs inner) x n
+pub superposed_parts : (before : List StatementView) (superposition : Superpose) (names : List (List ℕ)) (shown : List Lit) (certs : List Cert) (inner : Script) (x : StepState) (n : ℕ) → AreCheckableBeforeSome before (Superposed superposition names shown certs inner) x n
     → list_all is_writable_cert certs ≡ true
 superposed_parts before superposition names shown certs inner x n r = (superposed_written superposition names shown certs inner r.rest r.ready.written).1
 
 pub superposed_ready : (before : List StatementView) (superposition : Superpose) (names : List (List ℕ)) (shown : List Lit) (certs : List Cert) (inner : Script) (x z : StepState) (n : ℕ) → z ≡ state_after_superposed superposition x → superposing.fits_superposition superposition x.scope ≡ true
-    → AreCheckable before (Superposed superposition names shown certs inner) x n → IsCheckable before inner z (goal_of shown) (n + 1)
+    → AreCheckableBeforeSome before (Superposed superposition names shown certs inner) x n → IsCheckable before inner z (goal_of shown) (n + 1)
 superposed_ready before superposition names shown certs inner x z n begun fit r =
     subst (λ w. IsCheckable before inner w (goal_of shown) (n + 1)) (sym begun) (superposed_inner before superposition names shown certs inner r.rest x r.goal n fit r.ready)
 

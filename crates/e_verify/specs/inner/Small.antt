@@ -10,7 +10,7 @@ use Rattle.e_verify.specs.declared.rows.Row.TheVariants.{Sums}
 abbrev pub are_small_monomials : List Mono → Bool
 are_small_monomials ms = nat_le (length ms) 32 && list_all (λ m. nat_le m.coeff 1000000) ms
 
--- the sums that are compared are small
+-- the sums of a literal's row are small
 abbrev pub is_small_lit_row : LitRow → Bool
 is_small_lit_row c = are_small_monomials c.plus.now && are_small_monomials c.minus.now
 

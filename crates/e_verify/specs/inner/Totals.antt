@@ -38,8 +38,8 @@ abbrev pub total_at : List (ℕ × ℤ) → Term → ℤ
 total_at [] t = pos 0
 total_at (e ∷ es) t = (if is_its_key t e.0 then e.1 else pos 0) +ℤ total_at es t
 
--- The sum of each run of equal keys is 0 modulo 2^128. `key` and `so_far` are the key and the sum of
--- the run under way. In a list sorted by key a run has all that there is of its key.
+-- The sum of each run of equal keys is 0 modulo 2^128. `key` and `so_far` are the key and the sum
+-- of the run under way. In a list sorted by key a run has all that there is of its key.
 abbrev pub cancel_in_runs : ℕ → ℤ → List (ℕ × ℤ) → Bool
 cancel_in_runs key so_far [] = int_eq so_far (pos 0)
 cancel_in_runs key so_far (e ∷ es) =

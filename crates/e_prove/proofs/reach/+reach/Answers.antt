@@ -30,8 +30,8 @@ reach-returns-then-number-target-clause-reached t c =
 pub reach-returns-then-number-target-clause-kept : goal.reach-returns-then-number-target-clause-kept
 reach-returns-then-number-target-clause-kept t c = c.loop-step.invariant.passed.kept
 
-pub reach-step_count-lines-requires : goal.reach-step_count-lines-requires
-reach-step_count-lines-requires t c =
+pub reach-step_count-count-requires : goal.reach-step_count-count-requires
+reach-step_count-count-requires t c =
     let ready = step_ready (as_views c.args.before.now) c.args.block.now.steps.items c.deref-step-items.result.now c.loop-step.invariant.done (close_script c.args.block.now.close) c.loop-step.step-index c.step-item.result c.args.state.now c.loop-step.state
     (goal_view c.args.goal.now) c.args.first_number c.loop-step.number c.deref-step-items.ensures.value c.loop-step-test.true c.step-item.is c.loop-step.invariant.passed c.requires.ready c.requires.few
     in
@@ -42,7 +42,7 @@ reach-overflow_add-next t c =
     let ready = step_ready (as_views c.args.before.now) c.args.block.now.steps.items c.deref-step-items.result.now c.loop-step.invariant.done (close_script c.args.block.now.close) c.loop-step.step-index c.step-item.result c.args.state.now c.loop-step.state
     (goal_view c.args.goal.now) c.args.first_number c.loop-step.number c.deref-step-items.ensures.value c.loop-step-test.true c.step-item.is c.loop-step.invariant.passed c.requires.ready c.requires.few
     in
-    omega (arith, ready.few, c.step_count-lines.ensures ready.rest)
+    omega (arith, ready.few, c.step_count-count.ensures ready.rest)
 
 pub reach-enter_step-requires : goal.reach-enter_step-requires
 reach-enter_step-requires t c =
@@ -54,7 +54,7 @@ reach-enter_step-requires t c =
         ready,
         (
           omega (arith, c.loop-step.invariant.from, c.if-number-target.false),
-          λ rest. omega (arith, c.step_count-lines.ensures rest, c.if-target-next.true),
+          λ rest. omega (arith, c.step_count-count.ensures rest, c.if-target-next.true),
         ),
       ),
     )
@@ -92,8 +92,8 @@ reach-loop-step-preserved t c =
           c.loop-step.invariant.passed c.in-Ok.ensures.ok;
       from = omega (
         arith,
-        step_ends (as_views c.args.before.now) c.step-item.result c.in-Ok.proved c.loop-step.state c.prove_step.new.state c.loop-step.number c.prove_step.new.number c.step_count-lines.result (close_script c.args.block.now.close)
-            (c.step_count-lines.ensures (close_script c.args.block.now.close)) c.in-Ok.ensures.ok,
+        step_ends (as_views c.args.before.now) c.step-item.result c.in-Ok.proved c.loop-step.state c.prove_step.new.state c.loop-step.number c.prove_step.new.number c.step_count-count.result (close_script c.args.block.now.close)
+            (c.step_count-count.ensures (close_script c.args.block.now.close)) c.in-Ok.ensures.ok,
         c.if-target-next.false,
       );
     }
@@ -108,7 +108,7 @@ reach-returns-in-Err-clause-earlier t c =
     let ready = step_ready (as_views c.args.before.now) c.args.block.now.steps.items c.deref-step-items.result.now c.loop-step.invariant.done (close_script c.args.block.now.close) c.loop-step.step-index c.step-item.result c.args.state.now c.loop-step.state
     (goal_view c.args.goal.now) c.args.first_number c.loop-step.number c.deref-step-items.ensures.value c.loop-step-test.true c.step-item.is c.loop-step.invariant.passed c.requires.ready c.requires.few
     in
-    step_stops_before (as_views c.args.before.now) c.step-item.result c.loop-step.state c.loop-step.number c.step_count-lines.result c.args.target c.in-Err.stop ready (c.step_count-lines.ensures ready.rest)
+    step_stops_before (as_views c.args.before.now) c.step-item.result c.loop-step.state c.loop-step.number c.step_count-count.result c.args.target c.in-Err.stop ready (c.step_count-count.ensures ready.rest)
     (omega (arith, c.if-target-next.false)) c.in-Err.ensures.err
 
 -- ---- its close

@@ -31,7 +31,7 @@ verify_block-returns-in_err-number-clause-err t c =
     let p = err_from_is_err_and c.from_residual.result c.from_residual.ensures.1 in
     rw (p.1, p.2)
     (step_rejects (as_views c.args.before.now) c.args.block.now.steps.items c.deref-step-items.result.now (close_script c.args.block.now.close) c.loop-step.step-index c.step-item.result c.loop-step.state (goal_view c.args.goal.now) c.loop-step.number
-    (verdict_at (as_views c.args.before.now) (script_of c.args.block.now) c.args.state.now (goal_view c.args.goal.now) c.args.first) c.in_err-number.field-0.0
+    (verdict_at (as_views c.args.before.now) (script_of c.args.block.now) c.args.state.now (goal_view c.args.goal.now) c.args.first_number) c.in_err-number.field-0.0
     c.deref-step-items.ensures.value c.loop-step-test.true c.step-item.is c.loop-step.invariant.same c.in_err-number.ensures.err)
 
 pub verify_block-loop-step-preserved : goal.verify_block-loop-step-preserved
@@ -43,7 +43,7 @@ verify_block-loop-step-preserved t c =
     let g = goal_view c.args.goal.now in
     record {
       same = step_same before items seen close c.loop-step.step-index c.step-item.result c.loop-step.state c.verify_step.new.state g c.loop-step.number c.in_ok-number.number
-          (verdict_at before (script_of c.args.block.now) c.args.state.now g c.args.first) c.deref-step-items.ensures.value c.loop-step-test.true c.step-item.is c.loop-step.invariant.same c.in_ok-number.ensures.ok;
+          (verdict_at before (script_of c.args.block.now) c.args.state.now g c.args.first_number) c.deref-step-items.ensures.value c.loop-step-test.true c.step-item.is c.loop-step.invariant.same c.in_ok-number.ensures.ok;
       ready = step_next before items seen close c.loop-step.step-index c.step-item.result c.loop-step.state c.verify_step.new.state g c.loop-step.number c.in_ok-number.number
           c.deref-step-items.ensures.value c.loop-step-test.true c.step-item.is c.loop-step.invariant.ready c.in_ok-number.ensures.ok;
       kept = kept_on c.args.state.now c.loop-step.state c.verify_step.new.state c.loop-step.invariant.kept c.in_ok-number.ensures.ok.kept;
@@ -62,7 +62,7 @@ verify_block-returns-clause-ok t c =
     let g = goal_view c.args.goal.now in
     let close = close_script c.args.block.now.close in
     let end = steps_end c.args.block.now.steps.items c.deref-step-items.result.now close c.loop-step.step-index c.deref-step-items.ensures.value c.loop-step-test.false in
-    ok_as c.verify_close.result (verdict_at before (script_of c.args.block.now) c.args.state.now g c.args.first) (verdict_at before close c.loop-step.state g c.loop-step.number)
+    ok_as c.verify_close.result (verdict_at before (script_of c.args.block.now) c.args.state.now g c.args.first_number) (verdict_at before close c.loop-step.state g c.loop-step.number)
     (sym c.loop-step.invariant.same ∙ ap (λ d. verdict_at before d c.loop-step.state g c.loop-step.number) end) c.verify_close.ensures.ok
 
 pub verify_block-returns-clause-kept : goal.verify_block-returns-clause-kept
@@ -75,7 +75,7 @@ verify_block-returns-clause-err t c =
     let g = goal_view c.args.goal.now in
     let close = close_script c.args.block.now.close in
     let end = steps_end c.args.block.now.steps.items c.deref-step-items.result.now close c.loop-step.step-index c.deref-step-items.ensures.value c.loop-step-test.false in
-    err_as c.verify_close.result (verdict_at before (script_of c.args.block.now) c.args.state.now g c.args.first) (verdict_at before close c.loop-step.state g c.loop-step.number)
+    err_as c.verify_close.result (verdict_at before (script_of c.args.block.now) c.args.state.now g c.args.first_number) (verdict_at before close c.loop-step.state g c.loop-step.number)
     (sym c.loop-step.invariant.same ∙ ap (λ d. verdict_at before d c.loop-step.state g c.loop-step.number) end) c.verify_close.ensures.err
 
 -- ---- steps of one line

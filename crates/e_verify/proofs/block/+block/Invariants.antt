@@ -25,7 +25,7 @@ abbrev pub invariant-verify_block-loop-step : goal.invariant-verify_block-loop-s
 invariant-verify_block-loop-step l =
     record {
       same : verdict_at (as_views l.before) (steps_script (drop l.step-index l.block.steps.items) (close_script l.block.close)) l.state (goal_view l.goal) l.number
-          ≡ verdict_at (as_views l.before) (script_of l.block) l.initial.state (goal_view l.goal) l.first;
+          ≡ verdict_at (as_views l.before) (script_of l.block) l.initial.state (goal_view l.goal) l.first_number;
       ready : IsCheckable (as_views l.before) (steps_script (drop l.step-index l.block.steps.items) (close_script l.block.close)) l.state (goal_view l.goal) l.number;
       kept : KeepsFirstFacts l.initial.state l.state;
     }
