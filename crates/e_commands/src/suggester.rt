@@ -84,25 +84,25 @@ fn with_last_line(
     })
 }
 
-/// What may be applied at a place, which is this step of the theorem with this title. All is found
-/// before anything is written.
+/// What may be applied at this step of the theorem with this title, before which this is the state.
+/// All is found before anything is written.
 fn answer_at(
     alloc: Global,
     known: &Theorems,
-    place: &mut StateBefore,
+    state: &mut StateBefore,
     title: Title,
     step: u32,
 ) -> Result<Answer, AllocError>
     requires { IsTrue (list_all is_small_statement (stated_by known.now)) }
-    ensures { IfOk result (λ a. AnswersAt place.old.names place.old.context.scope
-        place.old.context.facts known.now title step a.status a.line.items) }
+    ensures { IfOk result (λ a. AnswersAt state.old.names state.old.context.scope
+        state.old.context.facts known.now title step a.status a.line.items) }
 {
-    place.context.solve(alloc)?;
+    state.context.solve(alloc)?;
     let mut text = Vec::new(alloc);
-    match list_theorems(alloc, known, place, &mut text)? {
+    match list_theorems(alloc, known, state, &mut text)? {
         Listed::Found { lines, more } => with_last_line(alloc, text, lines as u32, more),
         Listed::TooWide(width) => {
-            let names = place.names.copy(alloc)?;
+            let names = state.names.copy(alloc)?;
             let stop = Stop::TooWide {
                 step,
                 wanted: Wanted::Match,
@@ -133,12 +133,12 @@ fn answer_on(
     if steps < step {
         return answer_with(alloc, Status::NoStep, b"no step\n");
     }
-    let mut place = match state_before_step(alloc, known.statements(), theorem, step) {
-        Ok(place) => place,
+    let mut state = match state_before_step(alloc, known.statements(), theorem, step) {
+        Ok(state) => state,
         Err(stop) => return answer_of_stop(alloc, theorem.title, stop),
     };
-    let answer = answer_at(alloc, known, &mut place, theorem.title, step);
-    mem::drop(place);
+    let answer = answer_at(alloc, known, &mut state, theorem.title, step);
+    mem::drop(state);
     answer
 }
 

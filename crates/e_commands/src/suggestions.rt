@@ -1,4 +1,4 @@
-//! What is suggested at a place: a line for each choice of arguments for each theorem.
+//! What is suggested at a step: a line for each choice of arguments for each theorem.
 ghost use Rattle.std.specs.Prelude.{◌≡◌, ◌++◌, ◌∷◌, [], map, IfOk, IsTrue, OnOk};
 ghost use Rattle.std.specs.List.{list_all};
 ghost use Rattle.e_literal.specs.Use.{is_statement};
@@ -95,16 +95,16 @@ fn list_theorem(
     alloc: Global,
     title: Title,
     statement: &Statement,
-    place: &StateBefore,
+    state: &StateBefore,
     memory: &mut Verdicts,
     left: usize,
     out: &mut Vec<u8>,
 ) -> Result<Listed, AllocError>
-    requires memory { AreRight place.now.context memory.old }
+    requires memory { AreRight state.now.context memory.old }
     requires states { IsTrue (is_statement (as_view statement.now)) }
-    ensures listed { IfOk result (IsListedOne place.now.names place.now.context.scope
-        place.now.context.facts title (as_view statement.now) left out.old.items out.new.items) }
-    ensures memory { OnOk result (AreRight place.now.context memory.new) }
+    ensures listed { IfOk result (IsListedOne state.now.names state.now.context.scope
+        state.now.context.facts title (as_view statement.now) left out.old.items out.new.items) }
+    ensures memory { OnOk result (AreRight state.now.context memory.new) }
 {
     let declared = statement.declared.len();
     if declared > MOST_DECLARED {
@@ -113,9 +113,9 @@ fn list_theorem(
             more: false,
         });
     }
-    match all(alloc, &place.context, memory, statement, left)? {
+    match all(alloc, &state.context, memory, statement, left)? {
         FirstChoices::Found { choices, more } => {
-            put_applications(alloc, out, title, &place.names, choices.items())?;
+            put_applications(alloc, out, title, &state.names, choices.items())?;
             let lines = choices.len();
             Ok(Listed::Found { lines, more })
         }
@@ -127,12 +127,12 @@ fn list_theorem(
 pub fn list_theorems(
     alloc: Global,
     known: &Theorems,
-    place: &StateBefore,
+    state: &StateBefore,
     out: &mut Vec<u8>,
 ) -> Result<Listed, AllocError>
     requires small { IsTrue (list_all is_small_statement (stated_by known.now)) }
     requires empty { out.old.items ≡ [] }
-    ensures { IfOk result (IsListed place.now.names place.now.context.scope place.now.context.facts
+    ensures { IfOk result (IsListed state.now.names state.now.context.scope state.now.context.facts
         known.now out.new.items) }
 {
     let mut memory = Verdicts::new(alloc);
@@ -144,7 +144,7 @@ pub fn list_theorems(
             alloc,
             title,
             statement,
-            place,
+            state,
             &mut memory,
             MOST_LINES - count,
             out,

@@ -67,8 +67,8 @@ pub fn licences(alloc: Global, context: &mut Context, lits: &[Lit]) -> Result<Ve
     Ok(certs)
 }
 
-/// Whether the cited instance gives the literal: it is one of the instance, and the negation of each
-/// other is a fact.
+/// Whether the cited instance gives the literal: it is one of the instance, and the negation of
+/// each other is a fact.
 pub fn is_cited(alloc: Global, by: &By, facts: &Facts) -> Result<bool, AllocError>
     ensures { IfOk result (λ b. b ≡ is_cited facts.now by.now) }
 {

@@ -32,8 +32,8 @@ use std::mem;
 /// that show it where that is a metric literal or a contradiction, and the names in scope before
 /// it. `TooWide` comes only where each step before is licensed and the step is wide.
 ///
-/// `prove` requires that each step of the script fits in its place, and so do the literals: those of
-/// a theorem that is read do.
+/// `prove` requires that each step of the script fits in its place, and so do the literals: those
+/// of a theorem that is read do.
 pub fn prove(alloc: Global, before: &[Statement], theorem: &Theorem) -> Result<Block, Stop>
     requires { IsFitting (as_views before.now) (as_view theorem.now.statement)
         (script_of theorem.now.block) }

@@ -64,9 +64,9 @@ impl StateBefore {
     }
 
     /// A block inside begins: the present state is kept as the innermost one outside of the open
-    /// blocks, and the names are handed out, which
-    /// [`StateBefore::leave_block`] takes back. The linear systems of the facts are solved before, since
-    /// each block inside would have to solve them anew.
+    /// blocks, and the names are handed out, which [`StateBefore::leave_block`] takes back. The
+    /// linear systems of the facts are solved before, since each block inside would have to solve
+    /// them anew.
     pub(crate) fn enter_block(&mut self, alloc: Global) -> Result<Names, AllocError>
         ensures names { IfOk result (λ names. names ≡ self.old.names) }
         ensures held { OnOk result (self.new ≡ entered_at self.old) }
@@ -199,7 +199,8 @@ impl StateBefore {
     }
 }
 
-/// Adds each literal unless one the same is there.
+/// Adds each literal unless one the same is there. It is given the context alone, so that the loop
+/// is proved without the names.
 fn join_all(context: &mut Context, lits: Vec<Lit>) -> Result<(), AllocError>
     requires { IsTrue
         (are_limited_facts context.old.scope (with_facts context.old.facts lits.items)) }
@@ -212,7 +213,8 @@ fn join_all(context: &mut Context, lits: Vec<Lit>) -> Result<(), AllocError>
     Ok(())
 }
 
-/// Adds a copy of each literal, unless one the same is there.
+/// Adds a copy of each literal, unless one the same is there: of the context alone, as
+/// [`join_all`].
 fn join_copies(alloc: Global, context: &mut Context, lits: &[Lit]) -> Result<(), AllocError>
     requires { IsTrue
         (are_limited_facts context.old.scope (with_facts context.old.facts lits.now)) }

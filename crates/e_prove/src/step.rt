@@ -75,8 +75,8 @@ pub fn license_hence(alloc: Global, lit: &Lit, state: &mut StateBefore) -> Resul
     }
 }
 
-/// Makes the literal a fact, and hands out an equal one. It fails only out of memory; no clause says what
-/// holds then.
+/// Makes the literal a fact, and hands out an equal one. It fails only out of memory; no clause says
+/// what holds then.
 fn assume_copy(alloc: Global, lit: &Lit, state: &mut StateBefore) -> Result<Lit, AllocError>
     requires { IsTrue
         (are_limited_facts state.old.context.scope (with_fact state.old.context.facts lit.now)) }

@@ -74,8 +74,8 @@ pub fn stop_at(alloc: Global, stop_reason: StopReason, state: &StateBefore, numb
     }
 }
 
-/// Where a step or close without a block inside was licensed, counts it and hands it out; else gives
-/// the stop, with the step's number and names.
+/// Where a step or close without a block inside was licensed, counts it and hands it out; else
+/// gives the stop, with the step's number and names.
 pub fn count_or_stop<T>(
     alloc: Global,
     answered: Result<T, StopReason>,

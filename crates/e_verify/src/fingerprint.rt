@@ -20,8 +20,8 @@ fn residue_of_square(n: u64) -> u64
     n * n % 1_073_741_789
 }
 
-/// The number of a term that is written one way. 251 and its square only spread the objects: nothing
-/// rests on which numbers these are.
+/// The number of a term that is written one way. 251 and its square only spread the objects:
+/// nothing rests on which numbers these are.
 fn number_of(term: Term) -> u64
     ensures value { result ≡ term_number term }
     ensures bound { result < 2 ^ 30 }

@@ -114,6 +114,8 @@ impl StepState {
     }
 }
 
+/// Adds a copy of each literal, unless one the same is there. It is given the facts alone, so that
+/// the loop is proved without the scope.
 fn join_copies(alloc: Global, facts: &mut Facts, lits: &[Lit]) -> Result<(), AllocError>
     ensures { OnOk result (facts.new ≡ with_facts facts.old lits.now) }
 {

@@ -23,4 +23,4 @@ returns-in-Err c =
 
 pub returns : goal.returns
 returns c =
-    answered_next c.answer_at-answer.result c.args.known.now (entry_of c.args.theorem.now) c.args.step c.in-Ok.place (rw c.statements.ensures at c.in-Ok.ensures.state) c.answer_at-answer.ensures
+    answered_next c.answer_at-answer.result c.args.known.now (entry_of c.args.theorem.now) c.args.step c.in-Ok.state (rw c.statements.ensures at c.in-Ok.ensures.state) c.answer_at-answer.ensures

@@ -11,11 +11,11 @@ all-requires-clause-few c = omega (arith, c.len-declared.ensures, c.if-declared-
 
 pub returns-in_ok-put_applications-in-Found-clause-listed : goal.returns-in_ok-put_applications-in-Found-clause-listed
 returns-in_ok-put_applications-in-Found-clause-listed c =
-    let first = subst (SuggestedIs (as_view c.args.statement.now) c.args.place.now.context c.args.left) c.in-Found.is c.in_ok-choices.ensures.suggested in
+    let first = subst (SuggestedIs (as_view c.args.statement.now) c.args.state.now.context c.args.left) c.in-Found.is c.in_ok-choices.ensures.suggested in
     (c.in-Found.choices, search rules, search rules, omega (arith, c.len-lines.ensures, first.few), inr (omega (arith, c.len-declared.ensures, c.if-declared-gt-MOST_DECLARED.false), first))
 
 pub returns-in-TooWide-clause-listed : goal.returns-in-TooWide-clause-listed
 returns-in-TooWide-clause-listed c = (
   omega (arith, c.len-declared.ensures, c.if-declared-gt-MOST_DECLARED.false),
-  subst (SuggestedIs (as_view c.args.statement.now) c.args.place.now.context c.args.left) c.in-TooWide.is c.in_ok-choices.ensures.suggested,
+  subst (SuggestedIs (as_view c.args.statement.now) c.args.state.now.context c.args.left) c.in-TooWide.is c.in_ok-choices.ensures.suggested,
 )

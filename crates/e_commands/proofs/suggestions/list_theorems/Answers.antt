@@ -7,8 +7,8 @@ use Rattle.e_commands.proofs.suggestions.list_theorems.Goals as goal
 
 pub loop-at-init : goal.loop-at-init
 loop-at-init c = (
-  listed_start c.args.place.now.names c.args.place.now.context.scope c.args.place.now.context.facts c.args.known.now c.args.out.now.items c.requires.empty,
-  c.new-memory.ensures c.args.place.now.context,
+  listed_start c.args.state.now.names c.args.state.now.context.scope c.args.state.now.context.facts c.args.known.now c.args.out.now.items c.requires.empty,
+  c.new-memory.ensures c.args.state.now.context,
 )
 
 pub list_theorem-requires-clause-states : goal.list_theorem-requires-clause-states
@@ -20,7 +20,7 @@ overflow_sub-count c = omega (arith, c.loop-at.invariant.0.few)
 
 pub loop-at-preserved : goal.loop-at-preserved
 loop-at-preserved c = (
-  listed_more c.args.place.now.names c.args.place.now.context.scope c.args.place.now.context.facts c.args.known.now c.loop-at.at c.title-title.result (as_view c.statement-statement.result.now)
+  listed_more c.args.state.now.names c.args.state.now.context.scope c.args.state.now.context.facts c.args.known.now c.loop-at.at c.title-title.result (as_view c.statement-statement.result.now)
       c.loop-at.out.items c.list_theorem.new.out.items c.loop-at.count c.in-Found.lines c.in_ok-lines.field-0
       (headed_at c.args.known.now c.loop-at.at c.title-title.result (as_view c.statement-statement.result.now) c.title-title.ensures c.statement-statement.ensures) c.loop-at.invariant.0 (c.in-Found.is ∙ ap (λ b. listed.Found c.in-Found.lines b) c.if-more.false) c.in_ok-lines.ensures.listed,
   c.in_ok-lines.ensures.memory,
@@ -28,18 +28,18 @@ loop-at-preserved c = (
 
 pub returns-then-more : goal.returns-then-more
 returns-then-more c =
-    subst (λ (more : Bool). IsListed c.args.place.now.names c.args.place.now.context.scope c.args.place.now.context.facts c.args.known.now c.list_theorem.new.out.items (listed.Found (c.loop-at.count + c.in-Found.lines) more)) (sym c.if-more.true)
-    (listed_full c.args.place.now.names c.args.place.now.context.scope c.args.place.now.context.facts c.args.known.now c.loop-at.at c.title-title.result (as_view c.statement-statement.result.now)
+    subst (λ (more : Bool). IsListed c.args.state.now.names c.args.state.now.context.scope c.args.state.now.context.facts c.args.known.now c.list_theorem.new.out.items (listed.Found (c.loop-at.count + c.in-Found.lines) more)) (sym c.if-more.true)
+    (listed_full c.args.state.now.names c.args.state.now.context.scope c.args.state.now.context.facts c.args.known.now c.loop-at.at c.title-title.result (as_view c.statement-statement.result.now)
     c.loop-at.out.items c.list_theorem.new.out.items c.loop-at.count c.in-Found.lines c.in_ok-lines.field-0
     (headed_at c.args.known.now c.loop-at.at c.title-title.result (as_view c.statement-statement.result.now) c.title-title.ensures c.statement-statement.ensures) c.loop-at.invariant.0 (c.in-Found.is ∙ ap (λ b. listed.Found c.in-Found.lines b) c.if-more.true) c.in_ok-lines.ensures.listed)
 
 pub returns-in-TooWide : goal.returns-in-TooWide
 returns-in-TooWide c =
-    listed_wide c.args.place.now.names c.args.place.now.context.scope c.args.place.now.context.facts c.args.known.now c.loop-at.at c.title-title.result (as_view c.statement-statement.result.now) _ c.in-TooWide.width
+    listed_wide c.args.state.now.names c.args.state.now.context.scope c.args.state.now.context.facts c.args.known.now c.loop-at.at c.title-title.result (as_view c.statement-statement.result.now) _ c.in-TooWide.width
     c.loop-at.out.items c.list_theorem.new.out.items c.in_ok-lines.field-0
     (headed_at c.args.known.now c.loop-at.at c.title-title.result (as_view c.statement-statement.result.now) c.title-title.ensures c.statement-statement.ensures) c.in-TooWide.is c.in_ok-lines.ensures.listed
 
 pub returns : goal.returns
 returns c =
-    listed_all c.args.place.now.names c.args.place.now.context.scope c.args.place.now.context.facts c.args.known.now c.loop-at.at c.loop-at.out.items c.loop-at.count
+    listed_all c.args.state.now.names c.args.state.now.context.scope c.args.state.now.context.facts c.args.known.now c.loop-at.at c.loop-at.out.items c.loop-at.count
     (omega (arith, c.loop-at-test.false, c.len-at-end.ensures)) c.loop-at.invariant.0

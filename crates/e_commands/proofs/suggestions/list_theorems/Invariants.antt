@@ -3,5 +3,5 @@ use Rattle.e_commands.specs.inner.Suggesting.{AreListedTo}
 use Rattle.e_commands.proofs.suggestions.list_theorems.Given as goal
 
 abbrev pub invariant-loop-at : goal.invariant-loop-at
-invariant-loop-at l = AreListedTo l.place.names l.place.context.scope l.place.context.facts l.known l.at l.out.items l.count
-    × AreRight l.place.context l.memory
+invariant-loop-at l = AreListedTo l.state.names l.state.context.scope l.state.context.facts l.known l.at l.out.items l.count
+    × AreRight l.state.context l.memory

@@ -19,6 +19,6 @@ abbrev pub invariant-reach-loop-step : goal.invariant-reach-loop-step
 invariant-reach-loop-step l =
     record {
       done : List Step;
-      passed : IsPassed (as_views l.before) (steps_script (take l.step-index l.block.steps.items)) l.initial.state l.first (steps_script done) l.state l.number;
+      passed : IsPassed (as_views l.before) (steps_script (take l.step-index l.block.steps.items)) l.initial.state l.first_number (steps_script done) l.state l.number;
       from : l.number ≤ l.target;
     }
