@@ -7,10 +7,10 @@ mod kept;
 mod owed;
 mod seen;
 mod spelled;
-mod strict;
+mod canonical;
 
 pub use cert_line::{CertLine, RawRow, cert_line_is_of};
 pub use kept::{Certs, Rows, StepCerts};
 pub use owed::{Obligation, OpenSums, OpenTransfer, Pending};
 pub use seen::SeenLines;
-pub use strict::exact_cert_line;
+pub use canonical::canonical_cert_line;

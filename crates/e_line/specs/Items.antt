@@ -12,8 +12,8 @@ use Rattle.e_line.specs.declared.raw_line.RawLine.TheVariants as rawlines
 use Rattle.e_line.specs.declared.items.RawAs.{RawAs}
 use Rattle.e_line.specs.declared.items.RawItem.{RawItem}
 use Rattle.e_line.specs.declared.items.RawItem.TheVariants.{Literal, As}
-use Rattle.e_line.specs.declared.items.Listing.{Listing}
-use Rattle.e_line.specs.declared.items.Listing.TheVariants.{Given, Show, Claim, Superpose}
+use Rattle.e_line.specs.declared.items.ListHead.{ListHead}
+use Rattle.e_line.specs.declared.items.ListHead.TheVariants.{Given, Show, Claim, Superpose}
 use Rattle.e_line.specs.declared.items.BookLine.{BookLine}
 use Rattle.e_line.specs.declared.items.BookLine.TheVariants.{Plain, Define, Listed}
 use Rattle.e_line.specs.Reading.{◌>>=◌, each, first_title, no_word_left, names_of}
@@ -61,7 +61,7 @@ define_of words = do
   Ok (Define t.0)
 
 -- the words of a superposition up to show
-unfoldable pub placing_of : List (List ℕ) → Result Listing FaultKind
+unfoldable pub placing_of : List (List ℕ) → Result ListHead FaultKind
 placing_of head =
     if are_words_of superpose_pieces head
     then (names_of (new_words superpose_pieces head)
@@ -69,7 +69,7 @@ placing_of head =
     >>= λ args. Ok (Superpose args new))
     else Err Malformed
 
-unfoldable pub line_with_items : Listing → List (List ℕ) → Result BookLine FaultKind
+unfoldable pub line_with_items : ListHead → List (List ℕ) → Result BookLine FaultKind
 line_with_items line words = do
   items ← items_of words
   Ok (Listed line items)
@@ -96,12 +96,12 @@ abbrev pub raw_superpose_line : (args new : List (List ℕ)) → List RawLit →
 raw_superpose_line args new shown =
     rawlines.Superpose (record { args = args; new = new; shown = shown })
 
-abbrev pub listing_raw_line : Listing → List RawLit → RawLine
-listing_raw_line Given raws = rawlines.Given raws
-listing_raw_line Show raws = rawlines.Show raws
-listing_raw_line Claim raws = rawlines.Claim raws
-listing_raw_line (Superpose args new) raws = raw_superpose_line args new raws
+abbrev pub list_raw_line : ListHead → List RawLit → RawLine
+list_raw_line Given raws = rawlines.Given raws
+list_raw_line Show raws = rawlines.Show raws
+list_raw_line Claim raws = rawlines.Claim raws
+list_raw_line (Superpose args new) raws = raw_superpose_line args new raws
 
-abbrev pub is_show : Listing → Bool
+abbrev pub is_show : ListHead → Bool
 is_show Show = true
 is_show line = false

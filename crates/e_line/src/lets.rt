@@ -4,7 +4,7 @@ ghost use Rattle.std.specs.Option.{option_map_or};
 ghost use Rattle.e_construct.specs.Views.{piece_view};
 ghost use Rattle.e_line.specs.Reading.{texts, texts_after, names_of, Gives};
 ghost use Rattle.e_line.specs.Lets.{is_word_of, are_words_of, is_line_of, shapes_of};
-ghost use Rattle.e_line.specs.Lets.{is_new, is_place, words_at, avoided_of, let_named, let_of};
+ghost use Rattle.e_line.specs.Lets.{is_new, is_slot, words_in_slots, avoided_of, let_named, let_of};
 
 use crate::fault::LineError;
 use crate::words::{cut_at, some_names};
@@ -81,10 +81,10 @@ pub(crate) enum Slot {
 }
 
 /// Whether a piece is such a place.
-fn is_place(place: Slot, piece: Piece) -> bool
-    ensures { result ≡ is_place (is_new place) (piece_view piece) }
+fn is_slot(slot: Slot, piece: Piece) -> bool
+    ensures { result ≡ is_slot (is_new slot) (piece_view piece) }
 {
-    match (place, piece) {
+    match (slot, piece) {
         (Slot::New, Piece::New) => true,
         (Slot::Argument, Piece::Argument) => true,
         _ => false,
@@ -92,29 +92,29 @@ fn is_place(place: Slot, piece: Piece) -> bool
 }
 
 /// Whether such a place is there.
-fn is_place_at(place: Slot, pieces: &[Piece], at: usize) -> bool
+fn is_slot_at(slot: Slot, pieces: &[Piece], at: usize) -> bool
     ensures { result
-        ≡ option_map_or (λ p. is_place (is_new place) (piece_view p)) (slice_get pieces.now at) false }
+        ≡ option_map_or (λ p. is_slot (is_new slot) (piece_view p)) (slice_get pieces.now at) false }
 {
     match pieces.get(at) {
         None => false,
-        Some(piece) => is_place(place, *piece),
+        Some(piece) => is_slot(slot, *piece),
     }
 }
 
 /// The names at such places.
 pub(crate) fn names_at(
     alloc: Global,
-    place: Slot,
+    slot: Slot,
     pieces: &[Piece],
     words: &[&[u8]],
 ) -> Result<Items<Name>, LineError>
     ensures { Gives (λ n. n) result
-        (names_of (words_at (is_new place) (map piece_view pieces.now) (texts words.now))) }
+        (names_of (words_in_slots (is_new slot) (map piece_view pieces.now) (texts words.now))) }
 {
     let mut names = Items::empty(alloc);
     for (i, word) in words.iter().enumerate() {
-        if !is_place_at(place, pieces, i) {
+        if !is_slot_at(slot, pieces, i) {
             continue;
         }
         match Name::read(word) {

@@ -26,7 +26,7 @@ pub struct RawSuperpose {
 /// How many words come before the literals: `length superpose_pieces`.
 const HEAD: usize = 13;
 
-static PIECES: [Piece; 13] = [
+static PIECES: [Piece; HEAD] = [
     Piece::Argument,
     Piece::Argument,
     Piece::Argument,
@@ -60,7 +60,7 @@ pub(crate) fn head_and_lits<'a, 'b>(words: &'a [&'b [u8]]) -> (&'a [&'b [u8]], &
 
 /// The words up to `show`, and those of the literals.
 #[tactic(auto, unfolding(crate::specs::Superposes::raw_superpose_of))]
-fn head_of(alloc: Global, head: &[&[u8]], rest: &[&[u8]]) -> Result<RawSuperpose, LineError>
+fn raw_superpose_of(alloc: Global, head: &[&[u8]], rest: &[&[u8]]) -> Result<RawSuperpose, LineError>
     ensures { Gives (λ s. s) result (raw_superpose_of (texts head.now) (texts rest.now)) }
 {
     if !are_words_of(superposition_pieces(), head) {
@@ -78,5 +78,5 @@ pub(crate) fn superpose_of(alloc: Global, words: &[&[u8]]) -> Result<RawSuperpos
     ensures { Gives (λ s. s) result (superpose_of (texts words.now)) }
 {
     let (head, rest) = head_and_lits(words);
-    head_of(alloc, head, rest)
+    raw_superpose_of(alloc, head, rest)
 }

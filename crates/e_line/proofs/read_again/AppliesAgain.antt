@@ -10,7 +10,7 @@ use Rattle.e_line.specs.declared.applies.RawApply.{RawApply}
 use Rattle.e_line.specs.Reading.{◌>>=◌, first_word, first_title, cut_at}
 use Rattle.e_line.specs.Applies.{is_blank_argument, arguments_of, made_names, apply_of}
 use Rattle.e_line.specs.Canonical.{argument_word, made_words, apply_words}
-use Rattle.e_line.specs.HasSpelling.{AreNames}
+use Rattle.e_line.specs.Names.{AreNames}
 use Rattle.e_line.proofs.base.Bound.{name_differs}
 use Rattle.e_line.proofs.read_again.NamesAgain.{Without, named, titled, some_names_again, cut_again, uncut_again}
 use Rattle.e_line.proofs.read_again.LetsAgain.{names_tokens, append_tokens}

@@ -14,7 +14,7 @@ use Rattle.e_line.specs.declared.lets.RawLet.{RawLet}
 use Rattle.e_line.specs.Reading.{◌>>=◌, cut_at}
 use Rattle.e_line.specs.Lets.{new_words, argument_words, shapes_of, avoided_of, let_named, let_of}
 use Rattle.e_line.specs.Canonical.{filled_pieces, line_pieces, avoid_words, let_words}
-use Rattle.e_line.specs.HasSpelling.{AreNames}
+use Rattle.e_line.specs.Names.{AreNames}
 use Rattle.e_line.proofs.base.Bound.{name_differs}
 use Rattle.e_line.proofs.read_again.NamesAgain.{Without, names_again, some_names_again, cut_again, uncut_again}
 use Rattle.e_line.proofs.read_again.Pieces.{is_own_word, own_words_of, all_filled, new_again, arguments_again, alike, Filled, shapes_again, avoiding_shapes_again, first_alike}

@@ -11,14 +11,14 @@ use Rattle.e_construct.specs.declared.construction.Shape.{Shape}
 use Rattle.e_line.specs.declared.fault.FaultKind.{FaultKind}
 use Rattle.e_line.specs.declared.lets.RawLet.{RawLet}
 use Rattle.e_line.specs.Reading.{◌>>=◌, texts, cut_at}
-use Rattle.e_line.specs.Lets.{is_place, words_at, are_words_of, avoided_of, shapes_of, let_named, let_of}
+use Rattle.e_line.specs.Lets.{is_slot, words_in_slots, are_words_of, avoided_of, shapes_of, let_named, let_of}
 
 -- whether such a place is there
 abbrev pub is_there : Bool → List CodePiece → ℕ → Bool
-is_there new ps i = option_map_or (λ (p : CodePiece). is_place new (piece_view p)) (slice_get ps i) false
+is_there new ps i = option_map_or (λ (p : CodePiece). is_slot new (piece_view p)) (slice_get ps i) false
 
 abbrev Rest : Bool → List CodePiece → List (List ℕ) → ℕ → List (List ℕ)
-Rest new ps ws i = words_at new (map piece_view (drop i ps)) (drop i ws)
+Rest new ps ws i = words_in_slots new (map piece_view (drop i ps)) (drop i ws)
 
 choose : (b : Bool) (w : List ℕ) (ws : List (List ℕ)) → b ≡ true → cond b (w ∷ ws) ws ≡ w ∷ ws
 choose b w ws e = rw e refl
@@ -27,20 +27,20 @@ leave : (b : Bool) (w : List ℕ) (ws : List (List ℕ)) → b ≡ false → con
 leave b w ws e = rw e refl
 
 no_place : (new : Bool) (ws : List (List ℕ)) (i : ℕ) → Rest new [] ws i ≡ []
-no_place new ws i = ap (λ (ps : List CodePiece). words_at new (map piece_view ps) (drop i ws)) (drop_all i [] (omega arith))
+no_place new ws i = ap (λ (ps : List CodePiece). words_in_slots new (map piece_view ps) (drop i ws)) (drop_all i [] (omega arith))
 
 -- a word at such a place is the next
 pub word_taken : (new : Bool) (ps : List CodePiece) (ws : List (List ℕ)) (i : ℕ) → i < length ws → is_there new ps i ≡ true → Rest new ps ws i ≡ get_or ws i [] ∷ Rest new ps ws (i + 1)
 word_taken new [] ws i lt e = absurd cc
 word_taken new (p ∷ ps) [] i lt e = absurd (omega arith)
-word_taken new (p ∷ ps) (w ∷ ws) zero lt e = choose (is_place new (piece_view p)) w (words_at new (map piece_view ps) ws) e
+word_taken new (p ∷ ps) (w ∷ ws) zero lt e = choose (is_slot new (piece_view p)) w (words_in_slots new (map piece_view ps) ws) e
 word_taken new (p ∷ ps) (w ∷ ws) (suc i) lt e = rw add-one (rw add-one at (word_taken new ps ws i (omega arith) e))
 
 -- another word is none
 pub word_left : (new : Bool) (ps : List CodePiece) (ws : List (List ℕ)) (i : ℕ) → i < length ws → is_there new ps i ≡ false → Rest new ps ws i ≡ Rest new ps ws (i + 1)
 word_left new [] ws i lt e = no_place new ws i ∙ sym (no_place new ws (i + 1))
 word_left new (p ∷ ps) [] i lt e = absurd (omega arith)
-word_left new (p ∷ ps) (w ∷ ws) zero lt e = leave (is_place new (piece_view p)) w (words_at new (map piece_view ps) ws) e
+word_left new (p ∷ ps) (w ∷ ws) zero lt e = leave (is_slot new (piece_view p)) w (words_in_slots new (map piece_view ps) ws) e
 word_left new (p ∷ ps) (w ∷ ws) (suc i) lt e = rw add-one (rw add-one at (word_left new ps ws i (omega arith) e))
 
 -- without words no piece has one
@@ -59,9 +59,9 @@ pub ruleset counting = (common_steps, no_words, no_pieces)
 
 -- at the end of the words
 pub none_left : (new : Bool) (ps : List CodePiece) (ws : List (List ℕ)) (i : ℕ) → length ws ≤ i → Rest new ps ws i ≡ []
-none_left new ps ws i le = ap (λ (vs : List (List ℕ)). words_at new (map piece_view (drop i ps)) vs) (drop_all i ws le) ∙ nothing (map piece_view (drop i ps))
+none_left new ps ws i le = ap (λ (vs : List (List ℕ)). words_in_slots new (map piece_view (drop i ps)) vs) (drop_all i ws le) ∙ nothing (map piece_view (drop i ps))
   where
-    nothing : (qs : List Piece) → words_at new qs [] ≡ []
+    nothing : (qs : List Piece) → words_in_slots new qs [] ≡ []
     nothing [] = refl
     nothing (q ∷ qs) = refl
 

@@ -32,7 +32,7 @@ use Rattle.e_line.specs.Applies.{arguments_of, made_names as names_after_as, app
 use Rattle.e_line.specs.RawLines.{raw_line_of}
 use Rattle.e_names.specs.Scope.{used_object, number_of_name, on_sort, line_meets, meets_from, equal_at, atom_in, negated_in, lit_in, args_in, by_in, known_rule, variables_of, right_count}
 use Rattle.e_names.specs.Fits.{is_diagram_atom, is_diagram_lit}
-use Rattle.e_line.specs.HasSpelling.{AreNames}
+use Rattle.e_line.specs.Names.{AreNames}
 use Rattle.e_line.proofs.base.Bound.{bind_ok, ok_is, read_ok, each_length}
 use Rattle.e_line.proofs.base.Choices.{passed}
 use Rattle.e_line.proofs.read_lines.RawLinesByWord.{OfEachForm, form_by_word}
