@@ -106,15 +106,15 @@ lit_by_first_word negated w ws =
     then (two_names ws >>= λ p. Ok (lit_with_neg negated (Meets p.0 p.1)))
     else lit_of_sides negated (w ∷ ws)
 
-unfoldable pub signed_of : Bool → List (List ℕ) → Result RawLit FaultKind
-signed_of negated [] = Err Malformed
-signed_of negated (w ∷ ws) = lit_by_first_word negated w ws
+unfoldable pub lit_after_not : List (List ℕ) → Result RawLit FaultKind
+lit_after_not [] = Err Malformed
+lit_after_not (w ∷ ws) = lit_by_first_word true w ws
 
 -- a literal: not comes once before any form but those with != and <=
 unfoldable pub lit_of : List (List ℕ) → Result RawLit FaultKind
 lit_of [] = Err Malformed
 lit_of (w ∷ ws) =
-    if bytes_eq w (codes "not") then signed_of true ws else lit_by_first_word false w ws
+    if bytes_eq w (codes "not") then lit_after_not ws else lit_by_first_word false w ws
 
 -- a literal of diagrams or of equal objects
 abbrev pub is_diagram_raw : RawAtom → Bool

@@ -4,7 +4,7 @@ ghost use Rattle.std.specs.List.{list_all, position_or_len};
 ghost use Rattle.e_line.specs.Reading.{texts, Gives, Moves, with_front};
 ghost use Rattle.e_line.specs.Literals.{relation_of, is_relation, single_name, sums_of, sides_of};
 ghost use Rattle.e_line.specs.Literals.{equal_sides, negation_of, relation_first, lit_of_sides};
-ghost use Rattle.e_line.specs.Literals.{lit_by_first_word, signed_of, lit_of, is_diagram_raw};
+ghost use Rattle.e_line.specs.Literals.{lit_by_first_word, lit_after_not, lit_of, is_diagram_raw};
 ghost use Rattle.e_line.specs.Literals.{diagram_lit_of, diagram_lits_of, lits_of};
 
 use crate::fault::LineError;
@@ -246,13 +246,13 @@ fn lit_by_first_word(
     lit_of_sides(alloc, neg, words)
 }
 
-#[tactic(auto, unfolding(crate::specs::Literals::signed_of))]
-fn signed_of(alloc: Global, neg: bool, words: &[&[u8]]) -> Result<RawLit, LineError>
-    ensures { Gives (λ l. l) result (signed_of neg (texts words.now)) }
+#[tactic(auto, unfolding(crate::specs::Literals::lit_after_not))]
+fn lit_after_not(alloc: Global, words: &[&[u8]]) -> Result<RawLit, LineError>
+    ensures { Gives (λ l. l) result (lit_after_not (texts words.now)) }
 {
     match words {
         [] => Err(LineError::MALFORMED),
-        [word, rest @ ..] => lit_by_first_word(alloc, neg, word, rest, words),
+        [word, rest @ ..] => lit_by_first_word(alloc, true, word, rest, words),
     }
 }
 
@@ -265,7 +265,7 @@ pub fn lit_of(alloc: Global, words: &[&[u8]]) -> Result<RawLit, LineError>
         [] => Err(LineError::MALFORMED),
         [word, rest @ ..] => {
             if is(word, b"not") {
-                return signed_of(alloc, true, rest);
+                return lit_after_not(alloc, rest);
             }
             lit_by_first_word(alloc, false, word, rest, words)
         }

@@ -16,7 +16,7 @@ use Rattle.e_line.specs.declared.literal.RawLit.{RawLit}
 use Rattle.e_line.specs.declared.literal.RawAtom.{RawAtom}
 use Rattle.e_line.specs.declared.literal.RawAtom.TheVariants as raw
 use Rattle.e_line.specs.Reading.{each}
-use Rattle.e_line.specs.Literals.{relation_of, is_relation, single_name, sums_of, equal_sides, sides_of, negation_of, lit_of_sides, lit_with_neg, lit_by_first_word, signed_of, lit_of, is_diagram_raw, diagram_lit_of, is_semicolon, lits_of}
+use Rattle.e_line.specs.Literals.{relation_of, is_relation, single_name, sums_of, equal_sides, sides_of, negation_of, lit_of_sides, lit_with_neg, lit_by_first_word, lit_after_not, lit_of, is_diagram_raw, diagram_lit_of, is_semicolon, lits_of}
 use Rattle.e_line.specs.Canonical.{sum_words, sums_words, atom_words, words_with_neg, lit_words, more_words, lits_words}
 use Rattle.e_line.proofs.read_again.NamesAgain.{Without, named, first_place}
 use Rattle.e_line.proofs.read_again.LetsAgain.{append_tokens}
@@ -183,7 +183,7 @@ plain_again ws l b e =
     ap lit_of b.is ∙ plain_first b.first b.rest l b.word (sym (ap (lit_of_sides false) b.is) ∙ e)
 
 not_first : (w : List ℕ) (ws : List (List ℕ)) (l : RawLit) → is_mono_word w ≡ true → lit_of_sides true (w ∷ ws) ≡ Ok l → lit_of (codes "not" ∷ w ∷ ws) ≡ Ok l
-unfolding lit_of signed_of
+unfolding lit_of lit_after_not
 not_first w ws l h e = related_compared true w ws h ∙ e
 
 not_again : (ws : List (List ℕ)) (l : RawLit) → Begins ws → lit_of_sides true ws ≡ Ok l → lit_of (codes "not" ∷ ws) ≡ Ok l
@@ -191,7 +191,7 @@ not_again ws l b e =
     ap (λ (v : List (List ℕ)). lit_of (codes "not" ∷ v)) b.is ∙ not_first b.first b.rest l b.word (sym (ap (lit_of_sides true) b.is) ∙ e)
 
 signed_again : (neg : Bool) (a : RawAtom) → AtomNamed a → MaySign neg a → lit_of (words_with_neg neg a) ≡ Ok (lit_with_neg neg a)
-unfolding lit_of signed_of lit_by_first_word
+unfolding lit_of lit_after_not lit_by_first_word
 signed_again false (raw.On x y) h s = rw (two_again x y h.0 h.1) refl
 signed_again false (raw.Inside x y) h s = rw (two_again x y h.0 h.1) refl
 signed_again false (raw.Center x y) h s = rw (two_again x y h.0 h.1) refl

@@ -7,7 +7,7 @@ use Rattle.e_line.specs.declared.literal.RawLit.{RawLit}
 use Rattle.e_line.specs.declared.literal.RawAtom.{RawAtom}
 use Rattle.e_line.specs.declared.literal.RawAtom.TheVariants as raw
 use Rattle.e_line.specs.Reading.{◌>>=◌, two_names, three_names}
-use Rattle.e_line.specs.Literals.{lit_of_sides, lit_with_neg, lit_by_first_word, signed_of, lit_of}
+use Rattle.e_line.specs.Literals.{lit_of_sides, lit_with_neg, lit_by_first_word, lit_after_not, lit_of}
 use Rattle.e_line.proofs.base.Bound.{read_ok}
 use Rattle.e_line.proofs.base.Choices.{either, of_reading}
 
@@ -38,13 +38,13 @@ related_by_word P h negated w ws l e =
     either P (bytes_eq w (codes "same-side")) (three raw.Same) r6 l e4 (of_reading P (three_names ws) (λ p. lit_with_neg negated (raw.Same p.0 p.1 p.2)) l (λ p k. h.of_same_side negated p.0 p.1 p.2)) (λ e5.
     either P (bytes_eq w (codes "meets")) (two raw.Meets) (lit_of_sides negated (w ∷ ws)) l e5 (of_reading P (two_names ws) (λ p. lit_with_neg negated (raw.Meets p.0 p.1)) l (λ p k. h.of_meets negated p.0 p.1)) (h.of_compared negated (w ∷ ws) l))))))
 
-signed_by_word : (P : RawLit → Type 0) → OfEachRelation P → (negated : Bool) (ws : List (List ℕ)) (l : RawLit) → signed_of negated ws ≡ Ok l → P l
-unfolding signed_of
-signed_by_word P h negated [] l e = absurd cc
-signed_by_word P h negated (w ∷ ws) l e = related_by_word P h negated w ws l e
+negated_by_word : (P : RawLit → Type 0) → OfEachRelation P → (ws : List (List ℕ)) (l : RawLit) → lit_after_not ws ≡ Ok l → P l
+unfolding lit_after_not
+negated_by_word P h [] l e = absurd cc
+negated_by_word P h (w ∷ ws) l e = related_by_word P h true w ws l e
 
 -- a literal that is read is one of a relation, or one that compares
 pub lit_by_word : (P : RawLit → Type 0) → OfEachRelation P → (ws : List (List ℕ)) (l : RawLit) → lit_of ws ≡ Ok l → P l
 unfolding lit_of
 lit_by_word P h [] l e = absurd cc
-lit_by_word P h (w ∷ ws) l e = either P (bytes_eq w (codes "not")) (signed_of true ws) (lit_by_first_word false w ws) l e (signed_by_word P h true ws l) (related_by_word P h false w ws l)
+lit_by_word P h (w ∷ ws) l e = either P (bytes_eq w (codes "not")) (lit_after_not ws) (lit_by_first_word false w ws) l e (negated_by_word P h ws l) (related_by_word P h false w ws l)
