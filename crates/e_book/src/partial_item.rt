@@ -46,11 +46,7 @@ fn has_notion_title(known: &Known, raw_line: &RawLine) -> bool
 }
 
 /// A raw line with these literals.
-fn list_raw_line(
-    alloc: Global,
-    line: &ListHead,
-    raws: Items<RawLit>,
-) -> Result<RawLine, AllocError>
+fn list_raw_line(alloc: Global, line: &ListHead, raws: Items<RawLit>) -> Result<RawLine, AllocError>
     ensures { IfOk result (λ f. f ≡ list_raw_line line.now raws) }
 {
     match line {

@@ -32,7 +32,11 @@ fn is_canonical_cert_line(cert_line: &CertLine) -> bool
 /// What a line of a certificate says that has the one spelling of it, where these are the words
 /// after its bar.
 #[tactic(auto, unfolding(crate::specs::CanonicalCertLines::canonical_cert_line))]
-pub fn canonical_cert_line(alloc: Global, line: &[u8], words: &[&[u8]]) -> Result<CertLine, LineError>
+pub fn canonical_cert_line(
+    alloc: Global,
+    line: &[u8],
+    words: &[&[u8]],
+) -> Result<CertLine, LineError>
     ensures { Gives (λ m. m) result (canonical_cert_line line.now (texts words.now)) }
 {
     let cert_line = cert_line_of(alloc, words)?;

@@ -1,6 +1,6 @@
 -- The lines of a book by their spelling alone: those of theorems, with items among their literals,
 -- and the first line of a definition.
-use Rattle.std.specs.Prelude.{ℕ, Bool, true, false, ◌&&◌, List, [], ◌∷◌, take, drop, Result, Ok}
+use Rattle.std.specs.Prelude.{ℕ, Bool, true, false, ◌&&◌, List, [], ◌∷◌, Result, Ok}
 use Rattle.std.specs.Prelude.{Err, codes, if◌then◌else◌}
 use Rattle.std.specs.List.{slice_split, list_any}
 use Rattle.std.specs.Str.{bytes_eq}
@@ -19,7 +19,7 @@ use Rattle.e_line.specs.declared.items.BookLine.TheVariants.{Plain, Define, List
 use Rattle.e_line.specs.Reading.{◌>>=◌, each, first_title, no_word_left, names_of}
 use Rattle.e_line.specs.Literals.{is_semicolon, lit_of}
 use Rattle.e_line.specs.Lets.{are_words_of, new_words, argument_words}
-use Rattle.e_line.specs.Superposes.{superpose_pieces}
+use Rattle.e_line.specs.Superposes.{superpose_pieces, words_to_show, words_shown}
 use Rattle.e_line.specs.RawLines.{raw_line_named}
 
 -- ---- what is between two semicolons
@@ -82,8 +82,8 @@ line_named w ws =
     if bytes_eq w (codes "given") && has_item ws then line_with_items Given ws else
     if bytes_eq w (codes "show") && has_item ws then line_with_items Show ws else
     if bytes_eq w (codes "claim") && has_item ws then line_with_items Claim ws else
-    if bytes_eq w (codes "superpose") && has_item (drop 13 ws)
-    then (placing_of (take 13 ws) >>= λ line. line_with_items line (drop 13 ws)) else
+    if bytes_eq w (codes "superpose") && has_item (words_shown ws)
+    then (placing_of (words_to_show ws) >>= λ line. line_with_items line (words_shown ws)) else
     (raw_line_named w ws >>= λ f. Ok (Plain f))
 
 unfoldable pub book_line_of : List (List ℕ) → Result BookLine FaultKind

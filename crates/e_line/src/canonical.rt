@@ -7,8 +7,8 @@ ghost use Rattle.e_line.specs.CanonicalLines.{is_less, is_canonical_lit, are_can
 ghost use Rattle.e_line.specs.CanonicalLines.{is_canonical_form, canonical_line_of};
 
 use crate::fault::LineError;
-use crate::put_line::put_raw_line;
 use crate::literal::{RawAtom, RawLit};
+use crate::put_line::put_raw_line;
 use crate::raw_line::{RawLine, raw_line_of};
 use e_text::Name;
 use std::alloc::{AllocError, Global};
