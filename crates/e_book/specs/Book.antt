@@ -11,7 +11,7 @@ use Rattle.e_line.specs.declared.fault.BookFault.TheVariants as faults
 use Rattle.e_book.specs.declared.parser.Section.{Section}
 use Rattle.e_book.specs.declared.parser.Section.TheVariants as places
 use Rattle.e_book.specs.declared.parser.TheoremParser.{TheoremParser}
-use Rattle.e_line.specs.Faults.{line_fault}
+use Rattle.e_line.specs.Faults.{book_fault_of}
 use Rattle.e_line.specs.Reading.{◌>>=◌}
 use Rattle.e_names.specs.TitledStatements.{TitledStatement}
 use Rattle.e_book.specs.ParserViews.{entry_of_parser}
@@ -45,7 +45,7 @@ abbrev pub read_from : List TitledStatement → ℕ → Option TheoremParser
     → List (Result LineView LineFault)
     → Result (Option (TheoremView × List (Result LineView LineFault))) BookFault
 read_from known last parser [] = at_end last parser
-read_from known last parser (Err f ∷ lines) = Err (line_fault f)
+read_from known last parser (Err f ∷ lines) = Err (book_fault_of f)
 read_from known last parser (Ok line ∷ lines) =
     if is_skipped (tokens_of line.bytes) then read_from known last parser lines else
     (put_at line.number (line_step known parser (tokens_of line.bytes)) >>= λ d. if is_done d

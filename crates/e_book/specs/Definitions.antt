@@ -17,14 +17,14 @@ use Rattle.e_line.specs.declared.fault.BookFault.TheVariants as faults
 use Rattle.e_line.specs.declared.raw_line.RawLine.{RawLine}
 use Rattle.e_line.specs.declared.raw_line.RawLine.TheVariants as rawlines
 use Rattle.e_line.specs.declared.items.RawItem.{RawItem}
-use Rattle.e_line.specs.declared.items.Listing.{Listing}
+use Rattle.e_line.specs.declared.items.ListHead.{ListHead}
 use Rattle.e_line.specs.declared.items.BookLine.{BookLine}
 use Rattle.e_line.specs.declared.items.BookLine.TheVariants.{Plain, Define, Listed}
 use Rattle.e_book.specs.declared.item.Item.{Item}
 use Rattle.e_book.specs.declared.item.Item.TheVariants as items
 use Rattle.e_names.specs.declared.known.Known.{Known}
 use Rattle.e_line.specs.Reading.{◌>>=◌}
-use Rattle.e_line.specs.Faults.{line_fault}
+use Rattle.e_line.specs.Faults.{book_fault_of}
 use Rattle.e_names.specs.TitledStatements.{stated_by}
 use Rattle.e_names.specs.Taken.{is_taken}
 use Rattle.e_names.specs.Titled.{Titled, titled_notion, defines, is_notion}
@@ -32,7 +32,7 @@ use Rattle.e_line.specs.Limits.{most_notions, most_expanded}
 use Rattle.e_names.specs.Canonical.{raw_of}
 use Rattle.e_book.specs.TheoremViews.{TheoremView, entry_of}
 use Rattle.e_book.specs.HasSpelling.{HasSpelling}
-use Rattle.e_line.specs.Items.{book_line_of, listing_raw_line, is_show}
+use Rattle.e_line.specs.Items.{book_line_of, list_raw_line, is_show}
 use Rattle.e_names.specs.Meanings.{items_in}
 use Rattle.e_book.specs.Open.{Head, Open, Stating}
 use Rattle.e_book.specs.Counts.{context_at, all_kept}
@@ -101,11 +101,11 @@ plain_line known (Defined t) f = Err Malformed
 
 -- The line may come there, and then the names are looked up from left to right: the line with the
 -- literals, with the names of their objects, and how many of them are of notions.
-abbrev pub written_out : Known → Open → Listing → List RawItem → Result (RawLine × ℕ) FaultKind
+abbrev pub written_out : Known → Open → ListHead → List RawItem → Result (RawLine × ℕ) FaultKind
 written_out known o line is =
     let ns : Names = (context_at known.theorems o).names in
-    next known.theorems o (listing_raw_line line []) >>= λ there. items_in known.notions ns 0 is
-    >>= λ p. Ok (listing_raw_line line (map (raw_of ns) p.0), p.1)
+    next known.theorems o (list_raw_line line []) >>= λ there. items_in known.notions ns 0 is
+    >>= λ p. Ok (list_raw_line line (map (raw_of ns) p.0), p.1)
 
 -- with so many more literals that items mean, within their limit
 abbrev pub with_more_literals : ℕ → PartialItem → Result PartialItem FaultKind
@@ -118,7 +118,7 @@ with_more_literals n (InDefinition h m) =
 with_more_literals n (Defined t) = Err Malformed
 
 -- it is taken as it is written out; the last limit is that of the literals that items mean
-abbrev pub after_listed_line : Known → PartialItem → Listing → List RawItem
+abbrev pub after_listed_line : Known → PartialItem → ListHead → List RawItem
     → Result PartialItem FaultKind
 after_listed_line known (InTheorem o n) line is =
     written_out known o line is >>= λ w. plain_line known (InTheorem o n) w.0 >>= λ c. with_more_literals w.1 c
@@ -167,7 +167,7 @@ at_end last (Some c) = Err (faults.Unended last)
 -- after the last line
 abbrev pub item_from : Known → ℕ → Option PartialItem → Rest → Answer
 item_from known last c [] = at_end last c
-item_from known last c (Err f ∷ lines) = Err (line_fault f)
+item_from known last c (Err f ∷ lines) = Err (book_fault_of f)
 item_from known last c (Ok line ∷ lines) =
     if is_skipped (tokens_of line.bytes) then item_from known last c lines else
     (put_at line.number (item_after_words known c (tokens_of line.bytes))

@@ -6,7 +6,7 @@ use Rattle.e_text.specs.Lines.{LineView}
 use Rattle.e_text.specs.declared.line.LineFault.{LineFault}
 use Rattle.e_line.specs.declared.fault.BookFault.{BookFault}
 use Rattle.e_line.specs.declared.fault.BookFault.TheVariants as faults
-use Rattle.e_line.specs.Faults.{line_fault}
+use Rattle.e_line.specs.Faults.{book_fault_of}
 use Rattle.e_names.specs.declared.known.Known.{Known}
 use Rattle.e_book.specs.Grammar.{is_skipped, Rest}
 use Rattle.e_book.specs.Definitions.{PartialItem, item_ended, put_there, item_after_words}
@@ -24,7 +24,7 @@ Leaves known o (Ok line ∷ lines) left =
 
 -- a line has this fault here: its bytes, or its form, its names or a limit
 abbrev pub IsFaulty : Known → Option PartialItem → Result LineView LineFault → BookFault → Type 0
-IsFaulty known o (Err f) fault = line_fault f ≡ fault
+IsFaulty known o (Err f) fault = book_fault_of f ≡ fault
 IsFaulty known o (Ok line) fault =
     (is_skipped (tokens_of line.bytes) ≡ false)
     × (put_there line.number (item_after_words known o (tokens_of line.bytes)) ≡ Err fault)

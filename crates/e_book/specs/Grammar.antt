@@ -20,7 +20,7 @@ use Rattle.e_line.specs.declared.fault.BookFault.TheVariants as faults
 use Rattle.e_line.specs.declared.raw_line.RawLine.{RawLine}
 use Rattle.e_line.specs.declared.raw_line.RawLine.TheVariants as rawlines
 use Rattle.e_line.specs.Reading.{◌>>=◌}
-use Rattle.e_line.specs.Faults.{at_line, line_fault}
+use Rattle.e_line.specs.Faults.{at_line, book_fault_of}
 use Rattle.e_names.specs.TitledStatements.{TitledStatement, is_known}
 use Rattle.e_book.specs.TheoremViews.{TheoremView}
 use Rattle.e_line.specs.RawLines.{raw_line_of}
@@ -192,7 +192,7 @@ no_more last (Some o) = Err (faults.Unended last)
 abbrev pub read_from : List TitledStatement → ℕ → Option Open → Rest
     → Result (Option (TheoremView × Rest)) BookFault
 read_from known last o [] = no_more last o
-read_from known last o (Err f ∷ lines) = Err (line_fault f)
+read_from known last o (Err f ∷ lines) = Err (book_fault_of f)
 read_from known last o (Ok line ∷ lines) =
     if is_skipped (tokens_of line.bytes) then read_from known last o lines else
     (put_at line.number (line_read known o (tokens_of line.bytes))

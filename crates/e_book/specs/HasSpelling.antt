@@ -9,8 +9,8 @@ use Rattle.e_line.specs.Limits.{most_theorems}
 use Rattle.e_names.specs.TitledStatements.{TitledStatement}
 use Rattle.e_book.specs.TheoremViews.{TheoremView}
 use Rattle.e_book.specs.Fits.{Fits}
-use Rattle.e_line.specs.HasSpelling.{AreNames}
-use Rattle.e_names.specs.HasSpelling.{is_named_by_title}
+use Rattle.e_line.specs.Names.{AreNames}
+use Rattle.e_names.specs.NamedByTitle.{is_named_by_title}
 
 -- no line has a certificate, new objects have names, and inner blocks show something
 unfoldable pub is_plain : Script → Bool

@@ -18,7 +18,7 @@ use Rattle.e_names.specs.Fits.{NamesDiffer}
 use Rattle.e_names.specs.Canonical.{raw_of}
 use Rattle.e_line.specs.Canonical.{line_of}
 use Rattle.e_book.specs.Canonical.{raw_lines_of}
-use Rattle.e_line.specs.HasSpelling.{AreNames}
+use Rattle.e_line.specs.Names.{AreNames}
 use Rattle.e_book.specs.HasSpelling.{HasSpelling}
 
 -- the next lines begin with these texts, whatever their numbers and ends, and the rest follows

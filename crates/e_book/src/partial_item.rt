@@ -3,7 +3,7 @@ ghost use Rattle.std.specs.Prelude.{◌≡◌, ◌≤◌, ◌+◌, [], None, Som
 ghost use Rattle.e_line.specs.Reading.{texts, Gives, Moves};
 ghost use Rattle.e_line.specs.Limits.{most_expanded};
 ghost use Rattle.e_names.specs.Titled.{are_notions};
-ghost use Rattle.e_line.specs.Items.{listing_raw_line, raw_superpose_line, is_show};
+ghost use Rattle.e_line.specs.Items.{list_raw_line, raw_superpose_line, is_show};
 ghost use Rattle.e_names.specs.Scope.{right_count};
 ghost use Rattle.e_book.specs.Definitions.{has_notion_title, OfNotion, view_of};
 ghost use Rattle.e_book.specs.Steps.{line_may_come, FitsScope};
@@ -15,7 +15,7 @@ use crate::item::Item;
 use crate::limits::MAX_NOTIONS;
 use crate::parser::{Section, TheoremParser, line_may_come};
 use e_line::{
-    BookLine, FaultKind, LineError, Listing, RawItem, RawLine, RawLit, RawSuperpose, What,
+    BookLine, FaultKind, LineError, ListHead, RawItem, RawLine, RawLit, RawSuperpose, What,
     book_line_of, within,
 };
 use e_literal::Items;
@@ -46,18 +46,14 @@ fn has_notion_title(known: &Known, raw_line: &RawLine) -> bool
 }
 
 /// A raw line with these literals.
-fn listing_raw_line(
-    alloc: Global,
-    line: &Listing,
-    raws: Items<RawLit>,
-) -> Result<RawLine, AllocError>
-    ensures { IfOk result (λ f. f ≡ listing_raw_line line.now raws) }
+fn list_raw_line(alloc: Global, line: &ListHead, raws: Items<RawLit>) -> Result<RawLine, AllocError>
+    ensures { IfOk result (λ f. f ≡ list_raw_line line.now raws) }
 {
     match line {
-        Listing::Given => Ok(RawLine::Given(raws)),
-        Listing::Show => Ok(RawLine::Show(raws)),
-        Listing::Claim => Ok(RawLine::Claim(raws)),
-        Listing::Superpose { args, new } => raw_superpose_line(
+        ListHead::Given => Ok(RawLine::Given(raws)),
+        ListHead::Show => Ok(RawLine::Show(raws)),
+        ListHead::Claim => Ok(RawLine::Claim(raws)),
+        ListHead::Superpose { args, new } => raw_superpose_line(
             alloc,
             args.items(),
             new.items(),
@@ -221,7 +217,7 @@ impl PartialItem {
         &mut self,
         alloc: Global,
         known: &Known,
-        line: &Listing,
+        line: &ListHead,
         items: &[RawItem],
     ) -> Result<(), LineError>
         requires partial_item { FitsPartial known.now self.old }
@@ -245,7 +241,7 @@ impl PartialItem {
         &self,
         alloc: Global,
         known: &Known,
-        line: &Listing,
+        line: &ListHead,
         items: &[RawItem],
     ) -> Result<Written, LineError>
         requires partial_item { FitsPartial known.now self.now }
@@ -258,7 +254,7 @@ impl PartialItem {
         let names = self.parser.names_there();
         let mut raws = Items::empty(alloc);
         let count = put_items(alloc, &known.notions, names, items, 0, &mut raws)?;
-        let raw_line = listing_raw_line(alloc, line, raws)?;
+        let raw_line = list_raw_line(alloc, line, raws)?;
         Ok(Written { raw_line, count })
     }
 
@@ -290,37 +286,37 @@ fn into_definition(alloc: Global, mut parser: TheoremParser) -> Item
 }
 
 /// Whether a line that takes literals may come at a place.
-fn listing_may_come(section: Section, line: &Listing) -> bool
-    ensures { result ≡ line_may_come section (listing_raw_line line.now []) }
+fn list_may_come(section: Section, line: &ListHead) -> bool
+    ensures { result ≡ line_may_come section (list_raw_line line.now []) }
 {
     match line {
-        Listing::Given => matches!(section, Section::Declaring | Section::Giving),
-        Listing::Show => matches!(
+        ListHead::Given => matches!(section, Section::Declaring | Section::Giving),
+        ListHead::Show => matches!(
             section,
             Section::Declaring | Section::Giving | Section::Making | Section::Showing
         ),
-        Listing::Claim => matches!(section, Section::Proving),
-        Listing::Superpose { .. } => matches!(section, Section::Proving),
+        ListHead::Claim => matches!(section, Section::Proving),
+        ListHead::Superpose { .. } => matches!(section, Section::Proving),
     }
 }
 
 /// Whether it is a line of shown literals, the only one with items that a definition may have.
-fn is_show(line: &Listing) -> bool
+fn is_show(line: &ListHead) -> bool
     ensures { result ≡ is_show line.now }
 {
-    matches!(line, Listing::Show)
+    matches!(line, ListHead::Show)
 }
 
 impl TheoremParser {
     /// Whether a line that takes literals may come here, and then the names before them, from left
     /// to right.
-    fn check_head(&self, line: &Listing) -> Result<(), LineError>
+    fn check_head(&self, line: &ListHead) -> Result<(), LineError>
         requires { FitsScope self.now }
         ensures { Gives (λ u. u) result (is_ready self.now line.now) }
     {
-        right_place(listing_may_come(self.section, line))?;
+        right_place(list_may_come(self.section, line))?;
         match line {
-            Listing::Superpose { args, new } => {
+            ListHead::Superpose { args, new } => {
                 placed_in(&self.in_scope, args.items())?;
                 fresh(&self.in_scope, new.items())
             }

@@ -13,7 +13,7 @@ ghost use Rattle.e_book.specs.inner.Machine.{partial_after, TakesLine, ReadsOn, 
 use crate::item::Item;
 use crate::parser::Section;
 use crate::partial_item::PartialItem;
-use e_line::{BookFault, LineError, of_line, words_of_line};
+use e_line::{BookFault, LineError, book_fault_of, words_of_line};
 use e_names::Known;
 use e_text::{Line, Lines};
 use std::alloc::Global;
@@ -157,7 +157,7 @@ impl Reading {
         while let Some(line) = lines.next() {
             let line = match line {
                 Ok(line) => line,
-                Err(fault) => return Err(of_line(fault)),
+                Err(fault) => return Err(book_fault_of(fault)),
             };
             match self.take(alloc, known, &line)? {
                 None => {}

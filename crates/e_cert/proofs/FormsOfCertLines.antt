@@ -47,7 +47,7 @@ use Rattle.e_cert.specs.declared.owed.Pending.{Pending}
 use Rattle.e_cert.specs.declared.kept.StepCerts.{StepCerts}
 use Rattle.e_cert.specs.declared.kept.StepCerts.TheVariants as kept
 use Rattle.e_cert.specs.CertLines.{cert_line_of, cert_line_text, row_is_of, cert_line_is_of}
-use Rattle.e_cert.specs.Strict.{is_strict_cert_line, exact_cert_line}
+use Rattle.e_cert.specs.CanonicalCertLines.{is_canonical_cert_line, canonical_cert_line}
 use Rattle.e_cert.specs.Owed.{with_row, row_put, sum_begun, differs_put, sums_ended, has_more, certificate, transfer_put, part_put, metric_put, takes_metric, clash_put, count_others, transfer_at, open_transfer_in, transfer_begun, with_sums_ended, sums_after, due_after, after_cert_line, kept_of, finish_certs}
 use Rattle.e_cert.specs.Rows.{most_rows, fact_in, row_in, transfer_rule}
 use Rattle.e_clause.specs.Written.{is_writable_name}
@@ -70,11 +70,11 @@ RowSaid row = OfRow Said row
 abbrev pub CertLineSaid : CertLine → Type 0
 CertLineSaid cert_line = OfCertLine Said Anything cert_line
 
-pub strict_said : (line : List ℕ) (ws : List (List ℕ)) (m : CertLine) → exact_cert_line line ws ≡ Ok m → CertLineSaid m
-unfolding exact_cert_line
+pub strict_said : (line : List ℕ) (ws : List (List ℕ)) (m : CertLine) → canonical_cert_line line ws ≡ Ok m → CertLineSaid m
+unfolding canonical_cert_line
 strict_said line ws m e =
-    let x = bind_ok (cert_line_of ws) (λ m. cond (is_strict_cert_line m && bytes_eq line (cert_line_text m)) (read_ok m) (Err Malformed)) m e in
-    subst CertLineSaid (ok_is x.0 m (passed (is_strict_cert_line x.0 && bytes_eq line (cert_line_text x.0)) (read_ok x.0) m x.2).1)
+    let x = bind_ok (cert_line_of ws) (λ m. cond (is_canonical_cert_line m && bytes_eq line (cert_line_text m)) (read_ok m) (Err Malformed)) m e in
+    subst CertLineSaid (ok_is x.0 m (passed (is_canonical_cert_line x.0 && bytes_eq line (cert_line_text x.0)) (read_ok x.0) m x.2).1)
     (cert_line_lit Said lit_said Anything (λ ws l h. tt) ws x.0 x.1)
 
 -- ---- rows
@@ -304,7 +304,7 @@ module _ (v : Version) where
       let s = bind_ok (row_put o.sums m r.0) (λ s. read_ok (sums_after o s)) new r.2 in
       to_owed (sums_after o s.0) new (record { certs = h.certs; rows_of_sums = row_put_good o.sums m r.0 s.0 h.rows_of_sums (version_row v o.names raw r.0 of said r.1) s.1 }) s.2
 
-  pub strict_good : (o : Pending) (line : List ℕ) (ws : List (List ℕ)) (m : CertLine) (new : Pending) → GoodOwed o → cert_line_is_of v m ≡ true → exact_cert_line line ws ≡ Ok m → after_cert_line o m ≡ Ok new → GoodOwed new
+  pub strict_good : (o : Pending) (line : List ℕ) (ws : List (List ℕ)) (m : CertLine) (new : Pending) → GoodOwed o → cert_line_is_of v m ≡ true → canonical_cert_line line ws ≡ Ok m → after_cert_line o m ≡ Ok new → GoodOwed new
   strict_good o line ws m new h of e same = after_cert_line_good o m new h of (strict_said line ws m e) same
 
   to_kept : (x k : Option StepCerts) → AreOfVersion v (option_to_list x) → read_ok x ≡ Ok k → AreOfVersion v (option_to_list k)

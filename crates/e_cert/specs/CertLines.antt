@@ -107,7 +107,7 @@ row_cert_line_of w ws = do
   r ← raw_row_of ws
   Ok (certlines.Row m r)
 
--- a line of a certificate, by the first word after the sign `|`
+-- a line of a certificate, by the first word after the bar `|`
 unfoldable pub cert_line_named : List ℕ → List (List ℕ) → Result CertLine FaultKind
 cert_line_named w ws =
     if bytes_eq w (codes "fact") then fact_cert_line_of ws else
@@ -134,7 +134,7 @@ raw_row_words rows.Above = codes "above" ∷ []
 raw_row_words rows.Below = codes "below" ∷ []
 raw_row_words (rows.FactAt k) = codes "fact" ∷ decimal k ∷ []
 
--- the words after the sign
+-- the words after the bar
 abbrev pub cert_line_words : CertLine → List (List ℕ)
 cert_line_words certlines.Fact = codes "fact" ∷ []
 cert_line_words certlines.Metric = codes "metric" ∷ []

@@ -1,5 +1,5 @@
 pub mod CertLines
-pub mod Strict
+pub mod CanonicalCertLines
 pub mod Rows
 pub mod Certificates
 pub mod Owed

@@ -90,7 +90,7 @@ fn multiplier_of(word: &[u8]) -> Result<i128, LineError>
 }
 
 /// A place among the facts.
-fn place_of(digits: &[u8]) -> Result<u32, LineError>
+fn place_of_digits(digits: &[u8]) -> Result<u32, LineError>
     ensures { Gives (λ k. k) result (place_of_digits digits.now) }
 {
     match number(digits) {
@@ -108,7 +108,7 @@ fn fact_row_of(alloc: Global, words: &[&[u8]]) -> Result<RawRow, LineError>
         [] => Err(LineError::MALFORMED),
         [word, rest @ ..] => {
             if rest.is_empty() {
-                return Ok(RawRow::FactAt(place_of(word)?));
+                return Ok(RawRow::FactAt(place_of_digits(word)?));
             }
             Ok(RawRow::Fact(lit_of(alloc, words)?))
         }
@@ -226,7 +226,7 @@ fn fact_cert_line_of(words: &[&[u8]]) -> Result<CertLine, LineError>
         [] => Ok(CertLine::Fact),
         [word, rest @ ..] => {
             Words::new(rest).end()?;
-            Ok(CertLine::FactAt(place_of(word)?))
+            Ok(CertLine::FactAt(place_of_digits(word)?))
         }
     }
 }
@@ -267,7 +267,7 @@ fn cert_line_named(alloc: Global, word: &[u8], rest: &[&[u8]]) -> Result<CertLin
     row_cert_line_of(alloc, word, rest)
 }
 
-/// What a line of a certificate says, by the words after its sign alone.
+/// What a line of a certificate says, by the words after its bar alone.
 #[tactic(auto, unfolding(crate::specs::CertLines::cert_line_of))]
 pub(crate) fn cert_line_of(alloc: Global, words: &[&[u8]]) -> Result<CertLine, LineError>
     ensures { Gives (λ m. m) result (cert_line_of (texts words.now)) }

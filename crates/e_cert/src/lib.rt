@@ -2,15 +2,15 @@
 //! owes while they come.
 #![tactic(auto)]
 
+mod canonical;
 mod cert_line;
 mod kept;
 mod owed;
 mod seen;
 mod spelled;
-mod strict;
 
+pub use canonical::canonical_cert_line;
 pub use cert_line::{CertLine, RawRow, cert_line_is_of};
 pub use kept::{Certs, Rows, StepCerts};
 pub use owed::{Obligation, OpenSums, OpenTransfer, Pending};
 pub use seen::SeenLines;
-pub use strict::exact_cert_line;

@@ -1,6 +1,6 @@
 //! Lines of certificates that came before, so that one that comes again is not read again.
 ghost use Rattle.std.specs.Prelude.{◌≡◌, IfSome, Ok};
-ghost use Rattle.e_cert.specs.Strict.{cert_line_of_bytes};
+ghost use Rattle.e_cert.specs.CanonicalCertLines.{cert_line_of_bytes};
 
 use crate::cert_line::CertLine;
 use std::alloc::{AllocError, Global};

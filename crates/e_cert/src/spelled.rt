@@ -2,7 +2,7 @@
 ghost use Rattle.std.specs.Prelude.{◌≡◌, ◌∷◌, [], codes, decimal};
 ghost use Rattle.std.specs.Str.{bytes_eq};
 ghost use Rattle.e_line.specs.Canonical.{term_words};
-ghost use Rattle.e_line.specs.Comparison.{past};
+ghost use Rattle.e_line.specs.SpellingCheck.{past};
 ghost use Rattle.e_cert.specs.CertLines.{raw_row_words, cert_line_words, cert_line_text};
 
 use crate::cert_line::{CertLine, RawRow};
@@ -43,7 +43,7 @@ fn compare_row(text: &mut SpellingCheck, row: &RawRow)
     }
 }
 
-/// A line of a certificate after its sign.
+/// A line of a certificate after its bar.
 fn compare_words(text: &mut SpellingCheck, cert_line: &CertLine)
     ensures { text.new ≡ past text.old (cert_line_words cert_line.now) }
 {

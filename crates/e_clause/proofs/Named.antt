@@ -26,7 +26,7 @@ use Rattle.e_literal.proofs.Booleans.{or_not_left, or_not_right}
 use Rattle.e_clause.specs.declared.cert.RowName.{RowName}
 use Rattle.e_clause.specs.declared.cert.RowName.TheVariants.{Fact, Goal, Pos}
 use Rattle.e_clause.specs.Assignment.{terms_of_atom, terms_of_lits, terms_of_step}
-use Rattle.e_clause.specs.Sum.{Place, is_step_term, fact_row, goal_row, says_differ, unless_not, row_named}
+use Rattle.e_clause.specs.Sum.{RowScope, is_step_term, fact_row, goal_row, says_differ, unless_not, row_named}
 use Rattle.e_clause.specs.MetricCertificate.{differing_row}
 use Rattle.e_clause.specs.System.{NamedRow, named_row, is_of_kind, of_kind, against_goal, rows_named, pos_row, top_row, rows_of_term, rows_of_kind, system}
 use Rattle.e_clause.proofs.Spread.{terms_of_sum}
@@ -82,7 +82,7 @@ each_system P which facts wanted a b c d =
 -- ---- names
 
 -- the name means the row, where a row may be used by its name; and one that says that its form is not 0 may differ
-pub record IsNamed (p : Place) (n : NamedRow) : Type 0 where
+pub record IsNamed (p : RowScope) (n : NamedRow) : Type 0 where
   pub by_name : row_named p n.name ≡ unless_not (Some n.row)
   pub differs : says_differ n.row.sense ≡ true → differing_row p.facts p.wanted n.name ≡ Some n.row
 
@@ -98,7 +98,7 @@ has_own (f ∷ facts) = (ap (λ b. b || has facts f) (same_lit_self f), has_more
 says_so : (r : Row) → says_differ r.sense ≡ true → option_and_then (λ (x : Row). cond (says_differ x.sense) (Some x) None) (Some r) ≡ Some r
 says_so r e = ap (λ b. cond b (Some r) None) e
 
-module _ (p : Place) where
+module _ (p : RowScope) where
   fact_named : (l : Lit) (r : Row) → has p.facts l ≡ true → row_of_lit l ≡ Some r → IsNamed p (named_row (Fact l) r)
   fact_named l r h e =
       let k : fact_row p.facts l ≡ Some r = ap (λ b. cond b (row_of_lit l) None) h ∙ e in

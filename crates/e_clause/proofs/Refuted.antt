@@ -26,7 +26,7 @@ use Rattle.e_clause.specs.declared.cert.RowName.TheVariants.{Fact, Goal, Pos, To
 use Rattle.e_clause.specs.declared.cert.Sums.{Sums}
 use Rattle.e_clause.specs.declared.cert.Sums.TheVariants.{One, Two}
 use Rattle.e_clause.specs.Metric.{wanted_fails}
-use Rattle.e_clause.specs.Sum.{Place, is_step_term, fact_row, row_at, goal_row, says_differ, unless_not, pos_of, top_of, row_named, weighed_rows, is_limited_sum, refutes}
+use Rattle.e_clause.specs.Sum.{RowScope, is_step_term, fact_row, row_at, goal_row, says_differ, unless_not, pos_of, top_of, row_named, weighed_rows, is_limited_sum, refutes}
 use Rattle.e_clause.specs.System.{pos_row, top_row, right_row, least_row}
 use Rattle.e_clause.specs.MetricCertificate.{differing_of, differing_row, above_row, below_row, both_refute, sums_refute}
 use Rattle.e_clause.specs.PartCertificate.{is_fact_at}
@@ -158,7 +158,7 @@ none_so w r e = absurd (none-some r e)
 some_so : (w : Term → ℕ) (x : Row) → IsSoAt w x → IsSoIfAny w (Some x)
 some_so w x h r e = subst (IsSoAt w) (same_Some x r e) h
 
-module _ (p : Place) (w : Term → ℕ) (model : IsModel p.facts p.wanted w) (high : IsSoIfAny w p.above) (low : IsSoIfAny w p.below) where
+module _ (p : RowScope) (w : Term → ℕ) (model : IsModel p.facts p.wanted w) (high : IsSoIfAny w p.above) (low : IsSoIfAny w p.below) where
   pos_named : (t : Term) (r : Row) → pos_of p t ≡ Some r → IsSoAt w r
   pos_named (Seg a b) r e =
       let k = cond_some (is_step_term p (Seg a b) && are_apart p.facts a b) (Some (pos_row (Seg a b))) r e in
@@ -239,8 +239,8 @@ sums_not_refuted facts wanted w model (Two differs first second) h =
             let is : m.0 ≡ r = same_Some m.0 r k.1 in
             let differs_from : form_value r.form w ≢ pos 0 =
             subst (λ s. IsSo s (form_value r.form w)) (ap (λ (x : Row). x.sense) (sym is) ∙ says_not m.0.sense k.0) (subst (IsSoAt w) is (differing_so facts wanted w model differs m.0 m.1)) in
-            let high : Place = record { facts = facts; wanted = wanted; above = Some (above_row r); below = None } in
-            let low : Place = record { facts = facts; wanted = wanted; above = None; below = Some (below_row r) } in
+            let high : RowScope = record { facts = facts; wanted = wanted; above = Some (above_row r); below = None } in
+            let low : RowScope = record { facts = facts; wanted = wanted; above = None; below = Some (below_row r) } in
             elim (other_sign (form_value r.form w) differs_from) [
               | inl g ↦ not_refuted high w model (some_so w (above_row r) g) (none_so w) first (and_left (refutes high first) (refutes low second) both)
               | inr g ↦ not_refuted low w model (none_so w) (some_so w (below_row r) (subst (λ z. pos 0 <ℤ z) (sym (form-negative r.form w)) g)) second (and_right (refutes high first) (refutes low second) both)

@@ -7,7 +7,7 @@ use Rattle.e_text.specs.declared.line.LineFault.{LineFault}
 use Rattle.e_line.specs.declared.fault.FaultKind.{FaultKind}
 use Rattle.e_line.specs.declared.fault.BookFault.{BookFault}
 use Rattle.e_line.specs.declared.fault.BookFault.TheVariants as faults
-use Rattle.e_line.specs.Faults.{at_line, line_fault}
+use Rattle.e_line.specs.Faults.{at_line, book_fault_of}
 use Rattle.e_line.specs.Reading.{◌>>=◌}
 use Rattle.e_book.specs.Grammar.{is_skipped, put_at}
 use Rattle.e_drawing.specs.declared.plan.Plan.{Plan}
@@ -98,7 +98,7 @@ first_from last p [] f e = by (is_done_plan p) refl e
     by : (b : Bool) → is_done_plan p ≡ b → cond b (figure_is p) (wrong_is (faults.Unended last)) ≡ wrong_is f → From p [] f ⊎ TooSoon p [] f last
     by true h e = absurd (not_figure p f e)
     by false h e = inr ((λ n. ap (λ (b : Bool). cond b (figure_is p) (wrong_is (faults.Unended n))) h), sym (fault_is (faults.Unended last) f e))
-first_from last p (Err x ∷ lines) f e = inl (at_once p (Err x) lines f (λ n other. ap wrong_is (fault_is (line_fault x) f e)))
+first_from last p (Err x ∷ lines) f e = inl (at_once p (Err x) lines f (λ n other. ap wrong_is (fault_is (book_fault_of x) f e)))
 first_from last p (Ok l ∷ lines) f e = by_line p l lines f last (λ q h. first_from last q lines f h) e
 
 pub figure_fault_is_first : FigureFaultIsFirst

@@ -9,7 +9,7 @@ use Rattle.e_line.specs.declared.fault.LineError.{LineError}
 use Rattle.e_line.specs.declared.fault.LineError.TheVariants as line_errors
 use Rattle.e_line.specs.declared.fault.BookFault.{BookFault}
 use Rattle.e_line.specs.declared.fault.BookFault.TheVariants as faults
-use Rattle.e_line.specs.Faults.{error_at, line_fault}
+use Rattle.e_line.specs.Faults.{error_at, book_fault_of}
 use Rattle.e_line.specs.Reading.{◌>>=◌, Fails}
 use Rattle.e_book.specs.Grammar.{is_skipped, put_at, BookFails}
 use Rattle.e_line.proofs.base.Bound.{bind_ok}
@@ -83,8 +83,8 @@ pub alike_more : (last : ℕ) (old now new : Plan) (lines left after : Rest) (l 
 alike_more last old now new lines left after l e h t = sym (t last after) ∙ (ap (plan_from last now) (sym e) ∙ h)
 
 pub fails_in_line : (last : ℕ) (old now : Plan) (lines left after : Rest) (f : LineFault) → left ≡ Err f ∷ after → Alike last old lines now left
-    → BookFails (line_fault f) (plan_from last old lines)
-fails_in_line last old now lines left after f e h = book_fails (line_fault f) (plan_from last old lines) (sym h ∙ ap (plan_from last now) e)
+    → BookFails (book_fault_of f) (plan_from last old lines)
+fails_in_line last old now lines left after f e h = book_fails (book_fault_of f) (plan_from last old lines) (sym h ∙ ap (plan_from last now) e)
 
 pub fails_at_line : (last : ℕ) (old now new : Plan) (lines left after : Rest) (l : LineView) (f : BookFault) → left ≡ Ok l ∷ after → Alike last old lines now left
     → TakesPlanLine now l (Err f) new → BookFails f (plan_from last old lines)

@@ -10,7 +10,7 @@ use Rattle.e_literal.specs.Literal.{all_in_scope}
 use Rattle.e_deriv.specs.declared.names.Names.{Names}
 use Rattle.e_figure.specs.Figure.{FigureView, is_bounded, is_figure}
 use Rattle.e_line.specs.Canonical.{lits_words}
-use Rattle.e_line.specs.HasSpelling.{AreNames}
+use Rattle.e_line.specs.Names.{AreNames}
 use Rattle.e_names.specs.Canonical.{raw_of}
 use Rattle.e_names.specs.Fits.{NamesDiffer, is_diagram_lit}
 use Rattle.e_names.specs.Scope.{scope_of_names}

@@ -6,7 +6,7 @@ use Rattle.e_text.specs.declared.line.LineFault.{LineFault}
 use Rattle.e_line.specs.declared.fault.FaultKind.{FaultKind}
 use Rattle.e_line.specs.declared.fault.BookFault.{BookFault}
 use Rattle.e_line.specs.declared.fault.BookFault.TheVariants as faults
-use Rattle.e_line.specs.Faults.{line_fault}
+use Rattle.e_line.specs.Faults.{book_fault_of}
 use Rattle.e_line.specs.Reading.{◌>>=◌}
 use Rattle.e_book.specs.Grammar.{is_skipped, put_at, BookFails}
 use Rattle.e_drawing.specs.declared.plan.Plan.{Plan}
@@ -25,7 +25,7 @@ plan_at_end last p = if is_done_plan p then Ok p else Err (faults.Unended last)
 -- last line of the figure only lines that say nothing may come.
 abbrev pub plan_from : ℕ → Plan → List (Result LineView LineFault) → Result Plan BookFault
 plan_from last p [] = plan_at_end last p
-plan_from last p (Err f ∷ lines) = Err (line_fault f)
+plan_from last p (Err f ∷ lines) = Err (book_fault_of f)
 plan_from last p (Ok line ∷ lines) =
     if is_skipped (tokens_of line.bytes) then plan_from last p lines else
     (put_at line.number (words_step p (tokens_of line.bytes)) >>= λ q. plan_from last q lines)

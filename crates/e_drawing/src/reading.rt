@@ -10,7 +10,7 @@ ghost use Rattle.e_drawing.specs.Texts.{plan_at_end, words_step, plan_from, Plan
 use crate::plan::Plan;
 use crate::raw::line_of;
 use e_book::is_skipped;
-use e_line::{BookFault, LineError, of_line, words_of_line};
+use e_line::{BookFault, LineError, book_fault_of, words_of_line};
 use e_text::{Line, Lines};
 use std::alloc::Global;
 use std::mem;
@@ -82,7 +82,7 @@ pub fn read_plan(alloc: Global, lines: &mut Lines, plan: &mut Plan) -> Result<()
     while let Some(line) = lines.next() {
         let line = match line {
             Ok(line) => line,
-            Err(fault) => return Err(of_line(fault)),
+            Err(fault) => return Err(book_fault_of(fault)),
         };
         take_line(alloc, plan, &line)?;
     }

@@ -1,11 +1,11 @@
 -- Uses of earlier theorems, by their spelling.
-use Rattle.std.specs.Prelude.{ℕ, Bool, true, false, List, [], Option, Some, None, Result, Ok, codes}
+use Rattle.std.specs.Prelude.{ℕ, Bool, List, Option, Some, None, Result, Ok, codes}
 use Rattle.std.specs.Prelude.{if◌then◌else◌}
 use Rattle.std.specs.Str.{bytes_eq}
 use Rattle.e_text.specs.Names.{name_of}
 use Rattle.e_line.specs.declared.fault.FaultKind.{FaultKind}
 use Rattle.e_line.specs.declared.applies.RawApply.{RawApply}
-use Rattle.e_line.specs.Reading.{◌>>=◌, each, cut_at, first_title, or_malformed, some_names}
+use Rattle.e_line.specs.Reading.{◌>>=◌, each, cut_at, first_title, or_malformed, names_after}
 
 -- ---- by its spelling
 
@@ -20,16 +20,11 @@ argument_of w =
 abbrev pub arguments_of : List (List ℕ) → Result (List (Option (List ℕ))) FaultKind
 arguments_of words = each argument_of words
 
--- the words after as, at least one name
-abbrev pub made_names : Bool → List (List ℕ) → Result (List (List ℕ)) FaultKind
-made_names false words = Ok []
-made_names true words = some_names words
-
 -- what comes after apply: a title, arguments, and perhaps the word as with names after it
 unfoldable pub apply_of : List (List ℕ) → Result RawApply FaultKind
 apply_of words = do
   t ← first_title words
   let parts = cut_at (codes "as") t.1
   args ← arguments_of parts.0
-  new ← made_names parts.2 parts.1
+  new ← names_after parts.2 parts.1
   Ok (record { title = t.0; args = args; new = new })

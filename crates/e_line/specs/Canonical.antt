@@ -75,12 +75,12 @@ not_words (raw.Meets x y) = codes "not" ∷ atom_words (raw.Meets x y)
 not_words (raw.SumsLess x y) = codes "not" ∷ atom_words (raw.SumsLess x y)
 not_words (raw.SumsAtMost x y) = codes "not" ∷ atom_words (raw.SumsAtMost x y)
 
-abbrev pub signed_words : Bool → RawAtom → List (List ℕ)
-signed_words true a = not_words a
-signed_words false a = atom_words a
+abbrev pub words_with_neg : Bool → RawAtom → List (List ℕ)
+words_with_neg true a = not_words a
+words_with_neg false a = atom_words a
 
 abbrev pub lit_words : RawLit → List (List ℕ)
-lit_words l = signed_words l.neg l.atom
+lit_words l = words_with_neg l.neg l.atom
 
 -- more literals, each after a semicolon
 abbrev pub more_words : List RawLit → List (List ℕ)

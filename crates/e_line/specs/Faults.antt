@@ -23,7 +23,7 @@ error_at line line_errors.NoMemory = faults.NoMemory
 error_at line (line_errors.Fault kind) = at_line line kind
 
 -- what is wrong with the bytes of a line
-abbrev pub line_fault : LineFault → BookFault
-line_fault (lines.Bytes line) = faults.Limit line limits.Bytes
-line_fault (lines.LineBytes line) = faults.Limit line limits.LineBytes
-line_fault (lines.NotAscii line) = faults.Malformed line
+abbrev pub book_fault_of : LineFault → BookFault
+book_fault_of (lines.Bytes line) = faults.Limit line limits.Bytes
+book_fault_of (lines.LineBytes line) = faults.Limit line limits.LineBytes
+book_fault_of (lines.NotAscii line) = faults.Malformed line

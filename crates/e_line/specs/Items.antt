@@ -1,6 +1,6 @@
 -- The lines of a book by their spelling alone: those of theorems, with items among their literals,
 -- and the first line of a definition.
-use Rattle.std.specs.Prelude.{ℕ, Bool, true, false, ◌&&◌, List, [], ◌∷◌, take, drop, Result, Ok}
+use Rattle.std.specs.Prelude.{ℕ, Bool, true, false, ◌&&◌, List, [], ◌∷◌, Result, Ok}
 use Rattle.std.specs.Prelude.{Err, codes, if◌then◌else◌}
 use Rattle.std.specs.List.{slice_split, list_any}
 use Rattle.std.specs.Str.{bytes_eq}
@@ -12,14 +12,14 @@ use Rattle.e_line.specs.declared.raw_line.RawLine.TheVariants as rawlines
 use Rattle.e_line.specs.declared.items.RawAs.{RawAs}
 use Rattle.e_line.specs.declared.items.RawItem.{RawItem}
 use Rattle.e_line.specs.declared.items.RawItem.TheVariants.{Literal, As}
-use Rattle.e_line.specs.declared.items.Listing.{Listing}
-use Rattle.e_line.specs.declared.items.Listing.TheVariants.{Given, Show, Claim, Superpose}
+use Rattle.e_line.specs.declared.items.ListHead.{ListHead}
+use Rattle.e_line.specs.declared.items.ListHead.TheVariants.{Given, Show, Claim, Superpose}
 use Rattle.e_line.specs.declared.items.BookLine.{BookLine}
 use Rattle.e_line.specs.declared.items.BookLine.TheVariants.{Plain, Define, Listed}
 use Rattle.e_line.specs.Reading.{◌>>=◌, each, first_title, no_word_left, names_of}
 use Rattle.e_line.specs.Literals.{is_semicolon, lit_of}
 use Rattle.e_line.specs.Lets.{are_words_of, new_words, argument_words}
-use Rattle.e_line.specs.Superposes.{superpose_pieces}
+use Rattle.e_line.specs.Superposes.{superpose_pieces, words_to_show, words_shown}
 use Rattle.e_line.specs.RawLines.{raw_line_named}
 
 -- ---- what is between two semicolons
@@ -61,7 +61,7 @@ define_of words = do
   Ok (Define t.0)
 
 -- the words of a superposition up to show
-unfoldable pub placing_of : List (List ℕ) → Result Listing FaultKind
+unfoldable pub placing_of : List (List ℕ) → Result ListHead FaultKind
 placing_of head =
     if are_words_of superpose_pieces head
     then (names_of (new_words superpose_pieces head)
@@ -69,7 +69,7 @@ placing_of head =
     >>= λ args. Ok (Superpose args new))
     else Err Malformed
 
-unfoldable pub line_with_items : Listing → List (List ℕ) → Result BookLine FaultKind
+unfoldable pub line_with_items : ListHead → List (List ℕ) → Result BookLine FaultKind
 line_with_items line words = do
   items ← items_of words
   Ok (Listed line items)
@@ -82,8 +82,8 @@ line_named w ws =
     if bytes_eq w (codes "given") && has_item ws then line_with_items Given ws else
     if bytes_eq w (codes "show") && has_item ws then line_with_items Show ws else
     if bytes_eq w (codes "claim") && has_item ws then line_with_items Claim ws else
-    if bytes_eq w (codes "superpose") && has_item (drop 13 ws)
-    then (placing_of (take 13 ws) >>= λ line. line_with_items line (drop 13 ws)) else
+    if bytes_eq w (codes "superpose") && has_item (words_shown ws)
+    then (placing_of (words_to_show ws) >>= λ line. line_with_items line (words_shown ws)) else
     (raw_line_named w ws >>= λ f. Ok (Plain f))
 
 unfoldable pub book_line_of : List (List ℕ) → Result BookLine FaultKind
@@ -96,12 +96,12 @@ abbrev pub raw_superpose_line : (args new : List (List ℕ)) → List RawLit →
 raw_superpose_line args new shown =
     rawlines.Superpose (record { args = args; new = new; shown = shown })
 
-abbrev pub listing_raw_line : Listing → List RawLit → RawLine
-listing_raw_line Given raws = rawlines.Given raws
-listing_raw_line Show raws = rawlines.Show raws
-listing_raw_line Claim raws = rawlines.Claim raws
-listing_raw_line (Superpose args new) raws = raw_superpose_line args new raws
+abbrev pub list_raw_line : ListHead → List RawLit → RawLine
+list_raw_line Given raws = rawlines.Given raws
+list_raw_line Show raws = rawlines.Show raws
+list_raw_line Claim raws = rawlines.Claim raws
+list_raw_line (Superpose args new) raws = raw_superpose_line args new raws
 
-abbrev pub is_show : Listing → Bool
+abbrev pub is_show : ListHead → Bool
 is_show Show = true
 is_show line = false

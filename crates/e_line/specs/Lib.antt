@@ -9,7 +9,7 @@ pub mod LineLimits
 pub mod Applies
 pub mod Faults
 pub mod Canonical
-pub mod HasSpelling
+pub mod Names
 pub mod Items
-pub mod Strict
-pub mod Comparison
+pub mod CanonicalLines
+pub mod SpellingCheck

@@ -14,20 +14,20 @@ use Rattle.e_line.specs.declared.literal.RawAtom.TheVariants.{On, Inside, Center
 use Rattle.e_line.specs.declared.literal.RawAtom.TheVariants.{Meets, Equal, SumsEqual, SumsLess}
 use Rattle.e_line.specs.declared.literal.RawAtom.TheVariants.{SumsAtMost}
 use Rattle.e_line.specs.declared.literal.Relation.{Relation}
-use Rattle.e_line.specs.declared.literal.Relation.TheVariants as signs
+use Rattle.e_line.specs.declared.literal.Relation.TheVariants as relations
 use Rattle.e_line.specs.Reading.{◌>>=◌, each, or_malformed}
 unfoldable pub use Rattle.e_line.specs.Reading.{two_names, three_names}
 use Rattle.e_line.specs.Sums.{sum_of}
 
 -- ---- comparisons
 
--- the sign that a word is
+-- the relation that a word is
 abbrev pub relation_of : List ℕ → Option Relation
 relation_of w =
-    if bytes_eq w (codes "=") then Some signs.Equal else
-    if bytes_eq w (codes "!=") then Some signs.Differ else
-    if bytes_eq w (codes "<") then Some signs.Less else
-    if bytes_eq w (codes "<=") then Some signs.AtMost else None
+    if bytes_eq w (codes "=") then Some relations.Equal else
+    if bytes_eq w (codes "!=") then Some relations.Differ else
+    if bytes_eq w (codes "<") then Some relations.Less else
+    if bytes_eq w (codes "<=") then Some relations.AtMost else None
 
 abbrev pub is_relation : List ℕ → Bool
 is_relation w = is_some (relation_of w)
@@ -54,67 +54,67 @@ equal_sides (Some x) None sums = sums >>= λ p. Ok (SumsEqual p.0 p.1)
 equal_sides None y sums = sums >>= λ p. Ok (SumsEqual p.0 p.1)
 
 unfoldable pub sides_of : Relation → List (List ℕ) → List (List ℕ) → Result RawAtom FaultKind
-sides_of signs.Equal left right =
+sides_of relations.Equal left right =
     equal_sides (single_name left) (single_name right) (sums_of left right)
-sides_of signs.Differ left right =
+sides_of relations.Differ left right =
     equal_sides (single_name left) (single_name right) (sums_of left right)
-sides_of signs.Less left right = sums_of left right >>= λ p. Ok (SumsLess p.0 p.1)
-sides_of signs.AtMost left right = sums_of left right >>= λ p. Ok (SumsAtMost p.0 p.1)
+sides_of relations.Less left right = sums_of left right >>= λ p. Ok (SumsLess p.0 p.1)
+sides_of relations.AtMost left right = sums_of left right >>= λ p. Ok (SumsAtMost p.0 p.1)
 
 -- != is a negation, and not may come before neither it nor <=
 abbrev pub negation_of : Bool → Relation → Result Bool FaultKind
-negation_of negated signs.Equal = Ok negated
-negation_of true signs.Differ = Err Malformed
-negation_of false signs.Differ = Ok true
-negation_of negated signs.Less = Ok negated
-negation_of true signs.AtMost = Err Malformed
-negation_of false signs.AtMost = Ok false
+negation_of negated relations.Equal = Ok negated
+negation_of true relations.Differ = Err Malformed
+negation_of false relations.Differ = Ok true
+negation_of negated relations.Less = Ok negated
+negation_of true relations.AtMost = Err Malformed
+negation_of false relations.AtMost = Ok false
 
--- the first sign and the words after it
-abbrev pub sign_first : List (List ℕ) → Result (Relation × List (List ℕ)) FaultKind
-sign_first [] = Err Malformed
-sign_first (w ∷ ws) = or_malformed (relation_of w) >>= λ s. Ok (s, ws)
+-- the relation that comes first, and the words after it
+abbrev pub relation_first : List (List ℕ) → Result (Relation × List (List ℕ)) FaultKind
+relation_first [] = Err Malformed
+relation_first (w ∷ ws) = or_malformed (relation_of w) >>= λ s. Ok (s, ws)
 
--- two sides with a sign between them
+-- two sides with a relation between them
 unfoldable pub lit_of_sides : Bool → List (List ℕ) → Result RawLit FaultKind
 lit_of_sides negated words = do
   let n = position_or_len is_relation words
-  s ← sign_first (drop n words)
+  s ← relation_first (drop n words)
   neg ← negation_of negated s.0
   a ← sides_of s.0 (take n words) s.1
   Ok (record { neg = neg; atom = a })
 
 -- ---- literals
 
-abbrev pub signed_lit : Bool → RawAtom → RawLit
-signed_lit neg a = record { neg = neg; atom = a }
+abbrev pub lit_with_neg : Bool → RawAtom → RawLit
+lit_with_neg neg a = record { neg = neg; atom = a }
 
 -- the first word says which relation it is; without such a word the literal compares
 unfoldable pub lit_by_first_word : Bool → List ℕ → List (List ℕ) → Result RawLit FaultKind
 lit_by_first_word negated w ws =
     if bytes_eq w (codes "on")
-    then (two_names ws >>= λ p. Ok (signed_lit negated (On p.0 p.1))) else
+    then (two_names ws >>= λ p. Ok (lit_with_neg negated (On p.0 p.1))) else
     if bytes_eq w (codes "inside")
-    then (two_names ws >>= λ p. Ok (signed_lit negated (Inside p.0 p.1))) else
+    then (two_names ws >>= λ p. Ok (lit_with_neg negated (Inside p.0 p.1))) else
     if bytes_eq w (codes "center")
-    then (two_names ws >>= λ p. Ok (signed_lit negated (Center p.0 p.1))) else
+    then (two_names ws >>= λ p. Ok (lit_with_neg negated (Center p.0 p.1))) else
     if bytes_eq w (codes "between")
-    then (three_names ws >>= λ p. Ok (signed_lit negated (Between p.0 p.1 p.2))) else
+    then (three_names ws >>= λ p. Ok (lit_with_neg negated (Between p.0 p.1 p.2))) else
     if bytes_eq w (codes "same-side")
-    then (three_names ws >>= λ p. Ok (signed_lit negated (Same p.0 p.1 p.2))) else
+    then (three_names ws >>= λ p. Ok (lit_with_neg negated (Same p.0 p.1 p.2))) else
     if bytes_eq w (codes "meets")
-    then (two_names ws >>= λ p. Ok (signed_lit negated (Meets p.0 p.1)))
+    then (two_names ws >>= λ p. Ok (lit_with_neg negated (Meets p.0 p.1)))
     else lit_of_sides negated (w ∷ ws)
 
-unfoldable pub signed_of : Bool → List (List ℕ) → Result RawLit FaultKind
-signed_of negated [] = Err Malformed
-signed_of negated (w ∷ ws) = lit_by_first_word negated w ws
+unfoldable pub lit_after_not : List (List ℕ) → Result RawLit FaultKind
+lit_after_not [] = Err Malformed
+lit_after_not (w ∷ ws) = lit_by_first_word true w ws
 
 -- a literal: not comes once before any form but those with != and <=
 unfoldable pub lit_of : List (List ℕ) → Result RawLit FaultKind
 lit_of [] = Err Malformed
 lit_of (w ∷ ws) =
-    if bytes_eq w (codes "not") then signed_of true ws else lit_by_first_word false w ws
+    if bytes_eq w (codes "not") then lit_after_not ws else lit_by_first_word false w ws
 
 -- a literal of diagrams or of equal objects
 abbrev pub is_diagram_raw : RawAtom → Bool

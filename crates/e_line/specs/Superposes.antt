@@ -1,5 +1,6 @@
 -- Superpositions, by their spelling.
-use Rattle.std.specs.Prelude.{ℕ, List, [], ◌∷◌, take, drop, codes, Result, Ok, Err, if◌then◌else◌}
+use Rattle.std.specs.Prelude.{ℕ, List, [], ◌∷◌, length, take, drop, codes, Result, Ok, Err}
+use Rattle.std.specs.Prelude.{if◌then◌else◌}
 use Rattle.e_construct.specs.Lines.{Piece, New, Argument, Word}
 use Rattle.e_line.specs.declared.fault.FaultKind.{FaultKind}
 use Rattle.e_line.specs.declared.fault.FaultKind.TheVariants.{Malformed}
@@ -16,6 +17,13 @@ superpose_pieces =
     ∷ New ∷ New ∷ Word (codes "show") ∷ []
 
 -- the words up to show, and those of the literals
+abbrev pub words_to_show : List (List ℕ) → List (List ℕ)
+words_to_show words = take (length superpose_pieces) words
+
+abbrev pub words_shown : List (List ℕ) → List (List ℕ)
+words_shown words = drop (length superpose_pieces) words
+
+-- the words up to show, and those of the literals
 unfoldable pub raw_superpose_of : List (List ℕ) → List (List ℕ) → Result RawSuperpose FaultKind
 raw_superpose_of head rest =
     if are_words_of superpose_pieces head
@@ -26,4 +34,4 @@ raw_superpose_of head rest =
 
 -- what comes after superpose: a word for each piece, and then literals
 unfoldable pub superpose_of : List (List ℕ) → Result RawSuperpose FaultKind
-superpose_of words = raw_superpose_of (take 13 words) (drop 13 words)
+superpose_of words = raw_superpose_of (words_to_show words) (words_shown words)

@@ -1,10 +1,9 @@
 //! The use of an earlier theorem, by its words.
-ghost use Rattle.std.specs.Prelude.{is_some};
-ghost use Rattle.e_line.specs.Reading.{texts, texts_after, Gives};
-ghost use Rattle.e_line.specs.Applies.{argument_of, arguments_of, made_names, apply_of};
+ghost use Rattle.e_line.specs.Reading.{texts, Gives};
+ghost use Rattle.e_line.specs.Applies.{argument_of, arguments_of, apply_of};
 
 use crate::fault::LineError;
-use crate::words::{cut_at, some_names};
+use crate::words::{cut_at, names_after};
 use e_literal::Items;
 use e_text::{Name, Title, is};
 use std::alloc::Global;
@@ -43,16 +42,6 @@ fn arguments_of(alloc: Global, words: &[&[u8]]) -> Result<Items<Option<Name>>, L
     Ok(args)
 }
 
-/// The words after `as`, at least one name.
-fn made_names(alloc: Global, after: Option<&[&[u8]]>) -> Result<Items<Name>, LineError>
-    ensures { Gives (λ n. n) result (made_names (is_some after.entry) (texts_after after.entry)) }
-{
-    match after {
-        Some(words) => some_names(alloc, words),
-        None => Ok(Items::empty(alloc)),
-    }
-}
-
 /// What comes after `apply`: a title, arguments, and perhaps `as` with names after it.
 #[tactic(auto, unfolding(crate::specs::Applies::apply_of, crate::specs::Reading::first_title, crate::specs::Reading::first_word))]
 pub(crate) fn apply_of(alloc: Global, words: &[&[u8]]) -> Result<RawApply, LineError>
@@ -66,6 +55,6 @@ pub(crate) fn apply_of(alloc: Global, words: &[&[u8]]) -> Result<RawApply, LineE
     };
     let (args, after) = cut_at(rest, b"as");
     let args = arguments_of(alloc, args)?;
-    let new = made_names(alloc, after)?;
+    let new = names_after(alloc, after)?;
     Ok(RawApply { title, args, new })
 }

@@ -1,7 +1,7 @@
 //! What is wrong with a book as a text.
 ghost use Rattle.std.specs.Prelude.{◌≡◌, ◌<◌, ◌^◌};
 ghost use Rattle.e_line.specs.declared.fault.LineError.TheVariants.{NoMemory};
-ghost use Rattle.e_line.specs.Faults.{line_fault};
+ghost use Rattle.e_line.specs.Faults.{book_fault_of};
 ghost use Rattle.e_text.specs.Lines.{line_of_fault};
 
 use e_text::LineFault;
@@ -151,9 +151,9 @@ impl LineError {
 }
 
 /// What a fault of a line's bytes is for a book.
-pub fn of_line(fault: LineFault) -> BookFault
+pub fn book_fault_of(fault: LineFault) -> BookFault
     requires { line_of_fault fault < 2 ^ 32 }
-    ensures { result ≡ line_fault fault }
+    ensures { result ≡ book_fault_of fault }
 {
     match fault {
         LineFault::Bytes { line } => FaultKind::Limit(What::Bytes).at(line as u32),

@@ -35,7 +35,7 @@ pub enum RawItem {
 /// What a line that takes literals says before them: its first word, and of a superposition the
 /// names.
 #[derive(Drop)]
-pub enum Listing {
+pub enum ListHead {
     Given,
     Show,
     Claim,
@@ -51,7 +51,7 @@ pub enum BookLine {
     /// `define TITLE`
     Define(Title),
     /// A line that takes literals, with an item among them.
-    Listed(Listing, Items<RawItem>),
+    Listed(ListHead, Items<RawItem>),
 }
 
 /// What comes after `as` in a list of literals: a title and names.
@@ -148,7 +148,7 @@ fn define_of(mut words: Words) -> Result<BookLine, LineError>
 
 /// The words of a superposition up to `show`.
 #[tactic(auto, unfolding(crate::specs::Items::placing_of))]
-fn placing_of(alloc: Global, head: &[&[u8]]) -> Result<Listing, LineError>
+fn placing_of(alloc: Global, head: &[&[u8]]) -> Result<ListHead, LineError>
     ensures { Gives (λ l. l) result (placing_of (texts head.now)) }
 {
     if !are_words_of(superposition_pieces(), head) {
@@ -156,11 +156,11 @@ fn placing_of(alloc: Global, head: &[&[u8]]) -> Result<Listing, LineError>
     }
     let new = names_at(alloc, Slot::New, superposition_pieces(), head)?;
     let args = names_at(alloc, Slot::Argument, superposition_pieces(), head)?;
-    Ok(Listing::Superpose { args, new })
+    Ok(ListHead::Superpose { args, new })
 }
 
 #[tactic(auto, unfolding(crate::specs::Items::line_with_items))]
-fn line_with_items(alloc: Global, line: Listing, words: &[&[u8]]) -> Result<BookLine, LineError>
+fn line_with_items(alloc: Global, line: ListHead, words: &[&[u8]]) -> Result<BookLine, LineError>
     ensures { Gives (λ l. l) result (line_with_items line (texts words.now)) }
 {
     let items = match items_of(alloc, words) {
@@ -174,10 +174,10 @@ fn line_with_items(alloc: Global, line: Listing, words: &[&[u8]]) -> Result<Book
 }
 
 /// Whether it is a line of this first word, with an item among its literals.
-fn lists(word: &[u8], name: &[u8], literals: &[&[u8]]) -> bool
-    ensures { result ≡ (bytes_eq word.now name.now && has_item (texts literals.now)) }
+fn is_line_with_items(word: &[u8], keyword: &[u8], literals: &[&[u8]]) -> bool
+    ensures { result ≡ (bytes_eq word.now keyword.now && has_item (texts literals.now)) }
 {
-    is(word, name) && has_item(literals)
+    is(word, keyword) && has_item(literals)
 }
 
 /// A line of a book, by its words alone.
@@ -191,17 +191,17 @@ pub fn book_line_of(alloc: Global, words: &[&[u8]]) -> Result<BookLine, LineErro
     if is(word, b"define") {
         return define_of(Words::new(rest));
     }
-    if lists(word, b"given", rest) {
-        return line_with_items(alloc, Listing::Given, rest);
+    if is_line_with_items(word, b"given", rest) {
+        return line_with_items(alloc, ListHead::Given, rest);
     }
-    if lists(word, b"show", rest) {
-        return line_with_items(alloc, Listing::Show, rest);
+    if is_line_with_items(word, b"show", rest) {
+        return line_with_items(alloc, ListHead::Show, rest);
     }
-    if lists(word, b"claim", rest) {
-        return line_with_items(alloc, Listing::Claim, rest);
+    if is_line_with_items(word, b"claim", rest) {
+        return line_with_items(alloc, ListHead::Claim, rest);
     }
     let (head, after) = head_and_lits(rest);
-    if lists(word, b"superpose", after) {
+    if is_line_with_items(word, b"superpose", after) {
         return line_with_items(alloc, placing_of(alloc, head)?, after);
     }
     Ok(BookLine::Plain(raw_line_named(alloc, word, rest)?))

@@ -1,13 +1,13 @@
 //! The lines of constructions, known from their words by spelling alone.
-ghost use Rattle.std.specs.Prelude.{◌≡◌, List, map, slice_get, is_some, false, IfOk};
+ghost use Rattle.std.specs.Prelude.{◌≡◌, List, map, slice_get, false, IfOk};
 ghost use Rattle.std.specs.Option.{option_map_or};
 ghost use Rattle.e_construct.specs.Views.{piece_view};
-ghost use Rattle.e_line.specs.Reading.{texts, texts_after, names_of, Gives};
+ghost use Rattle.e_line.specs.Reading.{texts, names_of, Gives};
 ghost use Rattle.e_line.specs.Lets.{is_word_of, are_words_of, is_line_of, shapes_of};
-ghost use Rattle.e_line.specs.Lets.{is_new, is_place, words_at, avoided_of, let_named, let_of};
+ghost use Rattle.e_line.specs.Lets.{is_slot, words_in_slots, let_named, let_of};
 
 use crate::fault::LineError;
-use crate::words::{cut_at, some_names};
+use crate::words::{cut_at, names_after};
 use e_construct::{Piece, Shape, all_shapes, may_avoid, pieces};
 use e_literal::Items;
 use e_text::{Name, is};
@@ -73,48 +73,48 @@ fn shapes_of(alloc: Global, avoiding: bool, words: &[&[u8]]) -> Result<Items<Sha
     Ok(shapes)
 }
 
-/// What stands at a place of a line that has a name.
+/// What a slot of a line names: a new object or an argument.
 #[derive(Clone, Copy)]
 pub(crate) enum Slot {
     New,
     Argument,
 }
 
-/// Whether a piece is such a place.
-fn is_place(place: Slot, piece: Piece) -> bool
-    ensures { result ≡ is_place (is_new place) (piece_view piece) }
+/// Whether a piece is a slot of this kind.
+fn is_slot(slot: Slot, piece: Piece) -> bool
+    ensures { result ≡ is_slot slot (piece_view piece) }
 {
-    match (place, piece) {
+    match (slot, piece) {
         (Slot::New, Piece::New) => true,
         (Slot::Argument, Piece::Argument) => true,
         _ => false,
     }
 }
 
-/// Whether such a place is there.
-fn is_place_at(place: Slot, pieces: &[Piece], at: usize) -> bool
+/// Whether a slot of this kind is there.
+fn is_slot_at(slot: Slot, pieces: &[Piece], at: usize) -> bool
     ensures { result
-        ≡ option_map_or (λ p. is_place (is_new place) (piece_view p)) (slice_get pieces.now at) false }
+        ≡ option_map_or (λ p. is_slot slot (piece_view p)) (slice_get pieces.now at) false }
 {
     match pieces.get(at) {
         None => false,
-        Some(piece) => is_place(place, *piece),
+        Some(piece) => is_slot(slot, *piece),
     }
 }
 
-/// The names at such places.
+/// The names in such slots.
 pub(crate) fn names_at(
     alloc: Global,
-    place: Slot,
+    slot: Slot,
     pieces: &[Piece],
     words: &[&[u8]],
 ) -> Result<Items<Name>, LineError>
     ensures { Gives (λ n. n) result
-        (names_of (words_at (is_new place) (map piece_view pieces.now) (texts words.now))) }
+        (names_of (words_in_slots slot (map piece_view pieces.now) (texts words.now))) }
 {
     let mut names = Items::empty(alloc);
     for (i, word) in words.iter().enumerate() {
-        if !is_place_at(place, pieces, i) {
+        if !is_slot_at(slot, pieces, i) {
             continue;
         }
         match Name::read(word) {
@@ -123,16 +123,6 @@ pub(crate) fn names_at(
         }
     }
     Ok(names)
-}
-
-/// The words after `avoid`, where it is there.
-fn avoided_of(alloc: Global, after: Option<&[&[u8]]>) -> Result<Items<Name>, LineError>
-    ensures { Gives (λ n. n) result (avoided_of (is_some after.entry) (texts_after after.entry)) }
-{
-    match after {
-        Some(words) => some_names(alloc, words),
-        None => Ok(Items::empty(alloc)),
-    }
 }
 
 /// A line of these shapes with its names.
@@ -165,7 +155,7 @@ pub(crate) fn let_of(alloc: Global, words: &[&[u8]]) -> Result<RawLet, LineError
     ensures { Gives (λ l. l) result (let_of (texts words.now)) }
 {
     let (line, after) = cut_at(words, b"avoid");
-    let avoid = avoided_of(alloc, after)?;
+    let avoid = names_after(alloc, after)?;
     let shapes = shapes_of(alloc, after.is_some(), line)?;
     let_named(alloc, shapes, line, avoid)
 }

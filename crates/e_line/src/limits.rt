@@ -35,19 +35,19 @@ pub fn monomial_count(lit: &RawLit) -> usize
     }
 }
 
-fn is_small_sum(monos: &[RawMono]) -> bool
+fn are_low(monos: &[RawMono]) -> bool
     ensures { result ≡ list_all (λ m. nat_le m.coeff most_coefficient) monos.now }
 {
     monos.iter().all(|m| m.coeff <= MAX_COEFFICIENT)
 }
 
-fn is_small(lit: &RawLit) -> bool
+fn has_low_coefficients(lit: &RawLit) -> bool
     ensures { result ≡ list_all (λ m. nat_le m.coeff most_coefficient) (monos_of lit.now.atom) }
 {
     match &lit.atom {
-        RawAtom::SumsEqual(x, y) => is_small_sum(x.items()) && is_small_sum(y.items()),
-        RawAtom::SumsLess(x, y) => is_small_sum(x.items()) && is_small_sum(y.items()),
-        RawAtom::SumsAtMost(x, y) => is_small_sum(x.items()) && is_small_sum(y.items()),
+        RawAtom::SumsEqual(x, y) => are_low(x.items()) && are_low(y.items()),
+        RawAtom::SumsLess(x, y) => are_low(x.items()) && are_low(y.items()),
+        RawAtom::SumsAtMost(x, y) => are_low(x.items()) && are_low(y.items()),
         _ => true,
     }
 }
@@ -63,7 +63,7 @@ fn have_few_monomials(lits: &[RawLit]) -> bool
 fn have_low_coefficients(lits: &[RawLit]) -> bool
     ensures { result ≡ have_low_coefficients lits.now }
 {
-    lits.iter().all(|lit| is_small(lit))
+    lits.iter().all(|lit| has_low_coefficients(lit))
 }
 
 /// The limits of each literal: of its monomials, and then of the coefficients of all.

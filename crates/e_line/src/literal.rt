@@ -3,8 +3,8 @@ ghost use Rattle.std.specs.Prelude.{◌≡◌, ◌∷◌, ◌≤◌, List, lengt
 ghost use Rattle.std.specs.List.{list_all, position_or_len};
 ghost use Rattle.e_line.specs.Reading.{texts, Gives, Moves, with_front};
 ghost use Rattle.e_line.specs.Literals.{relation_of, is_relation, single_name, sums_of, sides_of};
-ghost use Rattle.e_line.specs.Literals.{equal_sides, negation_of, sign_first, lit_of_sides};
-ghost use Rattle.e_line.specs.Literals.{lit_by_first_word, signed_of, lit_of, is_diagram_raw};
+ghost use Rattle.e_line.specs.Literals.{equal_sides, negation_of, relation_first, lit_of_sides};
+ghost use Rattle.e_line.specs.Literals.{lit_by_first_word, lit_after_not, lit_of, is_diagram_raw};
 ghost use Rattle.e_line.specs.Literals.{diagram_lit_of, diagram_lits_of, lits_of};
 
 use crate::fault::LineError;
@@ -47,7 +47,7 @@ pub struct RawLit {
     pub atom: RawAtom,
 }
 
-/// The sign of a comparison.
+/// How a comparison relates its sides.
 #[derive(Clone, Copy)]
 pub(crate) enum Relation {
     /// `=`
@@ -60,7 +60,7 @@ pub(crate) enum Relation {
     AtMost,
 }
 
-/// The sign that a word is.
+/// The relation that a word is.
 fn relation_of(word: &[u8]) -> Option<Relation>
     ensures { result ≡ relation_of word.now }
 {
@@ -85,8 +85,8 @@ fn is_relation(word: &[u8]) -> bool
     relation_of(word).is_some()
 }
 
-/// The place of the first sign, or the number of words.
-fn place_of_sign(words: &[&[u8]]) -> usize
+/// Where a relation comes first, or the number of words.
+fn index_of_relation(words: &[&[u8]]) -> usize
     ensures place { result ≡ position_or_len is_relation (texts words.now) }
     ensures within { result ≤ length words.now }
 {
@@ -142,13 +142,13 @@ fn equal_sides(alloc: Global, left: &[&[u8]], right: &[&[u8]]) -> Result<RawAtom
 #[tactic(auto, unfolding(crate::specs::Literals::sides_of))]
 fn sides_of(
     alloc: Global,
-    sign: Relation,
+    relation: Relation,
     left: &[&[u8]],
     right: &[&[u8]],
 ) -> Result<RawAtom, LineError>
-    ensures { Gives (λ a. a) result (sides_of sign (texts left.now) (texts right.now)) }
+    ensures { Gives (λ a. a) result (sides_of relation (texts left.now) (texts right.now)) }
 {
-    match sign {
+    match relation {
         Relation::Equal => equal_sides(alloc, left, right),
         Relation::Differ => equal_sides(alloc, left, right),
         Relation::Less => {
@@ -163,10 +163,10 @@ fn sides_of(
 }
 
 /// Whether it is a negation: `!=` is one, and `not` may come before neither it nor `<=`.
-fn negation_of(negated: bool, sign: Relation) -> Result<bool, LineError>
-    ensures { Gives (λ n. n) result (negation_of negated sign) }
+fn negation_of(negated: bool, relation: Relation) -> Result<bool, LineError>
+    ensures { Gives (λ n. n) result (negation_of negated relation) }
 {
-    match sign {
+    match relation {
         Relation::Equal => Ok(negated),
         Relation::Less => Ok(negated),
         Relation::Differ => {
@@ -184,20 +184,20 @@ fn negation_of(negated: bool, sign: Relation) -> Result<bool, LineError>
     }
 }
 
-/// Two sides with a sign between them.
+/// Two sides with a relation between them.
 #[tactic(auto, unfolding(crate::specs::Literals::lit_of_sides))]
 fn lit_of_sides(alloc: Global, negated: bool, words: &[&[u8]]) -> Result<RawLit, LineError>
     ensures { Gives (λ l. l) result (lit_of_sides negated (texts words.now)) }
 {
-    let (left, rest) = words.split_at(place_of_sign(words));
-    let [sign, right @ ..] = rest else {
+    let (left, rest) = words.split_at(index_of_relation(words));
+    let [word, right @ ..] = rest else {
         return Err(LineError::MALFORMED);
     };
-    let Some(sign) = relation_of(sign) else {
+    let Some(relation) = relation_of(word) else {
         return Err(LineError::MALFORMED);
     };
-    let neg = negation_of(negated, sign)?;
-    let atom = sides_of(alloc, sign, left, right)?;
+    let neg = negation_of(negated, relation)?;
+    let atom = sides_of(alloc, relation, left, right)?;
     Ok(RawLit { neg, atom })
 }
 
@@ -246,13 +246,13 @@ fn lit_by_first_word(
     lit_of_sides(alloc, neg, words)
 }
 
-#[tactic(auto, unfolding(crate::specs::Literals::signed_of))]
-fn signed_of(alloc: Global, neg: bool, words: &[&[u8]]) -> Result<RawLit, LineError>
-    ensures { Gives (λ l. l) result (signed_of neg (texts words.now)) }
+#[tactic(auto, unfolding(crate::specs::Literals::lit_after_not))]
+fn lit_after_not(alloc: Global, words: &[&[u8]]) -> Result<RawLit, LineError>
+    ensures { Gives (λ l. l) result (lit_after_not (texts words.now)) }
 {
     match words {
         [] => Err(LineError::MALFORMED),
-        [word, rest @ ..] => lit_by_first_word(alloc, neg, word, rest, words),
+        [word, rest @ ..] => lit_by_first_word(alloc, true, word, rest, words),
     }
 }
 
@@ -265,7 +265,7 @@ pub fn lit_of(alloc: Global, words: &[&[u8]]) -> Result<RawLit, LineError>
         [] => Err(LineError::MALFORMED),
         [word, rest @ ..] => {
             if is(word, b"not") {
-                return signed_of(alloc, true, rest);
+                return lit_after_not(alloc, rest);
             }
             lit_by_first_word(alloc, false, word, rest, words)
         }

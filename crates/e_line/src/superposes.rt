@@ -1,8 +1,9 @@
 //! A superposition, by its words.
-ghost use Rattle.std.specs.Prelude.{◌≡◌, map, take, drop};
+ghost use Rattle.std.specs.Prelude.{◌≡◌, map};
 ghost use Rattle.e_construct.specs.Views.{piece_view};
 ghost use Rattle.e_line.specs.Reading.{texts, Gives};
-ghost use Rattle.e_line.specs.Superposes.{superpose_pieces, raw_superpose_of, superpose_of};
+ghost use Rattle.e_line.specs.Superposes.{superpose_pieces, words_to_show, words_shown};
+ghost use Rattle.e_line.specs.Superposes.{raw_superpose_of, superpose_of};
 
 use crate::fault::LineError;
 use crate::lets::{Slot, are_words_of, names_at};
@@ -26,7 +27,7 @@ pub struct RawSuperpose {
 /// How many words come before the literals: `length superpose_pieces`.
 const HEAD: usize = 13;
 
-static PIECES: [Piece; 13] = [
+static PIECES: [Piece; HEAD] = [
     Piece::Argument,
     Piece::Argument,
     Piece::Argument,
@@ -52,15 +53,19 @@ pub fn superposition_pieces() -> &'static [Piece]
 
 /// The words up to `show`, and those after them.
 pub(crate) fn head_and_lits<'a, 'b>(words: &'a [&'b [u8]]) -> (&'a [&'b [u8]], &'a [&'b [u8]])
-    ensures head { texts result.0.now ≡ take 13 (texts words.now) }
-    ensures rest { texts result.1.now ≡ drop 13 (texts words.now) }
+    ensures head { texts result.0.now ≡ words_to_show (texts words.now) }
+    ensures rest { texts result.1.now ≡ words_shown (texts words.now) }
 {
     words.split_at(HEAD.min(words.len()))
 }
 
 /// The words up to `show`, and those of the literals.
 #[tactic(auto, unfolding(crate::specs::Superposes::raw_superpose_of))]
-fn head_of(alloc: Global, head: &[&[u8]], rest: &[&[u8]]) -> Result<RawSuperpose, LineError>
+fn raw_superpose_of(
+    alloc: Global,
+    head: &[&[u8]],
+    rest: &[&[u8]],
+) -> Result<RawSuperpose, LineError>
     ensures { Gives (λ s. s) result (raw_superpose_of (texts head.now) (texts rest.now)) }
 {
     if !are_words_of(superposition_pieces(), head) {
@@ -78,5 +83,5 @@ pub(crate) fn superpose_of(alloc: Global, words: &[&[u8]]) -> Result<RawSuperpos
     ensures { Gives (λ s. s) result (superpose_of (texts words.now)) }
 {
     let (head, rest) = head_and_lits(words);
-    head_of(alloc, head, rest)
+    raw_superpose_of(alloc, head, rest)
 }

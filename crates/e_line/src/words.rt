@@ -8,7 +8,7 @@ ghost use Rattle.std.specs.Str.{bytes_eq};
 ghost use Rattle.e_line.specs.Canonical.{sort_word};
 ghost use Rattle.e_line.specs.Reading.{cut_at, texts, texts_after, Gives, Reads, first_word};
 ghost use Rattle.e_line.specs.Reading.{first_name, first_title, no_word_left, names_of};
-ghost use Rattle.e_line.specs.Reading.{some_names, two_names, three_names};
+ghost use Rattle.e_line.specs.Reading.{some_names, names_after, two_names, three_names};
 
 use crate::fault::LineError;
 use e_literal::{Items, Sort};
@@ -92,6 +92,16 @@ pub(crate) fn some_names(alloc: Global, words: &[&[u8]]) -> Result<Items<Name>, 
         return Err(LineError::MALFORMED);
     }
     Ok(names)
+}
+
+/// The names after a word, at least one where the word is there.
+pub(crate) fn names_after(alloc: Global, after: Option<&[&[u8]]>) -> Result<Items<Name>, LineError>
+    ensures { Gives (λ n. n) result (names_after (is_some after.entry) (texts_after after.entry)) }
+{
+    match after {
+        Some(words) => some_names(alloc, words),
+        None => Ok(Items::empty(alloc)),
+    }
 }
 
 /// The words of a line that are still to be read, seen as their texts.

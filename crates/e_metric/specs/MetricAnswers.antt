@@ -69,11 +69,11 @@ preferred_answer first (Yes m) = Yes m
 preferred_answer first (No values) = first
 preferred_answer first (TooWide w) = first
 
--- the answer of two kinds, where the values of one tell of both that they have some
-abbrev pub joined : Metric → Metric → Metric
-joined (No values) second = second
-joined (Yes m) second = preferred_answer (Yes m) second
-joined (TooWide w) second = preferred_answer (TooWide w) second
+-- what two kinds answer together: a certificate, or one is too wide, or values of the second
+abbrev pub answer_of_both : Metric → Metric → Metric
+answer_of_both (No values) second = second
+answer_of_both (Yes m) second = preferred_answer (Yes m) second
+answer_of_both (TooWide w) second = preferred_answer (TooWide w) second
 
 -- the answer without its values
 abbrev pub consequence_of : Metric → Consequence

@@ -15,7 +15,7 @@ ghost use Rattle.e_simplex.specs.Answer.{IsAbsurdity};
 ghost use Rattle.e_metric.specs.inner.Certificate;
 ghost use Rattle.e_metric.specs.ListedTerms.{distinct_terms, with_listed};
 ghost use Rattle.e_metric.specs.MetricAnswers.{IsMetricAnswer, IsKindAnswer};
-ghost use Rattle.e_metric.specs.MetricAnswers.{preferred_answer, joined, consequence_of};
+ghost use Rattle.e_metric.specs.MetricAnswers.{preferred_answer, answer_of_both, consequence_of};
 ghost use Rattle.e_metric.specs.MetricAnswers.{IfYes, IfNo};
 
 use crate::assigning::counterexample;
@@ -153,9 +153,9 @@ fn prefer_certificate(first: Metric, second: Metric) -> Metric
     }
 }
 
-// The answer of two kinds, where the values of one of them tell of both that they have some.
+// What two kinds answer together: a certificate, or one is too wide, or values of the second.
 fn join(first: Metric, second: Metric) -> Metric
-    ensures { result ≡ joined first second }
+    ensures { result ≡ answer_of_both first second }
 {
     match first {
         Metric::No(values) => {
@@ -183,7 +183,7 @@ fn without_values(answer: Metric) -> Consequence
 /// The answer of the systems of all kinds together, without values.
 pub fn joined_consequence(answer: ByKind<Metric>) -> Consequence
     ensures { result ≡ consequence_of
-        (joined (joined answer.segments answer.angles) answer.areas) }
+        (answer_of_both (answer_of_both answer.segments answer.angles) answer.areas) }
 {
     let ByKind {
         segments,

@@ -6,6 +6,6 @@ pub mod Scope
 pub mod Applies
 pub mod Fits
 pub mod Canonical
-pub mod HasSpelling
+pub mod NamedByTitle
 pub mod Meanings
 pub mod inner

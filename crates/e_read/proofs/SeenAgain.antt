@@ -11,7 +11,7 @@ use Rattle.e_cert.specs.declared.cert_line.CertLine.{CertLine}
 use Rattle.e_cert.specs.declared.owed.Pending.{Pending}
 use Rattle.e_cert.specs.CertLines.{cert_line_is_of}
 use Rattle.e_cert.specs.Owed.{after_cert_line}
-use Rattle.e_cert.specs.Strict.{exact_cert_line, cert_line_of_words, cert_line_of_bytes}
+use Rattle.e_cert.specs.CanonicalCertLines.{canonical_cert_line, cert_line_of_words, cert_line_of_bytes}
 use Rattle.e_text.specs.Tokens.{tokens_of}
 use Rattle.e_read.specs.Text.{is_bar}
 use Rattle.e_read.specs.declared.reading.BlockParser.{BlockParser}
@@ -36,13 +36,13 @@ taken : (r : BlockParser) (m : CertLine) (result : Result (Unit {0}) LineError) 
 taken r m result new read e h =
     subst (λ (x : Result BlockParser FaultKind). Moves result (record r { owed = new }) x) (sym (e ∙ by_version (cert_line_is_of r.version m) r m)) (moved r result new (cond (cert_line_is_of r.version m) (after_cert_line r.owed m) (Err Malformed)) h)
 
-certificate_is : (r : BlockParser) (line : List ℕ) (words : List (List ℕ)) (m : CertLine) → exact_cert_line line words ≡ Ok m → parser_after_certificate r line words ≡ cond (cert_line_is_of r.version m) (with_cert_line r m) (Err Malformed)
+certificate_is : (r : BlockParser) (line : List ℕ) (words : List (List ℕ)) (m : CertLine) → canonical_cert_line line words ≡ Ok m → parser_after_certificate r line words ≡ cond (cert_line_is_of r.version m) (with_cert_line r m) (Err Malformed)
 unfolding parser_after_certificate
 certificate_is r line words m e = ap (λ (x : Result CertLine FaultKind). x >>= λ m. cond (cert_line_is_of r.version m) (with_cert_line r m) (Err Malformed)) e
 
 -- a line that is read
 pub line_read : (r : BlockParser) (line : List ℕ) (words : List (List ℕ)) (m : CertLine) (result : Result (Unit {0}) LineError) (new : Pending)
-    → exact_cert_line line words ≡ Ok m → Takes r m result new → Moves result (record r { owed = new }) (parser_after_certificate r line words)
+    → canonical_cert_line line words ≡ Ok m → Takes r m result new → Moves result (record r { owed = new }) (parser_after_certificate r line words)
 line_read r line words m result new e h = taken r m result new (parser_after_certificate r line words) (certificate_is r line words m e) h
 
 again_is : (known : List TitledStatement) (r : BlockParser) (line : List ℕ) (m : CertLine) (words : List (List ℕ)) → cert_line_of_words line words ≡ Ok m
@@ -50,7 +50,7 @@ again_is : (known : List TitledStatement) (r : BlockParser) (line : List ℕ) (m
 unfolding parser_after_words
 again_is known r line m [] e = absurd cc
 again_is known r line m (w ∷ ws) e =
-    let p = passed (is_bar w) (exact_cert_line line ws) m e in
+    let p = passed (is_bar w) (canonical_cert_line line ws) m e in
     ap (λ (b : Bool). cond b (parser_after_certificate r line ws) (parser_after_exact_line known r line)) p.0 ∙ certificate_is r line ws m p.1
 
 -- one that is known

@@ -24,8 +24,8 @@ use Rattle.e_cert.specs.declared.owed.Pending.{Pending}
 use Rattle.e_cert.specs.declared.kept.StepCerts.{StepCerts}
 use Rattle.e_read.specs.declared.reading.BlockParser.{BlockParser}
 use Rattle.e_cert.specs.CertLines.{cert_line_is_of}
-use Rattle.e_line.specs.Strict.{is_strict_line, exact_line_of, exact_line}
-use Rattle.e_cert.specs.Strict.{exact_cert_line}
+use Rattle.e_line.specs.CanonicalLines.{is_canonical_form, canonical_line_of, canonical_line}
+use Rattle.e_cert.specs.CanonicalCertLines.{canonical_cert_line}
 use Rattle.e_read.specs.inner.Strict.{is_apart}
 use Rattle.e_cert.specs.Owed.{after_cert_line, finish_certs}
 use Rattle.e_read.specs.Laws.{begins_with_bar}
@@ -44,7 +44,7 @@ hashed b bs ws e = subst (λ (x : ℕ). raw_line_named (x ∷ bs) ws ≡ Err Mal
 -- a line of a certificate
 pub record Certified (r next : BlockParser) (line : List ℕ) (words : List (List ℕ)) : Type 0 where
   pub cert_line : CertLine
-  pub spelled : exact_cert_line line words ≡ Ok cert_line
+  pub spelled : canonical_cert_line line words ≡ Ok cert_line
   pub of : cert_line_is_of r.version cert_line ≡ true
   pub owed : after_cert_line r.owed cert_line ≡ Ok next.owed
   pub parser : next.parser ≡ r.parser
@@ -54,7 +54,7 @@ pub record Certified (r next : BlockParser) (line : List ℕ) (words : List (Lis
 -- any other line
 pub record Stepped (known : List TitledStatement) (r next : BlockParser) (line : List ℕ) : Type 0 where
   pub raw_line : RawLine
-  pub spelled : exact_line line ≡ Ok raw_line
+  pub spelled : canonical_line line ≡ Ok raw_line
   pub read : Option StepCerts
   pub settled_is : finish_certs r.owed ≡ Ok read
   pub parser : TheoremParser
@@ -65,7 +65,7 @@ pub record Stepped (known : List TitledStatement) (r next : BlockParser) (line :
 certified_line : (r next : BlockParser) (line : List ℕ) (words : List (List ℕ)) → parser_after_certificate r line words ≡ Ok next → Certified r next line words
 unfolding with_cert_line parser_after_certificate
 certified_line r next line words e =
-    let m = bind_ok (exact_cert_line line words) (λ m. cond (cert_line_is_of r.version m) (after_cert_line r.owed m >>= λ o. Ok (record r { owed = o })) (Err Malformed)) next e in
+    let m = bind_ok (canonical_cert_line line words) (λ m. cond (cert_line_is_of r.version m) (after_cert_line r.owed m >>= λ o. Ok (record r { owed = o })) (Err Malformed)) next e in
     let p = passed (cert_line_is_of r.version m.0) (after_cert_line r.owed m.0 >>= λ o. Ok (record r { owed = o })) next m.2 in
     let o = bind_ok (after_cert_line r.owed m.0) (λ o. Ok (record r { owed = o })) next p.1 in
     let is : record r { owed = o.0 } ≡ next = ok_is (record r { owed = o.0 }) next o.2 in
@@ -84,7 +84,7 @@ unfolding with_raw_line parser_after_exact_line
 stepped_line known r next line e =
     let with_kept : Option StepCerts → BlockParser = λ k. record { version = r.version; parser = r.parser; owed = owes_nothing; kept = r.kept ++ option_to_list k } in
     let end : BlockParser → TheoremParser × Pending → BlockParser = λ s x. record { version = s.version; parser = Some x.0; owed = x.1; kept = s.kept } in
-    let f = bind_ok (exact_line line) (λ f. finish_line r >>= λ s. parser_and_owed known s.parser f >>= λ x. Ok (end s x)) next e in
+    let f = bind_ok (canonical_line line) (λ f. finish_line r >>= λ s. parser_and_owed known s.parser f >>= λ x. Ok (end s x)) next e in
     let s = bind_ok (finish_line r) (λ s. parser_and_owed known s.parser f.0 >>= λ x. Ok (end s x)) next f.2 in
     let k = bind_ok (finish_certs r.owed) (λ k. Ok (with_kept k)) s.0 s.1 in
     let kept_is : with_kept k.0 ≡ s.0 = ok_is (with_kept k.0) s.0 k.2 in
@@ -116,13 +116,13 @@ line_taken known r next l e = by_words (tokens_of l.bytes) refl (passed (is_lf_e
         ]
 
 -- the form of a line in the one spelling is that of its words
-pub form_read : (line : List ℕ) (f : RawLine) → exact_line line ≡ Ok f → (raw_line_of (tokens_of line) ≡ Ok f) × ((is_strict_line f && bytes_eq line (line_of f)) ≡ true)
-unfolding exact_line_of
+pub form_read : (line : List ℕ) (f : RawLine) → canonical_line line ≡ Ok f → (raw_line_of (tokens_of line) ≡ Ok f) × ((is_canonical_form f && bytes_eq line (line_of f)) ≡ true)
+unfolding canonical_line_of
 form_read line f e =
-    let g = bind_ok (raw_line_of (tokens_of line)) (λ f. cond (is_strict_line f && bytes_eq line (line_of f)) (Ok f) (Err Malformed)) f e in
-    let p = passed (is_strict_line g.0 && bytes_eq line (line_of g.0)) (Ok g.0) f g.2 in
+    let g = bind_ok (raw_line_of (tokens_of line)) (λ f. cond (is_canonical_form f && bytes_eq line (line_of f)) (Ok f) (Err Malformed)) f e in
+    let p = passed (is_canonical_form g.0 && bytes_eq line (line_of g.0)) (Ok g.0) f g.2 in
     let same : g.0 ≡ f = ok_is g.0 f p.1 in
-    subst (λ (x : RawLine). (raw_line_of (tokens_of line) ≡ Ok x) × ((is_strict_line x && bytes_eq line (line_of x)) ≡ true)) same (g.1, p.0)
+    subst (λ (x : RawLine). (raw_line_of (tokens_of line) ≡ Ok x) × ((is_canonical_form x && bytes_eq line (line_of x)) ≡ true)) same (g.1, p.0)
 
 -- words that have a form say something
 pub not_skipped : (words : List (List ℕ)) (f : RawLine) → raw_line_of words ≡ Ok f → is_skipped words ≡ false

@@ -26,8 +26,8 @@ use Rattle.e_cert.proofs.Fronts.{fed, fed_last, Agrees, IsFault, below_fed}
 use Rattle.e_read.specs.declared.reading.BlockParser.{BlockParser}
 use Rattle.e_text.specs.Lines.{LineView}
 use Rattle.e_text.specs.Tokens.{tokens_of}
-use Rattle.e_line.specs.Strict.{exact_line}
-use Rattle.e_cert.specs.Strict.{exact_cert_line}
+use Rattle.e_line.specs.CanonicalLines.{canonical_line}
+use Rattle.e_cert.specs.CanonicalCertLines.{canonical_cert_line}
 use Rattle.e_book.specs.TheoremViews.{TheoremView}
 use Rattle.e_book.specs.Grammar.{Rest, theorem_ended}
 use Rattle.e_book.specs.ParserViews.{entry_of_parser}
@@ -192,7 +192,7 @@ module _ (known : List TitledStatement) where
   both_same : (x y : Result BlockParser FaultKind) (z : Result Block FaultKind) → x ≡ y → Both y z → Both x z
   both_same x y z e h = subst (λ (v : Result BlockParser FaultKind). Both v z) (sym e) h
 
-  good : (line : List ℕ) (f : RawLine) → exact_line line ≡ Ok f → HasItems f
+  good : (line : List ℕ) (f : RawLine) → canonical_line line ≡ Ok f → HasItems f
   good line f e = items_read (tokens_of line) f (form_read line f e).0
 
   gone : (s : Option TheoremParser) (o : Option Open) (f : RawLine) → Said s o → HasItems f → GoneAlike (parser_and_owed known s f) (owing_after known o f >>= λ owed. line_after known o f >>= λ o. gone_so owed o)
@@ -222,7 +222,7 @@ module _ (known : List TitledStatement) where
   unfolding parser_after_words parser_after_certificate parser_after_exact_line
   words_tied r b line [] t = tt
   words_tied r b line (w ∷ ws) t = both_if (is_bar w) (parser_after_certificate r line ws) (parser_after_exact_line known r line) _ _
-      (both_bind (exact_cert_line line ws) _ _ (λ m e. cert_tied r b m t)) (both_bind (exact_line line) _ _ (λ f e. raw_tied r b f t (good line f e)))
+      (both_bind (canonical_cert_line line ws) _ _ (λ m e. cert_tied r b m t)) (both_bind (canonical_line line) _ _ (λ f e. raw_tied r b f t (good line f e)))
 
   line_tied : (r : BlockParser) (b : Block) (l : LineView) → TiedBlock r b → Both (parser_after_line known r l) (grammar.with_line known b l)
   unfolding parser_after_line parser_after_bytes

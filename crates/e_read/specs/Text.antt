@@ -16,7 +16,7 @@ use Rattle.e_line.specs.declared.fault.FaultKind.{FaultKind}
 use Rattle.e_line.specs.declared.fault.FaultKind.TheVariants.{Malformed}
 use Rattle.e_line.specs.declared.raw_line.RawLine.{RawLine}
 use Rattle.e_line.specs.Reading.{◌>>=◌}
-use Rattle.e_line.specs.Strict.{exact_line}
+use Rattle.e_line.specs.CanonicalLines.{canonical_line}
 use Rattle.e_names.specs.TitledStatements.{TitledStatement}
 use Rattle.e_book.specs.declared.theorem.Theorem.{Theorem}
 use Rattle.e_book.specs.TheoremViews.{TheoremView, entry_of}
@@ -27,7 +27,7 @@ use Rattle.e_book.specs.Grammar.{Rest, line_after, theorem_ended}
 use Rattle.e_cert.specs.declared.cert_line.CertLine.{CertLine}
 use Rattle.e_cert.specs.declared.kept.StepCerts.{StepCerts}
 use Rattle.e_cert.specs.CertLines.{cert_line_is_of}
-use Rattle.e_cert.specs.Strict.{exact_cert_line}
+use Rattle.e_cert.specs.CanonicalCertLines.{canonical_cert_line}
 use Rattle.e_cert.specs.Certificates.{Lack, Wrong, Due, Nothing, below}
 use Rattle.e_read.specs.declared.reader.Piece.{Piece as PieceRead}
 use Rattle.e_read.specs.declared.reader.Piece.TheVariants as read
@@ -98,8 +98,8 @@ abbrev pub with_words : List TitledStatement → Block → List ℕ → List (Li
     → Result Block FaultKind
 with_words known b line [] = Err Malformed
 with_words known b line (w ∷ ws) =
-    if is_bar w then (exact_cert_line line ws >>= λ m. with_cert_line b m) else
-    (exact_line line >>= λ f. with_raw_line known b f)
+    if is_bar w then (canonical_cert_line line ws >>= λ m. with_cert_line b m) else
+    (canonical_line line >>= λ f. with_raw_line known b f)
 
 abbrev pub is_lf_end : LineEnd → Bool
 is_lf_end ends.Lf = true

@@ -1,7 +1,7 @@
 //! What was read below the lines of a block.
 ghost use Rattle.std.specs.Prelude.{◌≡◌, ◌++◌, [], OnOk, IfSome, Ok};
 ghost use Rattle.std.specs.Option.{option_to_list};
-ghost use Rattle.e_cert.specs.Strict.{cert_line_of_bytes};
+ghost use Rattle.e_cert.specs.CanonicalCertLines.{cert_line_of_bytes};
 ghost use Rattle.e_read.specs.Filled.{NextCerts};
 
 use e_cert::{CertLine, SeenLines, StepCerts};

@@ -14,7 +14,7 @@ ghost use Rattle.e_names.specs.Scope.{FewNames};
 ghost use Rattle.e_book.specs.Steps.{no_names};
 ghost use Rattle.e_cert.specs.CertLines.{cert_line_is_of};
 ghost use Rattle.e_cert.specs.Owed.{after_cert_line};
-ghost use Rattle.e_cert.specs.Strict.{exact_cert_line, cert_line_of_bytes};
+ghost use Rattle.e_cert.specs.CanonicalCertLines.{canonical_cert_line, cert_line_of_bytes};
 ghost use Rattle.e_read.specs.inner.Machine.{owes_nothing, is_settled, at_start, with_cert_line};
 ghost use Rattle.e_read.specs.inner.Machine.{parser_after_certificate, owed_by, parser_and_owed};
 ghost use Rattle.e_read.specs.inner.Machine.{finish_line, with_raw_line, parser_after_exact_line};
@@ -30,9 +30,9 @@ use crate::kept::AllCerts;
 use crate::needs::due_of;
 use crate::strict::is_apart;
 use e_book::{Section, Theorem, TheoremParser, no_names};
-use e_cert::{CertLine, Obligation, Pending, cert_line_is_of, exact_cert_line};
+use e_cert::{CertLine, Obligation, Pending, cert_line_is_of, canonical_cert_line};
 use e_clause::Version;
-use e_line::{LineError, RawLine, exact_line_of, words_of_line};
+use e_line::{LineError, RawLine, canonical_line_of, words_of_line};
 use e_names::Theorems;
 use e_text::{Line, LineEnd, is, put_number};
 use std::alloc::{AllocError, Global};
@@ -174,13 +174,13 @@ impl BlockParser {
         words: &[&[u8]],
     ) -> Result<(), LineError>
         requires names { FewNames self.old.owed.names }
-        requires words { cert_line_of_bytes line.now ≡ exact_cert_line line.now (texts words.now) }
+        requires words { cert_line_of_bytes line.now ≡ canonical_cert_line line.now (texts words.now) }
         ensures value { Moves result self.new
             (parser_after_certificate self.old line.now (texts words.now)) }
         ensures parser { OnOk result (self.new.parser ≡ self.old.parser) }
         ensures names { OnOk result (self.new.owed.names ≡ self.old.owed.names) }
     {
-        let cert_line = exact_cert_line(alloc, line, words)?;
+        let cert_line = canonical_cert_line(alloc, line, words)?;
         if let Err(error) = take_cert_line(alloc, self.version, &mut self.owed, &cert_line) {
             mem::drop(cert_line);
             return Err(error);
@@ -207,7 +207,7 @@ impl BlockParser {
         ensures fits { OnOk result (FitsReading self.new) }
         ensures few { OnOk result (OnSome self.new.parser (length known.now ≤ most_theorems)) }
     {
-        let raw_line = exact_line_of(alloc, line, words)?;
+        let raw_line = canonical_line_of(alloc, line, words)?;
         let taken = self.take_raw_line(alloc, known, &raw_line);
         mem::drop(raw_line);
         taken

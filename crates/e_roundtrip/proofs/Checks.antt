@@ -8,8 +8,8 @@ use Rattle.e_clause.specs.declared.cert.Version.TheVariants.{One}
 use Rattle.e_deriv.specs.Script.{size}
 use Rattle.e_line.specs.Reading.{first_word, first_title, first_name, no_word_left, some_names, two_names}
 use Rattle.e_line.specs.RawLines.{declare_of, sort_of, theorem_line_of, bare_line, raw_line_named, raw_line_of}
-use Rattle.e_line.specs.Literals.{sums_of, sides_of, lit_of_sides, lit_by_first_word, signed_of, lit_of}
-use Rattle.e_line.specs.Strict.{exact_line_of}
+use Rattle.e_line.specs.Literals.{sums_of, sides_of, lit_of_sides, lit_by_first_word, lit_after_not, lit_of}
+use Rattle.e_line.specs.CanonicalLines.{canonical_line_of}
 use Rattle.e_names.specs.Scope.{number_of_name, atom_in, lit_in, qed_in}
 use Rattle.e_book.specs.Open.{after_close}
 use Rattle.e_read.specs.Owing.{due_in_block}
@@ -37,7 +37,7 @@ short_lines : AreShort 262144 (codes "derivation 1" ∷ without_show)
 short_lines = ((refl, omega arith), ((refl, omega arith), ((refl, omega arith), ((refl, omega arith), ((refl, omega arith), ((refl, omega arith), tt))))))
 
 too_soon : piece_from [] 7 (at_start One) (numbered_lines 2 without_show) ≡ Err 3
-unfolding piece_from exact_line_of raw_line_of raw_line_named first_word first_title no_word_left theorem_line_of bare_line reserved_words
+unfolding piece_from canonical_line_of raw_line_of raw_line_named first_word first_title no_word_left theorem_line_of bare_line reserved_words
 too_soon = refl
 
 -- a text of which a line of the next block is malformed spells no proofs
@@ -64,7 +64,7 @@ short_too : AreShort 262144 (codes "derivation 1" ∷ without_certificate)
 short_too = ((refl, omega arith), ((refl, omega arith), ((refl, omega arith), ((refl, omega arith), ((refl, omega arith), ((refl, omega arith), ((refl, omega arith), ((refl, omega arith), tt))))))))
 
 still_owed : piece_from [] 9 (at_start One) (numbered_lines 2 without_certificate) ≡ Err 7
-unfolding piece_from exact_line_of raw_line_of raw_line_named first_word first_title first_name no_word_left theorem_line_of bare_line declare_of sort_of some_names two_names lit_of signed_of lit_by_first_word lit_of_sides sums_of sides_of lit_in atom_in number_of_name qed_in due_in_block after_close size reserved_words
+unfolding piece_from canonical_line_of raw_line_of raw_line_named first_word first_title first_name no_word_left theorem_line_of bare_line declare_of sort_of some_names two_names lit_of lit_after_not lit_by_first_word lit_of_sides sums_of sides_of lit_in atom_in number_of_name qed_in due_in_block after_close size reserved_words
 still_owed = refl
 
 nothing_certified : (n : ℕ) → SpellsProofs n certifies_nothing → ⊥

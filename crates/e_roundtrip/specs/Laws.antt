@@ -18,11 +18,11 @@ use Rattle.e_deriv.specs.Certified.{Certified}
 use Rattle.e_deriv.specs.Fitting.{is_small_statement}
 use Rattle.e_deriv.specs.Versions.{has_certs_of}
 use Rattle.e_deriv.specs.Written.{is_written_well}
-use Rattle.e_line.specs.HasSpelling.{AreNames}
+use Rattle.e_line.specs.Names.{AreNames}
 use Rattle.e_line.specs.declared.items.RawAs.{RawAs}
 use Rattle.e_line.specs.declared.items.RawItem.TheVariants.{As}
-use Rattle.e_line.specs.declared.items.Listing.{Listing}
-use Rattle.e_line.specs.declared.items.Listing.TheVariants.{Given, Show}
+use Rattle.e_line.specs.declared.items.ListHead.{ListHead}
+use Rattle.e_line.specs.declared.items.ListHead.TheVariants.{Given, Show}
 use Rattle.e_names.specs.declared.known.Known.{Known}
 use Rattle.e_names.specs.Fits.{NamesDiffer}
 use Rattle.e_names.specs.Scope.{scope_of_names, objects_of_sorts}
@@ -45,7 +45,7 @@ use Rattle.e_roundtrip.specs.Written.{derivation_text, entry_with}
 -- ---- what is written out is what is meant
 
 -- a head with these literals at the end of what a line gives or shows
-abbrev pub with_listed : Listing → List Lit → Head → Head
+abbrev pub with_listed : ListHead → List Lit → Head → Head
 with_listed Given ls h =
     record h { statement = record h.statement { given = h.statement.given ++ ls } }
 with_listed Show ls h =
@@ -56,7 +56,7 @@ with_listed line ls h = h
 -- the statement what its notion gives of the objects that it names, all of it, and nothing else.
 abbrev pub ItemsAddWhatTheyMean : Type 0
 ItemsAddWhatTheyMean =
-    (known : Known) (h : Head) (n : ℕ) (line : Listing) (raw : RawAs) (notion : Notion)
+    (known : Known) (h : Head) (n : ℕ) (line : ListHead) (raw : RawAs) (notion : Notion)
     (args : List Obj) (c : PartialItem) → AreNames h.names.points → AreNames h.names.lines
     → AreNames h.names.circles → NamesDiffer h.names → IsTrue (are_notions known.notions)
     → notion_of known.notions raw.title ≡ Some notion

@@ -31,9 +31,9 @@ use Rattle.e_names.specs.Fits.{NamesDiffer}
 use Rattle.e_book.specs.ParserViews.{entry_of_parser}
 use Rattle.e_book.specs.TheoremViews.{TheoremView}
 use Rattle.e_names.specs.Canonical.{raw_of}
-use Rattle.e_line.specs.Canonical.{sum_words, sums_words, signed_words, lit_words, lits_words, raw_line_words, line_of as written_line}
+use Rattle.e_line.specs.Canonical.{sum_words, sums_words, words_with_neg, lit_words, lits_words, raw_line_words, line_of as written_line}
 use Rattle.e_book.specs.Canonical.{script_raw_lines, names_of_proof, raw_lines_of}
-use Rattle.e_line.specs.HasSpelling.{AreNames}
+use Rattle.e_line.specs.Names.{AreNames}
 use Rattle.e_book.specs.HasSpelling.{HasSpelling}
 use Rattle.e_book.specs.Laws.{Shows}
 use Rattle.e_book.specs.Steps.{with_title, begin, step}
@@ -74,9 +74,9 @@ word_no_as w h = mono_word_differs w (codes "as") h no_as
 sums_no_as : (ws : List (List ℕ)) → Begins ws → begins_item ws ≡ false
 sums_no_as ws b = ap begins_item b.is ∙ word_no_as b.first b.word
 
-signed_no_as : (neg : Bool) (a : RawAtom) → AtomNamed a → begins_item (signed_words neg a) ≡ false
+signed_no_as : (neg : Bool) (a : RawAtom) → AtomNamed a → begins_item (words_with_neg neg a) ≡ false
 signed_no_as neg (raw.Equal x y) h = by neg where
-  by : (neg : Bool) → begins_item (signed_words neg (raw.Equal x y)) ≡ false
+  by : (neg : Bool) → begins_item (words_with_neg neg (raw.Equal x y)) ≡ false
   by true = word_no_as x (name_word x h.0)
   by false = word_no_as x (name_word x h.0)
 signed_no_as true (raw.SumsEqual x y) h = sums_no_as (sums_words x (codes "!=") y) (sum_begins x (codes "!=" ∷ sum_words y) h.left)

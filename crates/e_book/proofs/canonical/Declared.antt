@@ -23,7 +23,7 @@ use Rattle.e_book.specs.Steps.{with_declared, step, begin}
 use Rattle.e_book.specs.Book.{is_done}
 use Rattle.e_names.specs.Canonical.{name_at}
 use Rattle.e_book.specs.Canonical.{Group, group, grouped_before, sort_groups}
-use Rattle.e_line.specs.HasSpelling.{AreNames}
+use Rattle.e_line.specs.Names.{AreNames}
 use Rattle.e_names.proofs.distinct_names.Differ.{apart_at, has_not_in_front, not_before}
 use Rattle.e_names.proofs.read_lines.Building.{grows}
 use Rattle.e_line.proofs.read_again.Respelled.{GoodForm, as_read}

@@ -20,7 +20,7 @@ use Rattle.e_line.specs.LineLimits.{count_raw_monomials}
 use Rattle.e_book.specs.Steps.{with_terms, line_may_come, with_declared, after_line, step, begin, with_title, no_names}
 use Rattle.e_book.specs.Book.{is_done}
 use Rattle.e_names.specs.Canonical.{raw_of, given_raw_line, show_raw_line}
-use Rattle.e_line.specs.HasSpelling.{AreNames}
+use Rattle.e_line.specs.Names.{AreNames}
 use Rattle.e_line.proofs.read_again.Respelled.{GoodForm}
 use Rattle.e_names.proofs.resolution.Lookups.{InOrder}
 use Rattle.e_names.proofs.resolution.LitLookups.{lit_number_again, lit_named}

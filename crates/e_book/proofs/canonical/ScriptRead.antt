@@ -43,8 +43,8 @@ use Rattle.e_names.specs.Fits.{is_diagram_lit}
 use Rattle.e_book.specs.Fits.{NewNamesFit, few_facts, few_terms, few_blanks, has_well_formed_literals}
 use Rattle.e_names.specs.Canonical.{else_raw_line}
 use Rattle.e_book.specs.Canonical.{script_raw_lines}
-use Rattle.e_line.specs.HasSpelling.{AreNames}
-use Rattle.e_names.specs.HasSpelling.{is_named_by_title}
+use Rattle.e_line.specs.Names.{AreNames}
+use Rattle.e_names.specs.NamedByTitle.{is_named_by_title}
 use Rattle.e_book.specs.HasSpelling.{is_plain, names_theorems}
 use Rattle.e_names.proofs.resolution.Lookups.{InOrder, objects_named}
 use Rattle.e_names.proofs.resolution.LitLookups.{lit_named}

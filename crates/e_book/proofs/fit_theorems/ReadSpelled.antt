@@ -53,8 +53,8 @@ use Rattle.e_book.specs.TheoremViews.{TheoremView}
 use Rattle.e_book.specs.Grammar.{is_skipped, put_at}
 use Rattle.e_book.specs.Book.{line_step, is_last, is_done, read_from}
 use Rattle.e_book.specs.Fits.{Fits}
-use Rattle.e_line.specs.HasSpelling.{AreNames}
-use Rattle.e_names.specs.HasSpelling.{is_found_at, is_named_by_title}
+use Rattle.e_line.specs.Names.{AreNames}
+use Rattle.e_names.specs.NamedByTitle.{is_found_at, is_named_by_title}
 use Rattle.e_book.specs.HasSpelling.{HasSpelling, is_plain, names_theorems}
 use Rattle.e_book.proofs.parsers.Answered.{within_ok, passes, untaken, put_ok, answered, pair, first_is, skip_or, Answer}
 use Rattle.e_line.proofs.base.Bound.{bind_ok, ok_is, read_ok, each_length}

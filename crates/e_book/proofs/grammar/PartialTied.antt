@@ -12,8 +12,8 @@ use Rattle.e_line.specs.declared.literal.RawLit.{RawLit}
 use Rattle.e_line.specs.declared.raw_line.RawLine.{RawLine}
 use Rattle.e_line.specs.declared.raw_line.RawLine.TheVariants as rawlines
 use Rattle.e_line.specs.declared.items.RawItem.{RawItem}
-use Rattle.e_line.specs.declared.items.Listing.{Listing}
-use Rattle.e_line.specs.declared.items.Listing.TheVariants as listings
+use Rattle.e_line.specs.declared.items.ListHead.{ListHead}
+use Rattle.e_line.specs.declared.items.ListHead.TheVariants as listings
 use Rattle.e_line.specs.declared.items.BookLine.{BookLine}
 use Rattle.e_line.specs.declared.items.BookLine.TheVariants.{Plain, Define, Listed}
 use Rattle.e_names.specs.declared.known.Known.{Known}
@@ -32,7 +32,7 @@ use Rattle.e_names.specs.Scope.{right_count, fresh, lits_in}
 use Rattle.e_names.specs.Superposes.{placed_in, superpose_in}
 use Rattle.e_names.specs.Canonical.{raw_of}
 use Rattle.e_book.specs.Steps.{line_may_come, after_declare, after_show, with_title, begin, after_line, step}
-use Rattle.e_line.specs.Items.{book_line_of, listing_raw_line, is_show}
+use Rattle.e_line.specs.Items.{book_line_of, list_raw_line, is_show}
 use Rattle.e_names.specs.Meanings.{items_in}
 use Rattle.e_book.specs.Open.{Head, Open, Stating, Proving, BySuperposition}
 use Rattle.e_book.specs.Counts.{context_at, limits_kept, all_kept}
@@ -297,17 +297,17 @@ copied (Ok x) (Err k) f = refl
 copied (Err j) q f = refl
 
 ready_proving : (known : List TitledStatement) (d : TheoremParser) (args new : List (List ℕ)) → BlockOf known d
-    → SameFault (placed_in d.in_scope args >>= λ superposition. fresh d.in_scope [] new) (next known (Proving (head_of d) (around_of d.blocks) d.steps) (listing_raw_line (listings.Superpose args new) []))
+    → SameFault (placed_in d.in_scope args >>= λ superposition. fresh d.in_scope [] new) (next known (Proving (head_of d) (around_of d.blocks) d.steps) (list_raw_line (listings.Superpose args new) []))
 unfolding superpose_in
 ready_proving known d args new b =
-    subst (λ (ns : Names). SameFault (placed_in d.in_scope args >>= λ superposition. fresh d.in_scope [] new) (goes_on_there known ns (head_of d) (around_of d.blocks) d.steps (listing_raw_line (listings.Superpose args new) []))) b.counted.names
+    subst (λ (ns : Names). SameFault (placed_in d.in_scope args >>= λ superposition. fresh d.in_scope [] new) (goes_on_there known ns (head_of d) (around_of d.blocks) d.steps (list_raw_line (listings.Superpose args new) []))) b.counted.names
     (copied (placed_in d.in_scope args) (fresh d.in_scope [] new) (λ p. Proving (head_of d) (record { steps = d.steps; opener = BySuperposition p.0 new p.1 } ∷ around_of d.blocks) []))
 
 abbrev given_none : TheoremParser → Open
 given_none d = Stating (record (head_of d) { statement = record (statement_of_parser d) { given = d.given ++ [] } })
 
-ready_at : (known : List TitledStatement) (p : Section) (d : TheoremParser) (line : Listing) → Body known p d
-    → SameFault (right_count (line_may_come p (listing_raw_line line [])) >>= λ right. head_names d.in_scope line) (next known (open_there d p) (listing_raw_line line []))
+ready_at : (known : List TitledStatement) (p : Section) (d : TheoremParser) (line : ListHead) → Body known p d
+    → SameFault (right_count (line_may_come p (list_raw_line line [])) >>= λ right. head_names d.in_scope line) (next known (open_there d p) (list_raw_line line []))
 ready_at known places.Declaring d listings.Given b = placed true (none_made (statement_of_parser d)) (given_none d) (may_give places.Declaring d [] tt b.0)
 ready_at known places.Giving d listings.Given b = placed true (none_made (statement_of_parser d)) (given_none d) (may_give places.Giving d [] tt b.0)
 ready_at known places.Making d listings.Given b = placed false (none_made (statement_of_parser d)) (given_none d) (may_give places.Making d [] tt b.0)
@@ -348,7 +348,7 @@ IsOver places.Closed = Unit {0}
 IsOver places.Done = Unit {0}
 IsOver p = ⊥
 
-over : (p : Section) (line : Listing) → IsOver p → line_may_come p (listing_raw_line line []) ≡ true → ⊥
+over : (p : Section) (line : ListHead) → IsOver p → line_may_come p (list_raw_line line []) ≡ true → ⊥
 over places.Splitting listings.Given o may = absurd cc
 over places.Splitting listings.Show o may = absurd cc
 over places.Splitting listings.Claim o may = absurd cc
@@ -364,7 +364,7 @@ over places.Done (listings.Superpose args new) o may = absurd cc
 over p line o may = o
 
 -- where such a line may come, the names are those before the line
-names_at : (known : List TitledStatement) (p : Section) (d : TheoremParser) (line : Listing) → Body known p d → line_may_come p (listing_raw_line line []) ≡ true → names_at_place p d.names d.in_scope ≡ (context_at known (open_there d p)).names
+names_at : (known : List TitledStatement) (p : Section) (d : TheoremParser) (line : ListHead) → Body known p d → line_may_come p (list_raw_line line []) ≡ true → names_at_place p d.names d.in_scope ≡ (context_at known (open_there d p)).names
 names_at known places.Declaring d line b may = refl
 names_at known places.Giving d line b may = refl
 names_at known places.Making d line b may = refl
@@ -374,8 +374,8 @@ names_at known places.Splitting d line b may = absurd (over places.Splitting lin
 names_at known places.Closed d line b may = absurd (over places.Closed line tt may)
 names_at known places.Done d line b may = absurd (over places.Done line tt may)
 
-abbrev put_out : Known → Listing → List RawItem → Names → Result (RawLine × ℕ) FaultKind
-put_out known line is ns = items_in known.notions ns 0 is >>= λ p. Ok (listing_raw_line line (map (raw_of ns) p.0), p.1)
+abbrev put_out : Known → ListHead → List RawItem → Names → Result (RawLine × ℕ) FaultKind
+put_out known line is ns = items_in known.notions ns 0 is >>= λ p. Ok (list_raw_line line (map (raw_of ns) p.0), p.1)
 
 -- where it may not come, neither looks further
 after_place : {A : Type 0} (b : Bool) (r : Result (Unit {0}) FaultKind) (q : Result A FaultKind) (x y : Result (RawLine × ℕ) FaultKind) → SameFault (right_count b >>= λ right. r) q → (b ≡ true → x ≡ y) → ((right_count b >>= λ right. r) >>= λ ready. x) ≡ (q >>= λ there. y)
@@ -383,53 +383,53 @@ after_place true r q x y s e = same_then r q x y s (e refl)
 after_place false r (Ok a) x y s e = absurd s
 after_place false r (Err k) x y s e = ap (λ (z : FaultKind). fault z) s
 
-written_at : (known : Known) (p : Section) (d : TheoremParser) (line : Listing) (is : List RawItem) → d.section ≡ p → Body known.theorems p d → line_written_out known.notions d line is ≡ written_out known (open_there d p) line is
+written_at : (known : Known) (p : Section) (d : TheoremParser) (line : ListHead) (is : List RawItem) → d.section ≡ p → Body known.theorems p d → line_written_out known.notions d line is ≡ written_out known (open_there d p) line is
 written_at known p d line is at b =
-    subst (λ (q : Section). ((right_count (line_may_come q (listing_raw_line line [])) >>= λ right. head_names d.in_scope line) >>= λ ready. put_out known line is (names_at_place q d.names d.in_scope)) ≡ written_out known (open_there d p) line is) (sym at)
-    (after_place (line_may_come p (listing_raw_line line [])) (head_names d.in_scope line) (next known.theorems (open_there d p) (listing_raw_line line [])) (put_out known line is (names_at_place p d.names d.in_scope))
+    subst (λ (q : Section). ((right_count (line_may_come q (list_raw_line line [])) >>= λ right. head_names d.in_scope line) >>= λ ready. put_out known line is (names_at_place q d.names d.in_scope)) ≡ written_out known (open_there d p) line is) (sym at)
+    (after_place (line_may_come p (list_raw_line line [])) (head_names d.in_scope line) (next known.theorems (open_there d p) (list_raw_line line [])) (put_out known line is (names_at_place p d.names d.in_scope))
     (put_out known line is (context_at known.theorems (open_there d p)).names) (ready_at known.theorems p d line b) (λ may. ap (put_out known line is) (names_at known.theorems p d line b may)))
 
-written_alike : (known : Known) (d : TheoremParser) (line : Listing) (is : List RawItem) → Tied known.theorems d → line_written_out known.notions d line is ≡ written_out known (open_of d) line is
+written_alike : (known : Known) (d : TheoremParser) (line : ListHead) (is : List RawItem) → Tied known.theorems d → line_written_out known.notions d line is ≡ written_out known (open_of d) line is
 written_alike known d line is t = written_at known d.section d line is refl t.body
 
 -- ---- what is written out
 
 -- a line with the names of these objects, and how many literals are of notions
-abbrev out : Listing → Names → List Lit × ℕ → RawLine × ℕ
-out line ns p = (listing_raw_line line (map (raw_of ns) p.0), p.1)
+abbrev out : ListHead → Names → List Lit × ℕ → RawLine × ℕ
+out line ns p = (list_raw_line line (map (raw_of ns) p.0), p.1)
 
-record Out (known : Known) (ns : Names) (line : Listing) (is : List RawItem) (w : RawLine × ℕ) : Type 0 where
+record Out (known : Known) (ns : Names) (line : ListHead) (is : List RawItem) (w : RawLine × ℕ) : Type 0 where
   meanings : List Lit × ℕ
   read : items_in known.notions ns 0 is ≡ Ok meanings
   are : out line ns meanings ≡ w
 
-was_out : (known : Known) (o : Open) (line : Listing) (is : List RawItem) (w : RawLine × ℕ) → written_out known o line is ≡ Ok w → Out known (context_at known.theorems o).names line is w
+was_out : (known : Known) (o : Open) (line : ListHead) (is : List RawItem) (w : RawLine × ℕ) → written_out known o line is ≡ Ok w → Out known (context_at known.theorems o).names line is w
 was_out known o line is w e =
     let ns = (context_at known.theorems o).names in
-    let t = bind_ok (next known.theorems o (listing_raw_line line [])) (λ there. items_in known.notions ns 0 is >>= λ p. read_ok (out line ns p)) w e in
+    let t = bind_ok (next known.theorems o (list_raw_line line [])) (λ there. items_in known.notions ns 0 is >>= λ p. read_ok (out line ns p)) w e in
     let p = bind_ok (items_in known.notions ns 0 is) (λ p. read_ok (out line ns p)) w t.2 in
     record { meanings = p.0; read = p.1; are = ok_is (out line ns p.0) w p.2 }
 
-has : (line : Listing) (raws : List RawLit) → 0 < length raws → HasItems (listing_raw_line line raws)
+has : (line : ListHead) (raws : List RawLit) → 0 < length raws → HasItems (list_raw_line line raws)
 has listings.Given raws h = h
 has listings.Show raws h = h
 has listings.Claim raws h = tt
 has (listings.Superpose args new) raws h = tt
 
 -- it has a literal where one has to be
-out_has : (known : Known) (o : Open) (line : Listing) (is : List RawItem) (w : RawLine × ℕ) → are_notions known.notions ≡ true → 0 < length is → written_out known o line is ≡ Ok w → HasItems w.0
+out_has : (known : Known) (o : Open) (line : ListHead) (is : List RawItem) (w : RawLine × ℕ) → are_notions known.notions ≡ true → 0 < length is → written_out known o line is ≡ Ok w → HasItems w.0
 out_has known o line is w all some e =
     let ns = (context_at known.theorems o).names in
     let x = was_out known o line is w e in
     subst (λ (y : RawLine × ℕ). HasItems y.0) x.are (has line (map (raw_of ns) x.meanings.0) (items_some known.notions ns is x.meanings all some x.read))
 
-shown : (line : Listing) (raws : List RawLit) → is_show line ≡ true → listing_raw_line line raws ≡ rawlines.Show raws
+shown : (line : ListHead) (raws : List RawLit) → is_show line ≡ true → list_raw_line line raws ≡ rawlines.Show raws
 shown listings.Show raws s = refl
 shown listings.Given raws s = absurd cc
 shown listings.Claim raws s = absurd cc
 shown (listings.Superpose args new) raws s = absurd cc
 
-out_shows : (known : Known) (o : Open) (line : Listing) (is : List RawItem) (w : RawLine × ℕ) → is_show line ≡ true → written_out known o line is ≡ Ok w → (raws : List RawLit) × (w.0 ≡ rawlines.Show raws)
+out_shows : (known : Known) (o : Open) (line : ListHead) (is : List RawItem) (w : RawLine × ℕ) → is_show line ≡ true → written_out known o line is ≡ Ok w → (raws : List RawLit) × (w.0 ≡ rawlines.Show raws)
 out_shows known o line is w s e =
     let ns = (context_at known.theorems o).names in
     let x = was_out known o line is w e in
@@ -492,13 +492,13 @@ goes_on_stays known c e f show h = stays known c e c.defines f refl show h
 
 -- ---- a line with items, whole: it is written out, taken so, and counted
 
-abbrev take_out : Known → Held → Listing → List RawItem → Result Held FaultKind
+abbrev take_out : Known → Held → ListHead → List RawItem → Result Held FaultKind
 take_out known c line is = line_written_out known.notions c.parser line is >>= λ w. goes_on known c w.0 >>= λ e. add_count w.1 e
 
-abbrev take_said : Known → Open → PartialItem → Listing → List RawItem → Result PartialItem FaultKind
+abbrev take_said : Known → Open → PartialItem → ListHead → List RawItem → Result PartialItem FaultKind
 take_said known o n line is = written_out known o line is >>= λ w. plain_line known n w.0 >>= λ x. with_more_literals w.1 x
 
-listed_on : (known : Known) (c : Held) (o : Open) (line : Listing) (is : List RawItem) (n : PartialItem) → are_notions known.notions ≡ true → 0 < length is → TiedPartial known c → said_of c ≡ n → (c.defines ≡ true → is_show line ≡ true)
+listed_on : (known : Known) (c : Held) (o : Open) (line : ListHead) (is : List RawItem) (n : PartialItem) → are_notions known.notions ≡ true → 0 < length is → TiedPartial known c → said_of c ≡ n → (c.defines ≡ true → is_show line ≡ true)
     → line_written_out known.notions c.parser line is ≡ written_out known o line is → AlikePartial known (take_out known c line is) (take_said known o n line is)
 listed_on known c o line is n all some tied said show same =
     subst (λ (r : Result (RawLine × ℕ) FaultKind). AlikePartial known (r >>= λ w. goes_on known c w.0 >>= λ e. add_count w.1 e) (take_said known o n line is)) (sym same)
@@ -506,7 +506,7 @@ listed_on known c o line is n all some tied said show same =
     (λ w q. then_counted known w.1 (goes_on known c w.0) (plain_line known n w.0) (λ e h. goes_on_stays known c e w.0 (λ t. out_shows known o line is w (show t) q) h)
     (subst (λ (x : PartialItem). AlikePartial known (goes_on known c w.0) (plain_line known x w.0)) said (plain_alike known c w.0 tied (out_has known o line is w all some q)))))
 
-listed_stating : (known : Known) (c : Held) (line : Listing) (is : List RawItem) (s : Bool) → is_show line ≡ s → are_notions known.notions ≡ true → 0 < length is → IsStating c.parser.section → c.defines ≡ true → FewNamed c.parser.names → DefinitionTied c.parser.section c.parser
+listed_stating : (known : Known) (c : Held) (line : ListHead) (is : List RawItem) (s : Bool) → is_show line ≡ s → are_notions known.notions ≡ true → 0 < length is → IsStating c.parser.section → c.defines ≡ true → FewNamed c.parser.names → DefinitionTied c.parser.section c.parser
     → AlikePartial known (right_count s >>= λ right. take_out known c line is) (cond s (take_said known (Stating (head_of c.parser)) (InDefinition (head_of c.parser) c.expanded) line is) (Err Malformed))
 listed_stating known c line is true show all some st t few body =
     let d = c.parser in
@@ -517,23 +517,23 @@ listed_stating known c line is true show all some st t few body =
 listed_stating known c line is false show all some st t few body = refl
 
 -- after the last line of a definition
-not_ready : (known : Known) (c : Held) (line : Listing) (is : List RawItem) → c.parser.section ≡ places.Done → take_out known c line is ≡ Err Malformed
+not_ready : (known : Known) (c : Held) (line : ListHead) (is : List RawItem) → c.parser.section ≡ places.Done → take_out known c line is ≡ Err Malformed
 not_ready known c listings.Given is at = rw at refl
 not_ready known c listings.Show is at = rw at refl
 not_ready known c listings.Claim is at = rw at refl
 not_ready known c (listings.Superpose args new) is at = rw at refl
 
-listed_done : (known : Known) (c : Held) (line : Listing) (is : List RawItem) (s : Bool) → c.parser.section ≡ places.Done → AlikePartial known (right_count s >>= λ right. take_out known c line is) (Err Malformed)
+listed_done : (known : Known) (c : Held) (line : ListHead) (is : List RawItem) (s : Bool) → c.parser.section ≡ places.Done → AlikePartial known (right_count s >>= λ right. take_out known c line is) (Err Malformed)
 listed_done known c line is false at = refl
 listed_done known c line is true at = subst (λ (r : Result Held FaultKind). AlikePartial known r (Err Malformed)) (sym (not_ready known c line is at)) refl
 
-listed_there : (known : Known) (c : Held) (p : Section) (line : Listing) (is : List RawItem) → c.parser.section ≡ p → IsStating p → are_notions known.notions ≡ true → 0 < length is → c.defines ≡ true → FewNamed c.parser.names → DefinitionTied p c.parser
+listed_there : (known : Known) (c : Held) (p : Section) (line : ListHead) (is : List RawItem) → c.parser.section ≡ p → IsStating p → are_notions known.notions ≡ true → 0 < length is → c.defines ≡ true → FewNamed c.parser.names → DefinitionTied p c.parser
     → AlikePartial known (right_count (is_show line) >>= λ right. take_out known c line is) (after_listed_line known (definition_there c.parser c.expanded p) line is)
 listed_there known c p line is at st all some t few body =
     subst (λ (x : PartialItem). AlikePartial known (right_count (is_show line) >>= λ right. take_out known c line is) (after_listed_line known x line is)) (sym (definition_at c.parser c.expanded p st))
     (listed_stating known c line is (is_show line) refl all some (subst IsStating (sym at) st) t few (subst (λ (q : Section). DefinitionTied q c.parser) (sym at) body))
 
-listed_at : (known : Known) (c : Held) (p : Section) (line : Listing) (is : List RawItem) → c.parser.section ≡ p → are_notions known.notions ≡ true → 0 < length is → c.defines ≡ true → FewNamed c.parser.names → DefinitionTied p c.parser
+listed_at : (known : Known) (c : Held) (p : Section) (line : ListHead) (is : List RawItem) → c.parser.section ≡ p → are_notions known.notions ≡ true → 0 < length is → c.defines ≡ true → FewNamed c.parser.names → DefinitionTied p c.parser
     → AlikePartial known (right_count (is_show line) >>= λ right. take_out known c line is) (after_listed_line known (definition_there c.parser c.expanded p) line is)
 listed_at known c places.Done line is at all some t few body = listed_done known c line is (is_show line) at
 listed_at known c places.Declaring line is at all some t few body = listed_there known c places.Declaring line is at tt all some t few body
@@ -544,14 +544,14 @@ listed_at known c places.Proving line is at all some t few body = absurd body.0
 listed_at known c places.Splitting line is at all some t few body = absurd body.0
 listed_at known c places.Closed line is at all some t few body = absurd body.0
 
-listed_by : (b : Bool) (known : Known) (c : Held) (line : Listing) (is : List RawItem) → c.defines ≡ b → are_notions known.notions ≡ true → 0 < length is → TiedBy known.theorems b c.parser
+listed_by : (b : Bool) (known : Known) (c : Held) (line : ListHead) (is : List RawItem) → c.defines ≡ b → are_notions known.notions ≡ true → 0 < length is → TiedBy known.theorems b c.parser
     → AlikePartial known (right_count (not b || is_show line) >>= λ right. take_out known c line is) (after_listed_line known (said_by b c.parser c.expanded) line is)
 listed_by true known c line is t all some tied = listed_at known c c.parser.section line is refl all some t tied.0 tied.1
 listed_by false known c line is t all some tied =
     listed_on known c (open_of c.parser) line is (InTheorem (open_of c.parser) c.expanded) all some (subst (λ (b : Bool). TiedBy known.theorems b c.parser) (sym t) tied) (ap (λ (b : Bool). said_by b c.parser c.expanded) t)
     (λ h. absurd (let no : true ≡ false = sym h ∙ t in cc)) (written_alike known c.parser line is tied)
 
-listed_alike : (known : Known) (c : Held) (line : Listing) (is : List RawItem) → are_notions known.notions ≡ true → 0 < length is → TiedPartial known c → AlikePartial known (lists known c line is) (after_listed_line known (said_of c) line is)
+listed_alike : (known : Known) (c : Held) (line : ListHead) (is : List RawItem) → are_notions known.notions ≡ true → 0 < length is → TiedPartial known c → AlikePartial known (lists known c line is) (after_listed_line known (said_of c) line is)
 unfolding lists
 listed_alike known c line is all some tied = listed_by c.defines known c line is refl all some tied
 

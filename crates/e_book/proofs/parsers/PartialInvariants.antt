@@ -21,8 +21,8 @@ use Rattle.e_line.specs.declared.literal.RawLit.{RawLit}
 use Rattle.e_line.specs.declared.raw_line.RawLine.{RawLine}
 use Rattle.e_line.specs.declared.raw_line.RawLine.TheVariants as rawlines
 use Rattle.e_line.specs.declared.items.RawItem.{RawItem}
-use Rattle.e_line.specs.declared.items.Listing.{Listing}
-use Rattle.e_line.specs.declared.items.Listing.TheVariants as listings
+use Rattle.e_line.specs.declared.items.ListHead.{ListHead}
+use Rattle.e_line.specs.declared.items.ListHead.TheVariants as listings
 use Rattle.e_line.specs.declared.items.BookLine.{BookLine}
 use Rattle.e_line.specs.declared.items.BookLine.TheVariants.{Plain, Define, Listed}
 use Rattle.e_names.specs.declared.known.Known.{Known}
@@ -41,7 +41,7 @@ use Rattle.e_names.specs.Canonical.{raw_of}
 use Rattle.e_book.specs.ParserViews.{entry_of_parser}
 use Rattle.e_book.specs.Steps.{line_may_come, with_declared, after_declare, after_show, with_title, begin, step}
 use Rattle.e_book.specs.Book.{is_last}
-use Rattle.e_line.specs.Items.{book_line_of, listing_raw_line, is_show}
+use Rattle.e_line.specs.Items.{book_line_of, list_raw_line, is_show}
 use Rattle.e_names.specs.Meanings.{items_in}
 use Rattle.e_book.specs.Grammar.{Rest, is_skipped, put_at}
 use Rattle.e_book.specs.Definitions.{BookItem, OfTheorem, OfNotion, Answer, has_notion_title, IsWellFormedItem}
@@ -205,22 +205,22 @@ plain_kept known c e f g s h = plain_by c.defines known c e f refl g s h
 -- ---- a line with items
 
 -- what spelling would say of the line as it is written out
-out_said : (known : Known) (d : TheoremParser) (line : Listing) (is : List RawItem) (w : RawLine × ℕ) → are_notions known.notions ≡ true → ListingSaid line → 0 < length is → ItemsSaid is → line_written_out known.notions d line is ≡ Ok w → Said w.0
+out_said : (known : Known) (d : TheoremParser) (line : ListHead) (is : List RawItem) (w : RawLine × ℕ) → are_notions known.notions ≡ true → ListingSaid line → 0 < length is → ItemsSaid is → line_written_out known.notions d line is ≡ Ok w → Said w.0
 out_said known d line is w all head some said e =
     let ns = names_there d in
-    let out : List Lit × ℕ → RawLine × ℕ = λ p. (listing_raw_line line (map (raw_of ns) p.0), p.1) in
+    let out : List Lit × ℕ → RawLine × ℕ = λ p. (list_raw_line line (map (raw_of ns) p.0), p.1) in
     let r = bind_ok (is_ready d line) (λ ready. items_in known.notions ns 0 is >>= λ p. read_ok (out p)) w e in
     let p = bind_ok (items_in known.notions ns 0 is) (λ p. read_ok (out p)) w r.2 in
     subst (λ (x : RawLine × ℕ). Said x.0) (ok_is (out p.0) w p.2)
     (raw_line_of line (map (raw_of ns) p.0.0) head (items_some known.notions ns is p.0 all some p.1) (items_said known.notions ns 0 is p.0 all said p.1))
   where
-    raw_line_of : (line : Listing) (raws : List RawLit) → ListingSaid line → 0 < length raws → LitsSaid raws → Said (listing_raw_line line raws)
+    raw_line_of : (line : ListHead) (raws : List RawLit) → ListingSaid line → 0 < length raws → LitsSaid raws → Said (list_raw_line line raws)
     raw_line_of listings.Given raws h n s = s
     raw_line_of listings.Show raws h n s = (n, s)
     raw_line_of listings.Claim raws h n s = (n, s)
     raw_line_of (listings.Superpose args new) raws h n s = (h.0, h.1, n, s)
 
-listed_kept : (known : Known) (c e : PartialItem) (line : Listing) (is : List RawItem) → are_notions known.notions ≡ true → GoodPartial known c → ListingSaid line → 0 < length is → ItemsSaid is → lists known c line is ≡ Ok e → GoodPartial known e
+listed_kept : (known : Known) (c e : PartialItem) (line : ListHead) (is : List RawItem) → are_notions known.notions ≡ true → GoodPartial known c → ListingSaid line → 0 < length is → ItemsSaid is → lists known c line is ≡ Ok e → GoodPartial known e
 unfolding lists
 listed_kept known c e line is all g head some said h =
     let add : (RawLine × ℕ) → PartialItem → Result PartialItem FaultKind = λ w x. within (x.expanded + w.1) most_expanded limits.Expanded >>= λ few. read_ok (record x { expanded = x.expanded + w.1 }) in

@@ -13,7 +13,7 @@ use Rattle.e_line.specs.declared.fault.BookFault.{BookFault}
 use Rattle.e_line.specs.declared.fault.BookFault.TheVariants as faults
 use Rattle.e_book.specs.declared.partial_item.PartialItem.{PartialItem}
 use Rattle.e_book.specs.declared.item.Item.{Item}
-use Rattle.e_line.specs.Faults.{error_at, line_fault}
+use Rattle.e_line.specs.Faults.{error_at, book_fault_of}
 use Rattle.e_line.specs.Reading.{Fails, ◌>>=◌}
 use Rattle.e_names.specs.declared.known.Known.{Known}
 use Rattle.e_names.specs.Titled.{are_notions}
@@ -177,9 +177,9 @@ pub fails_at_line : (known : Known) (old mid new other : Option PartialItem) (li
 fails_at_line known old mid new other lines here left any l f e h taken =
     λ last more. subst (λ (q : Result Answer BookFault). BookFails f q) (sym (through known old mid lines here left l e h last more)) (taken last (left ++ more))
 
-pub fails_in_line : (known : Known) (old mid other : Option PartialItem) (lines here any : Rest) (f : LineFault) → here ≡ Err f ∷ [] → Alike known old lines mid here → ReadsOn known old lines (Err (line_fault f)) other any
+pub fails_in_line : (known : Known) (old mid other : Option PartialItem) (lines here any : Rest) (f : LineFault) → here ≡ Err f ∷ [] → Alike known old lines mid here → ReadsOn known old lines (Err (book_fault_of f)) other any
 fails_in_line known old mid other lines here any f e h =
-    λ last more. book_fails (line_fault f) (item_from known last old (lines ++ more)) (h last more ∙ ap (λ (ls : Rest). item_from known last mid (ls ++ more)) e)
+    λ last more. book_fails (book_fault_of f) (item_from known last old (lines ++ more)) (h last more ∙ ap (λ (ls : Rest). item_from known last mid (ls ++ more)) e)
 
 pub all_taken : (known : Known) (old new : Option PartialItem) (lines here left : Rest) → here ≡ [] → left ≡ [] → Alike known old lines new here → (HaveNoFault here → HaveNoFault lines) → ReadsOn known old lines (Ok None) new left
 all_taken known old new lines here left e none h good =

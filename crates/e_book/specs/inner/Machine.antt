@@ -13,8 +13,8 @@ use Rattle.e_line.specs.declared.fault.BookFault.TheVariants as faults
 use Rattle.e_line.specs.declared.raw_line.RawLine.{RawLine}
 use Rattle.e_line.specs.declared.raw_line.RawLine.TheVariants as rawlines
 use Rattle.e_line.specs.declared.items.RawItem.{RawItem}
-use Rattle.e_line.specs.declared.items.Listing.{Listing}
-use Rattle.e_line.specs.declared.items.Listing.TheVariants as listings
+use Rattle.e_line.specs.declared.items.ListHead.{ListHead}
+use Rattle.e_line.specs.declared.items.ListHead.TheVariants as listings
 use Rattle.e_line.specs.declared.items.BookLine.{BookLine}
 use Rattle.e_line.specs.declared.items.BookLine.TheVariants.{Plain, Define, Listed}
 use Rattle.e_book.specs.declared.item.Item.{Item}
@@ -24,7 +24,7 @@ use Rattle.e_book.specs.declared.parser.Section.TheVariants.{Showing, Proving, D
 use Rattle.e_book.specs.declared.parser.TheoremParser.{TheoremParser}
 use Rattle.e_book.specs.declared.partial_item.PartialItem.{PartialItem}
 use Rattle.e_line.specs.Reading.{◌>>=◌}
-use Rattle.e_line.specs.Faults.{line_fault}
+use Rattle.e_line.specs.Faults.{book_fault_of}
 use Rattle.e_names.specs.Taken.{is_taken}
 use Rattle.e_names.specs.Titled.{Titled, titled_notion}
 use Rattle.e_line.specs.Limits.{most_theorems, most_notions, most_expanded, within}
@@ -36,7 +36,7 @@ use Rattle.e_book.specs.Steps.{FitsScope}
 use Rattle.e_book.specs.Steps as steps
 use Rattle.e_book.specs.Book.{is_last}
 use Rattle.e_book.specs.ParserViews.{entry_of_parser}
-use Rattle.e_line.specs.Items.{book_line_of, listing_raw_line, is_show}
+use Rattle.e_line.specs.Items.{book_line_of, list_raw_line, is_show}
 use Rattle.e_names.specs.Meanings.{items_in}
 use Rattle.e_book.specs.Grammar.{Rest, is_skipped, put_at, BookFails}
 use Rattle.e_book.specs.Definitions.{BookItem, OfTheorem, OfNotion, Answer, has_notion_title}
@@ -53,22 +53,22 @@ abbrev pub names_there : TheoremParser → Names
 names_there d = names_at_place d.section d.names d.in_scope
 
 -- the names before the literals, from left to right
-abbrev pub head_names : Names → Listing → Result (Unit {0}) FaultKind
+abbrev pub head_names : Names → ListHead → Result (Unit {0}) FaultKind
 head_names ns (listings.Superpose args new) = placed_in ns args >>= λ superposition. fresh ns [] new
 head_names ns line = Ok tt
 
 -- a line that takes literals may come here
-abbrev pub is_ready : TheoremParser → Listing → Result (Unit {0}) FaultKind
+abbrev pub is_ready : TheoremParser → ListHead → Result (Unit {0}) FaultKind
 is_ready d line =
-    right_count (line_may_come d.section (listing_raw_line line []))
+    right_count (line_may_come d.section (list_raw_line line []))
     >>= λ right. head_names d.in_scope line
 
 -- the line with its items written out, and how many literals are of notions
-abbrev pub line_written_out : List Titled → TheoremParser → Listing → List RawItem
+abbrev pub line_written_out : List Titled → TheoremParser → ListHead → List RawItem
     → Result (RawLine × ℕ) FaultKind
 line_written_out notions d line is =
     is_ready d line >>= λ ready. items_in notions (names_there d) 0 is
-    >>= λ p. Ok (listing_raw_line line (map (raw_of (names_there d)) p.0), p.1)
+    >>= λ p. Ok (list_raw_line line (map (raw_of (names_there d)) p.0), p.1)
 
 -- ---- the first line
 
@@ -117,7 +117,7 @@ goes_on known c f =
     (steps.step known.theorems c.parser f >>= λ d. Ok (with_parser c d))
 
 -- it is taken as it is written out, and then the limit of what items mean
-unfoldable pub lists : Known → PartialItem → Listing → List RawItem → Result PartialItem FaultKind
+unfoldable pub lists : Known → PartialItem → ListHead → List RawItem → Result PartialItem FaultKind
 lists known c line is = do
   right ← right_count (not c.defines || is_show line)
   w ← line_written_out known.notions c.parser line is
@@ -164,7 +164,7 @@ at_end last (Some c) = Err (faults.Unended last)
 -- the next theorem or definition and the lines after it, or the first fault
 abbrev pub item_from : Known → ℕ → Option PartialItem → Rest → Answer
 item_from known last c [] = at_end last c
-item_from known last c (Err f ∷ lines) = Err (line_fault f)
+item_from known last c (Err f ∷ lines) = Err (book_fault_of f)
 item_from known last c (Ok line ∷ lines) =
     if is_skipped (tokens_of line.bytes) then item_from known last c lines else
     (put_at line.number (line_step known c (tokens_of line.bytes)) >>= λ d. if is_done d

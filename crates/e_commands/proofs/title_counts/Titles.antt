@@ -15,8 +15,8 @@ use Rattle.e_line.specs.declared.raw_line.RawLine.{RawLine}
 use Rattle.e_line.specs.declared.raw_line.RawLine.TheVariants as rawlines
 use Rattle.e_line.specs.declared.fault.What.TheVariants as limits
 use Rattle.e_line.specs.declared.items.RawItem.{RawItem}
-use Rattle.e_line.specs.declared.items.Listing.{Listing}
-use Rattle.e_line.specs.declared.items.Listing.TheVariants as listings
+use Rattle.e_line.specs.declared.items.ListHead.{ListHead}
+use Rattle.e_line.specs.declared.items.ListHead.TheVariants as listings
 use Rattle.e_line.specs.declared.items.BookLine.{BookLine}
 use Rattle.e_line.specs.declared.items.BookLine.TheVariants.{Plain, Define, Listed}
 use Rattle.e_names.specs.declared.known.Known.{Known}
@@ -164,7 +164,7 @@ not_title : (f : RawLine) → IsNoTitle (Ok f) → is_title_line (Plain f) ≡ f
 not_title (rawlines.Theorem t) h = absurd h
 not_title f h = refl
 
-listed_none : (line : Listing) (ws : List (List ℕ)) (l : BookLine) → line_with_items line ws ≡ Ok l → is_title_line l ≡ false
+listed_none : (line : ListHead) (ws : List (List ℕ)) (l : BookLine) → line_with_items line ws ≡ Ok l → is_title_line l ≡ false
 unfolding line_with_items
 listed_none line ws l e = of_reading (λ m. is_title_line m ≡ false) (items_of ws) (λ is. Listed line is) l (λ is k. refl) e
 
@@ -289,7 +289,7 @@ then_counted known b w c e =
     let d = bind_ok (plain_line known b w.0) (λ d. with_more_literals w.1 d) c e in
     plain_kind known b w.0 d.0 d.1 ∙ counted_kind w.1 d.0 c d.2
 
-listed_kind : (known : Known) (b : PartialItem) (line : Listing) (is : List RawItem) (c : PartialItem) → after_listed_line known b line is ≡ Ok c → says_theorem b ≡ says_theorem c
+listed_kind : (known : Known) (b : PartialItem) (line : ListHead) (is : List RawItem) (c : PartialItem) → after_listed_line known b line is ≡ Ok c → says_theorem b ≡ says_theorem c
 listed_kind known (InTheorem o n) line is c e =
     let w = bind_ok (written_out known o line is) (λ w. plain_line known (InTheorem o n) w.0 >>= λ d. with_more_literals w.1 d) c e in
     then_counted known (InTheorem o n) w.0 c w.2

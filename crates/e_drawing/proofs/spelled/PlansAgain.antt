@@ -11,7 +11,7 @@ use Rattle.e_figure.specs.declared.figure.Point.{Point}
 use Rattle.e_figure.specs.declared.figure.Straight.{Straight}
 use Rattle.e_figure.specs.declared.figure.Round.{Round}
 use Rattle.e_figure.specs.Figure.{FigureView, view_of_figure, has_direction, has_inside, is_small_point, is_small_line, is_small_circle}
-use Rattle.e_line.specs.HasSpelling.{AreNames}
+use Rattle.e_line.specs.Names.{AreNames}
 use Rattle.e_names.specs.Scope.{is_among_names, scope_of_names}
 use Rattle.e_names.specs.Fits.{is_diagram_lit}
 use Rattle.e_names.specs.Canonical.{raw_of}

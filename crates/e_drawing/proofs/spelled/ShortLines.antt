@@ -15,7 +15,7 @@ use Rattle.e_text.proofs.NumeralWords.{is_numeral-decimal}
 use Rattle.e_figure.specs.Figure.{is_small_number}
 use Rattle.e_line.specs.declared.literal.RawAtom.{RawAtom}
 use Rattle.e_line.specs.declared.literal.RawAtom.TheVariants as atoms
-use Rattle.e_line.specs.Canonical.{signed_words}
+use Rattle.e_line.specs.Canonical.{words_with_neg}
 use Rattle.e_line.specs.Literals.{is_diagram_raw}
 use Rattle.e_line.proofs.read_again.LitsAgain.{AtomNamed}
 use Rattle.e_drawing.specs.declared.raw.RawLine.{RawLine}
@@ -77,7 +77,7 @@ short_coordinate (negsuc n) h =
 -- ---- lines
 
 -- a literal after a word
-few_signed : (word : List ℕ) (neg : Bool) (a : RawAtom) → is_short word ≡ true → AtomNamed a → is_diagram_raw a ≡ true → are_few (word ∷ signed_words neg a) ≡ true
+few_signed : (word : List ℕ) (neg : Bool) (a : RawAtom) → is_short word ≡ true → AtomNamed a → is_diagram_raw a ≡ true → are_few (word ∷ words_with_neg neg a) ≡ true
 few_signed word true (atoms.On x y) s h d = rw (s, short_name x h.0, short_name y h.1) refl
 few_signed word false (atoms.On x y) s h d = rw (s, short_name x h.0, short_name y h.1) refl
 few_signed word true (atoms.Inside x y) s h d = rw (s, short_name x h.0, short_name y h.1) refl
@@ -97,8 +97,8 @@ few_signed word neg (atoms.SumsLess x y) s h d = absurd cc
 few_signed word neg (atoms.SumsAtMost x y) s h d = absurd cc
 
 -- the words of one literal are those of a list of it alone
-one_literal : (word : List ℕ) (neg : Bool) (a : RawAtom) → is_short word ≡ true → AtomNamed a → is_diagram_raw a ≡ true → are_few (word ∷ (signed_words neg a ++ [])) ≡ true
-one_literal word neg a s h d = ap (λ (ws : List (List ℕ)). are_few (word ∷ ws)) (append-nil (signed_words neg a)) ∙ few_signed word neg a s h d
+one_literal : (word : List ℕ) (neg : Bool) (a : RawAtom) → is_short word ≡ true → AtomNamed a → is_diagram_raw a ≡ true → are_few (word ∷ (words_with_neg neg a ++ [])) ≡ true
+one_literal word neg a s h d = ap (λ (ws : List (List ℕ)). are_few (word ∷ ws)) (append-nil (words_with_neg neg a)) ∙ few_signed word neg a s h d
 
 few_words : (f : RawLine) → LineDrawn f → are_few (plan_line_words f) ≡ true
 few_words raw.Figure h = refl

@@ -4,7 +4,7 @@ use Rattle.std.specs.Prelude.{◌==◌, ◌&&◌, ◌+◌, take, drop, MatchOpti
 use Rattle.std.specs.Borrow.{Bor}
 use Rattle.std.specs.Str.{bytes_eq}
 use Rattle.e_text.specs.Tokens.{with_spaces}
-use Rattle.e_line.specs.Comparison.{past_bytes, past_word, past, is_spelled, IsAfter}
+use Rattle.e_line.specs.SpellingCheck.{past_bytes, past_word, past, is_spelled, IsAfter}
 
 pub past_append : (text : Option (List ℕ)) (xs ys : List (List ℕ)) → past text (xs ++ ys) ≡ past (past text xs) ys
 past_append text [] ys = refl

@@ -7,10 +7,10 @@ use Rattle.e_text.specs.Tokens.{AreTokens}
 use Rattle.e_text.proofs.TokenWords.{is_token-name, is_token-title}
 use Rattle.e_line.specs.declared.fault.FaultKind.{FaultKind}
 use Rattle.e_line.specs.declared.applies.RawApply.{RawApply}
-use Rattle.e_line.specs.Reading.{◌>>=◌, first_word, first_title, cut_at}
-use Rattle.e_line.specs.Applies.{is_blank_argument, arguments_of, made_names, apply_of}
+use Rattle.e_line.specs.Reading.{◌>>=◌, first_word, first_title, cut_at, names_after}
+use Rattle.e_line.specs.Applies.{is_blank_argument, arguments_of, apply_of}
 use Rattle.e_line.specs.Canonical.{argument_word, made_words, apply_words}
-use Rattle.e_line.specs.HasSpelling.{AreNames}
+use Rattle.e_line.specs.Names.{AreNames}
 use Rattle.e_line.proofs.base.Bound.{name_differs}
 use Rattle.e_line.proofs.read_again.NamesAgain.{Without, named, titled, some_names_again, cut_again, uncut_again}
 use Rattle.e_line.proofs.read_again.LetsAgain.{names_tokens, append_tokens}
@@ -62,7 +62,7 @@ abbrev raw : List ℕ → List (Option (List ℕ)) → List (List ℕ) → RawAp
 raw title args new = record { title = title; args = args; new = new }
 
 abbrev apply_from : List ℕ → List (List ℕ) × List (List ℕ) × Bool → Result RawApply FaultKind
-apply_from title parts = arguments_of parts.0 >>= λ args. made_names parts.2 parts.1 >>= λ new. Ok (raw title args new)
+apply_from title parts = arguments_of parts.0 >>= λ args. names_after parts.2 parts.1 >>= λ new. Ok (raw title args new)
 
 titled_first : (title : List ℕ) (ws : List (List ℕ)) → is_title title ≡ true → apply_of (title ∷ ws) ≡ apply_from title (cut_at (codes "as") ws)
 unfolding apply_of first_title first_word

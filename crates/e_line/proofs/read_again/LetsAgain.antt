@@ -11,10 +11,10 @@ use Rattle.e_construct.specs.declared.construction.Shape.{Shape}
 use Rattle.e_construct.specs.Lines.{Piece, pieces, may_avoid}
 use Rattle.e_line.specs.declared.fault.FaultKind.{FaultKind}
 use Rattle.e_line.specs.declared.lets.RawLet.{RawLet}
-use Rattle.e_line.specs.Reading.{◌>>=◌, cut_at}
-use Rattle.e_line.specs.Lets.{new_words, argument_words, shapes_of, avoided_of, let_named, let_of}
+use Rattle.e_line.specs.Reading.{◌>>=◌, cut_at, names_after}
+use Rattle.e_line.specs.Lets.{new_words, argument_words, shapes_of, let_named, let_of}
 use Rattle.e_line.specs.Canonical.{filled_pieces, line_pieces, avoid_words, let_words}
-use Rattle.e_line.specs.HasSpelling.{AreNames}
+use Rattle.e_line.specs.Names.{AreNames}
 use Rattle.e_line.proofs.base.Bound.{name_differs}
 use Rattle.e_line.proofs.read_again.NamesAgain.{Without, names_again, some_names_again, cut_again, uncut_again}
 use Rattle.e_line.proofs.read_again.Pieces.{is_own_word, own_words_of, all_filled, new_again, arguments_again, alike, Filled, shapes_again, avoiding_shapes_again, first_alike}
@@ -98,7 +98,7 @@ named_by_all s new args avoid f =
     subst (λ (ss : List Shape). let_named ss (filled_pieces (pieces s) new args) avoid ≡ Ok (raw ss new args avoid)) (sym a.is) (named_by_first a.first a.more s new args avoid a.same f)
 
 abbrev let_from : List (List ℕ) × List (List ℕ) × Bool → Result RawLet FaultKind
-let_from parts = avoided_of parts.2 parts.1 >>= λ avoid. let_named (shapes_of parts.2 parts.0) parts.0 avoid
+let_from parts = names_after parts.2 parts.1 >>= λ avoid. let_named (shapes_of parts.2 parts.0) parts.0 avoid
 
 read_line : (s : Shape) (new args avoid : List (List ℕ)) → Filled s new args → AreNames avoid → may_have avoid s ≡ true
     → let_of (filled_pieces (pieces s) new args ++ avoid_words avoid) ≡ Ok (raw (alike s) new args avoid)

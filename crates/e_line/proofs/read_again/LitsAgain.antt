@@ -16,8 +16,8 @@ use Rattle.e_line.specs.declared.literal.RawLit.{RawLit}
 use Rattle.e_line.specs.declared.literal.RawAtom.{RawAtom}
 use Rattle.e_line.specs.declared.literal.RawAtom.TheVariants as raw
 use Rattle.e_line.specs.Reading.{each}
-use Rattle.e_line.specs.Literals.{relation_of, is_relation, single_name, sums_of, equal_sides, sides_of, negation_of, lit_of_sides, signed_lit, lit_by_first_word, signed_of, lit_of, is_diagram_raw, diagram_lit_of, is_semicolon, lits_of}
-use Rattle.e_line.specs.Canonical.{sum_words, sums_words, atom_words, signed_words, lit_words, more_words, lits_words}
+use Rattle.e_line.specs.Literals.{relation_of, is_relation, single_name, sums_of, equal_sides, sides_of, negation_of, lit_of_sides, lit_with_neg, lit_by_first_word, lit_after_not, lit_of, is_diagram_raw, diagram_lit_of, is_semicolon, lits_of}
+use Rattle.e_line.specs.Canonical.{sum_words, sums_words, atom_words, words_with_neg, lit_words, more_words, lits_words}
 use Rattle.e_line.proofs.read_again.NamesAgain.{Without, named, first_place}
 use Rattle.e_line.proofs.read_again.LetsAgain.{append_tokens}
 use Rattle.e_line.proofs.read_again.SumsAgain.{is_mono_word, mono_word_differs, SumNamed, sum_tokens, two_again, three_again, sum_again, sum_no_object, Begins, sum_begins, sum_all, name_word}
@@ -116,7 +116,7 @@ no_signs ms h = sum_all (λ w. is_relation w ≡ false) no_sign refl ms h
 -- ---- comparisons are read again
 
 comparison : (negated neg : Bool) (w : List ℕ) (s : Relation) (left right : List (List ℕ)) (a : RawAtom) → AllByRecursion (λ v. is_relation v ≡ false) left → relation_of w ≡ Some s
-    → negation_of negated s ≡ Ok neg → sides_of s left right ≡ Ok a → lit_of_sides negated (left ++ w ∷ right) ≡ Ok (signed_lit neg a)
+    → negation_of negated s ≡ Ok neg → sides_of s left right ≡ Ok a → lit_of_sides negated (left ++ w ∷ right) ≡ Ok (lit_with_neg neg a)
 unfolding lit_of_sides
 comparison negated neg w s left right a none is n sides =
     let all = left ++ w ∷ right in
@@ -133,31 +133,31 @@ sides_again x y h = rw (sum_again x h.left, sum_again y h.right, h.some) refl
 equal_again : (x y : List RawMono) → SidesNamed x y → equal_sides (single_name (sum_words x)) (single_name (sum_words y)) (sums_of (sum_words x) (sum_words y)) ≡ Ok (raw.SumsEqual x y)
 equal_again x y h = rw (sum_no_object x, sides_again x y h) refl
 
-sums_equal : (x y : List RawMono) → SidesNamed x y → lit_of_sides false (sums_words x (codes "=") y) ≡ Ok (signed_lit false (raw.SumsEqual x y))
+sums_equal : (x y : List RawMono) → SidesNamed x y → lit_of_sides false (sums_words x (codes "=") y) ≡ Ok (lit_with_neg false (raw.SumsEqual x y))
 unfolding sides_of
 sums_equal x y h = comparison false false (codes "=") signs.Equal (sum_words x) (sum_words y) (raw.SumsEqual x y) (no_signs x h.left) refl refl (equal_again x y h)
 
-sums_differ : (x y : List RawMono) → SidesNamed x y → lit_of_sides false (sums_words x (codes "!=") y) ≡ Ok (signed_lit true (raw.SumsEqual x y))
+sums_differ : (x y : List RawMono) → SidesNamed x y → lit_of_sides false (sums_words x (codes "!=") y) ≡ Ok (lit_with_neg true (raw.SumsEqual x y))
 unfolding sides_of
 sums_differ x y h = comparison false true (codes "!=") signs.Differ (sum_words x) (sum_words y) (raw.SumsEqual x y) (no_signs x h.left) refl refl (equal_again x y h)
 
-sums_less : (neg : Bool) (x y : List RawMono) → SidesNamed x y → lit_of_sides neg (sums_words x (codes "<") y) ≡ Ok (signed_lit neg (raw.SumsLess x y))
+sums_less : (neg : Bool) (x y : List RawMono) → SidesNamed x y → lit_of_sides neg (sums_words x (codes "<") y) ≡ Ok (lit_with_neg neg (raw.SumsLess x y))
 unfolding sides_of
 sums_less neg x y h = comparison neg neg (codes "<") signs.Less (sum_words x) (sum_words y) (raw.SumsLess x y) (no_signs x h.left) refl refl (rw (sides_again x y h) refl)
 
-sums_at_most : (x y : List RawMono) → SidesNamed x y → lit_of_sides false (sums_words x (codes "<=") y) ≡ Ok (signed_lit false (raw.SumsAtMost x y))
+sums_at_most : (x y : List RawMono) → SidesNamed x y → lit_of_sides false (sums_words x (codes "<=") y) ≡ Ok (lit_with_neg false (raw.SumsAtMost x y))
 unfolding sides_of
 sums_at_most x y h = comparison false false (codes "<=") signs.AtMost (sum_words x) (sum_words y) (raw.SumsAtMost x y) (no_signs x h.left) refl refl (rw (sides_again x y h) refl)
 
 objects_again : (neg : Bool) (w : List ℕ) (s : Relation) (x y : List ℕ) → is_name x ≡ true → is_name y ≡ true → relation_of w ≡ Some s → negation_of false s ≡ Ok neg
-    → sides_of s (x ∷ []) (y ∷ []) ≡ Ok (raw.Equal x y) → lit_of_sides false (x ∷ w ∷ y ∷ []) ≡ Ok (signed_lit neg (raw.Equal x y))
+    → sides_of s (x ∷ []) (y ∷ []) ≡ Ok (raw.Equal x y) → lit_of_sides false (x ∷ w ∷ y ∷ []) ≡ Ok (lit_with_neg neg (raw.Equal x y))
 objects_again neg w s x y hx hy is n sides = comparison false neg w s (x ∷ []) (y ∷ []) (raw.Equal x y) (no_sign x (name_word x hx), tt) is n sides
 
-objects_equal : (x y : List ℕ) → is_name x ≡ true → is_name y ≡ true → lit_of_sides false (x ∷ codes "=" ∷ y ∷ []) ≡ Ok (signed_lit false (raw.Equal x y))
+objects_equal : (x y : List ℕ) → is_name x ≡ true → is_name y ≡ true → lit_of_sides false (x ∷ codes "=" ∷ y ∷ []) ≡ Ok (lit_with_neg false (raw.Equal x y))
 unfolding sides_of
 objects_equal x y hx hy = objects_again false (codes "=") signs.Equal x y hx hy refl refl (rw (named x hx, named y hy) refl)
 
-objects_differ : (x y : List ℕ) → is_name x ≡ true → is_name y ≡ true → lit_of_sides false (x ∷ codes "!=" ∷ y ∷ []) ≡ Ok (signed_lit true (raw.Equal x y))
+objects_differ : (x y : List ℕ) → is_name x ≡ true → is_name y ≡ true → lit_of_sides false (x ∷ codes "!=" ∷ y ∷ []) ≡ Ok (lit_with_neg true (raw.Equal x y))
 unfolding sides_of
 objects_differ x y hx hy = objects_again true (codes "!=") signs.Differ x y hx hy refl refl (rw (named x hx, named y hy) refl)
 
@@ -183,34 +183,34 @@ plain_again ws l b e =
     ap lit_of b.is ∙ plain_first b.first b.rest l b.word (sym (ap (lit_of_sides false) b.is) ∙ e)
 
 not_first : (w : List ℕ) (ws : List (List ℕ)) (l : RawLit) → is_mono_word w ≡ true → lit_of_sides true (w ∷ ws) ≡ Ok l → lit_of (codes "not" ∷ w ∷ ws) ≡ Ok l
-unfolding lit_of signed_of
+unfolding lit_of lit_after_not
 not_first w ws l h e = related_compared true w ws h ∙ e
 
 not_again : (ws : List (List ℕ)) (l : RawLit) → Begins ws → lit_of_sides true ws ≡ Ok l → lit_of (codes "not" ∷ ws) ≡ Ok l
 not_again ws l b e =
     ap (λ (v : List (List ℕ)). lit_of (codes "not" ∷ v)) b.is ∙ not_first b.first b.rest l b.word (sym (ap (lit_of_sides true) b.is) ∙ e)
 
-signed_again : (neg : Bool) (a : RawAtom) → AtomNamed a → MaySign neg a → lit_of (signed_words neg a) ≡ Ok (signed_lit neg a)
-unfolding lit_of signed_of lit_by_first_word
+signed_again : (neg : Bool) (a : RawAtom) → AtomNamed a → MaySign neg a → lit_of (words_with_neg neg a) ≡ Ok (lit_with_neg neg a)
+unfolding lit_of lit_after_not lit_by_first_word
 signed_again false (raw.On x y) h s = rw (two_again x y h.0 h.1) refl
 signed_again false (raw.Inside x y) h s = rw (two_again x y h.0 h.1) refl
 signed_again false (raw.Center x y) h s = rw (two_again x y h.0 h.1) refl
 signed_again false (raw.Between x y z) h s = rw (three_again x y z h.0 h.1 h.2) refl
 signed_again false (raw.Same x y z) h s = rw (three_again x y z h.0 h.1 h.2) refl
 signed_again false (raw.Meets x y) h s = rw (two_again x y h.0 h.1) refl
-signed_again false (raw.Equal x y) h s = plain_first x (codes "=" ∷ y ∷ []) (signed_lit false (raw.Equal x y)) (name_word x h.0) (objects_equal x y h.0 h.1)
-signed_again false (raw.SumsEqual x y) h s = plain_again (sums_words x (codes "=") y) (signed_lit false (raw.SumsEqual x y)) (sum_begins x (codes "=" ∷ sum_words y) h.left) (sums_equal x y h)
-signed_again false (raw.SumsLess x y) h s = plain_again (sums_words x (codes "<") y) (signed_lit false (raw.SumsLess x y)) (sum_begins x (codes "<" ∷ sum_words y) h.left) (sums_less false x y h)
-signed_again false (raw.SumsAtMost x y) h s = plain_again (sums_words x (codes "<=") y) (signed_lit false (raw.SumsAtMost x y)) (sum_begins x (codes "<=" ∷ sum_words y) h.left) (sums_at_most x y h)
+signed_again false (raw.Equal x y) h s = plain_first x (codes "=" ∷ y ∷ []) (lit_with_neg false (raw.Equal x y)) (name_word x h.0) (objects_equal x y h.0 h.1)
+signed_again false (raw.SumsEqual x y) h s = plain_again (sums_words x (codes "=") y) (lit_with_neg false (raw.SumsEqual x y)) (sum_begins x (codes "=" ∷ sum_words y) h.left) (sums_equal x y h)
+signed_again false (raw.SumsLess x y) h s = plain_again (sums_words x (codes "<") y) (lit_with_neg false (raw.SumsLess x y)) (sum_begins x (codes "<" ∷ sum_words y) h.left) (sums_less false x y h)
+signed_again false (raw.SumsAtMost x y) h s = plain_again (sums_words x (codes "<=") y) (lit_with_neg false (raw.SumsAtMost x y)) (sum_begins x (codes "<=" ∷ sum_words y) h.left) (sums_at_most x y h)
 signed_again true (raw.On x y) h s = rw (two_again x y h.0 h.1) refl
 signed_again true (raw.Inside x y) h s = rw (two_again x y h.0 h.1) refl
 signed_again true (raw.Center x y) h s = rw (two_again x y h.0 h.1) refl
 signed_again true (raw.Between x y z) h s = rw (three_again x y z h.0 h.1 h.2) refl
 signed_again true (raw.Same x y z) h s = rw (three_again x y z h.0 h.1 h.2) refl
 signed_again true (raw.Meets x y) h s = rw (two_again x y h.0 h.1) refl
-signed_again true (raw.Equal x y) h s = plain_first x (codes "!=" ∷ y ∷ []) (signed_lit true (raw.Equal x y)) (name_word x h.0) (objects_differ x y h.0 h.1)
-signed_again true (raw.SumsEqual x y) h s = plain_again (sums_words x (codes "!=") y) (signed_lit true (raw.SumsEqual x y)) (sum_begins x (codes "!=" ∷ sum_words y) h.left) (sums_differ x y h)
-signed_again true (raw.SumsLess x y) h s = not_again (sums_words x (codes "<") y) (signed_lit true (raw.SumsLess x y)) (sum_begins x (codes "<" ∷ sum_words y) h.left) (sums_less true x y h)
+signed_again true (raw.Equal x y) h s = plain_first x (codes "!=" ∷ y ∷ []) (lit_with_neg true (raw.Equal x y)) (name_word x h.0) (objects_differ x y h.0 h.1)
+signed_again true (raw.SumsEqual x y) h s = plain_again (sums_words x (codes "!=") y) (lit_with_neg true (raw.SumsEqual x y)) (sum_begins x (codes "!=" ∷ sum_words y) h.left) (sums_differ x y h)
+signed_again true (raw.SumsLess x y) h s = not_again (sums_words x (codes "<") y) (lit_with_neg true (raw.SumsLess x y)) (sum_begins x (codes "<" ∷ sum_words y) h.left) (sums_less true x y h)
 signed_again true (raw.SumsAtMost x y) h s = absurd s
 
 pub lit_again : (l : RawLit) → LitNamed l → lit_of (lit_words l) ≡ Ok l
@@ -250,7 +250,7 @@ atom_without (raw.SumsEqual x y) h = sums_without x y (codes "=") refl h
 atom_without (raw.SumsLess x y) h = sums_without x y (codes "<") refl h
 atom_without (raw.SumsAtMost x y) h = sums_without x y (codes "<=") refl h
 
-signed_without : (neg : Bool) (a : RawAtom) → AtomNamed a → Without (codes ";") (signed_words neg a)
+signed_without : (neg : Bool) (a : RawAtom) → AtomNamed a → Without (codes ";") (words_with_neg neg a)
 signed_without false a h = atom_without a h
 signed_without true (raw.Equal x y) h = (name_no_part x h.0, (refl, (name_no_part y h.1, tt)))
 signed_without true (raw.SumsEqual x y) h = sums_without x y (codes "!=") refl h
@@ -299,7 +299,7 @@ atom_tokens (raw.SumsEqual x y) h = sums_tokens x y (codes "=") (refl, tt) h
 atom_tokens (raw.SumsLess x y) h = sums_tokens x y (codes "<") (refl, tt) h
 atom_tokens (raw.SumsAtMost x y) h = sums_tokens x y (codes "<=") (refl, tt) h
 
-signed_tokens : (neg : Bool) (a : RawAtom) → AtomNamed a → AreTokens (signed_words neg a)
+signed_tokens : (neg : Bool) (a : RawAtom) → AtomNamed a → AreTokens (words_with_neg neg a)
 signed_tokens false a h = atom_tokens a h
 signed_tokens true (raw.Equal x y) h = (is_token-name x h.0, (refl, (is_token-name y h.1, tt)))
 signed_tokens true (raw.SumsEqual x y) h = sums_tokens x y (codes "!=") (refl, tt) h

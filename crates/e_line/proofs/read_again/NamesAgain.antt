@@ -7,7 +7,7 @@ use Rattle.std.proofs.lemmas.List.{take_at, drop_at, drop-drop, take_all, drop_a
 use Rattle.std.proofs.lemmas.List.Sums.{position_or_len_is}
 use Rattle.e_text.specs.Names.{is_name, is_title, name_of, title_of}
 use Rattle.e_line.specs.Reading.{cut_at, names_of, some_names}
-use Rattle.e_line.specs.HasSpelling.{AreNames}
+use Rattle.e_line.specs.Names.{AreNames}
 use Rattle.e_line.proofs.base.Bound.{same_bytes}
 
 pub named : (w : List ℕ) → is_name w ≡ true → name_of w ≡ Some w

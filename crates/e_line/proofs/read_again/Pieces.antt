@@ -12,7 +12,7 @@ use Rattle.e_construct.specs.Shapes.{shape_row}
 use Rattle.e_construct.specs.Lines.{Piece, New, Argument, Word, pieces, all_shapes, may_avoid, count_new, count_arguments}
 use Rattle.e_line.specs.Lets.{are_words_of, new_words, argument_words, is_line_of, shapes_of}
 use Rattle.e_line.specs.Canonical.{filled_pieces}
-use Rattle.e_line.specs.HasSpelling.{AreNames}
+use Rattle.e_line.specs.Names.{AreNames}
 use Rattle.e_line.proofs.base.Bound.{same_bytes, name_differs}
 
 -- ---- the words of pieces

@@ -13,7 +13,7 @@ use Rattle.e_line.specs.Reading.{◌>>=◌, first_word, first_title, no_word_lef
 use Rattle.e_line.specs.Literals.{is_diagram_raw, diagram_lit_of}
 use Rattle.e_line.specs.RawLines.{declare_of, sort_of, made_of, by_of, theorem_line_of, bare_line, raw_line_named, raw_line_of}
 use Rattle.e_line.specs.Canonical.{lit_words, sort_word, raw_line_words}
-use Rattle.e_line.specs.HasSpelling.{AreNames}
+use Rattle.e_line.specs.Names.{AreNames}
 use Rattle.e_line.proofs.base.Bound.{name_differs}
 use Rattle.e_line.proofs.read_again.NamesAgain.{Without, titled, names_again, some_names_again, cut_again}
 use Rattle.e_line.proofs.read_again.LitsAgain.{LitNamed, LitsNamed, lit_again, diagram_again, lits_again}

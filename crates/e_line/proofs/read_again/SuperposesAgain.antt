@@ -7,7 +7,7 @@ use Rattle.e_text.proofs.TokenWords.{is_token-name}
 use Rattle.e_line.specs.declared.superposes.RawSuperpose.{RawSuperpose}
 use Rattle.e_line.specs.Superposes.{superpose_pieces, raw_superpose_of, superpose_of}
 use Rattle.e_line.specs.Canonical.{filled_pieces, lits_words, superpose_words}
-use Rattle.e_line.specs.HasSpelling.{AreNames}
+use Rattle.e_line.specs.Names.{AreNames}
 use Rattle.e_line.proofs.read_again.NamesAgain.{names_again}
 use Rattle.e_line.proofs.read_again.Pieces.{own_words, all_filled, new_again, arguments_again, filled_again, length-filled}
 use Rattle.e_line.proofs.read_again.LetsAgain.{own_word_token, append_tokens}

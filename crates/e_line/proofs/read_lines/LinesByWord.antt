@@ -8,16 +8,17 @@ use Rattle.e_text.specs.Names.{is_title, name_of}
 use Rattle.e_line.specs.declared.fault.FaultKind.{FaultKind}
 use Rattle.e_line.specs.declared.items.RawItem.{RawItem}
 use Rattle.e_line.specs.declared.items.RawItem.TheVariants.{Literal, As}
-use Rattle.e_line.specs.declared.items.Listing.{Listing}
-use Rattle.e_line.specs.declared.items.Listing.TheVariants as listings
+use Rattle.e_line.specs.declared.items.ListHead.{ListHead}
+use Rattle.e_line.specs.declared.items.ListHead.TheVariants as listings
 use Rattle.e_line.specs.declared.items.BookLine.{BookLine}
 use Rattle.e_line.specs.declared.items.BookLine.TheVariants.{Plain, Define, Listed}
 use Rattle.e_line.specs.Reading.{◌>>=◌, or_malformed, each, first_title, no_word_left, names_of}
 use Rattle.e_line.specs.Literals.{is_semicolon, lit_of}
+use Rattle.e_line.specs.declared.lets.Slot.TheVariants as slots
 use Rattle.e_line.specs.Lets.{are_words_of, new_words, argument_words}
 use Rattle.e_line.specs.Superposes.{superpose_pieces}
 use Rattle.e_line.specs.RawLines.{raw_line_named, raw_line_of}
-use Rattle.e_line.specs.HasSpelling.{AreNames}
+use Rattle.e_line.specs.Names.{AreNames}
 use Rattle.e_line.specs.Items.{is_as, as_of, item_of, items_of, has_item, define_of, placing_of, line_with_items, line_named, book_line_of}
 use Rattle.e_line.proofs.base.Bound.{bind_ok, ok_is, read_ok, each_length}
 use Rattle.e_line.proofs.base.Choices.{either, passed, of_reading}
@@ -26,7 +27,7 @@ use Rattle.e_line.proofs.read_lines.TitlesOfWords.{title_said, names_said, words
 use Rattle.e_line.proofs.read_lines.ItemsOfWords.{ItemSaid, ItemsSaid}
 
 -- the new names of a superposition are two names
-abbrev pub ListingSaid : Listing → Type 0
+abbrev pub ListingSaid : ListHead → Type 0
 ListingSaid (listings.Superpose args new) = AreNames new × (length new ≡ 2)
 ListingSaid line = Unit {0}
 
@@ -62,7 +63,7 @@ items_said ws is e =
 
 -- ---- lines
 
-listed_said : (words : List (List ℕ)) (line : Listing) (ws : List (List ℕ)) (l : BookLine) → ListingSaid line → line_with_items line ws ≡ Ok l → LineSaid words l
+listed_said : (words : List (List ℕ)) (line : ListHead) (ws : List (List ℕ)) (l : BookLine) → ListingSaid line → line_with_items line ws ≡ Ok l → LineSaid words l
 unfolding line_with_items
 listed_said words line ws l h e = of_reading (LineSaid words) (items_of ws) (λ is. Listed line is) l (λ is k. (h, (items_said ws is k).0, (items_said ws is k).1)) e
 
@@ -72,14 +73,14 @@ define_said words ws l e =
     let t = bind_ok (first_title ws) (λ t. no_word_left t.1 >>= λ none. read_ok (Define t.0)) l e in
     of_reading (LineSaid words) (no_word_left t.0.1) (λ none. Define t.0.0) l (λ none k. title_said ws t.0 t.1) t.2
 
-placing_said : (head : List (List ℕ)) (line : Listing) → placing_of head ≡ Ok line → ListingSaid line
+placing_said : (head : List (List ℕ)) (line : ListHead) → placing_of head ≡ Ok line → ListingSaid line
 unfolding placing_of
 placing_said head line e =
     let news = new_words superpose_pieces head in
     let arguments = argument_words superpose_pieces head in
     let b = passed (are_words_of superpose_pieces head) (names_of news >>= λ new. names_of arguments >>= λ args. read_ok (listings.Superpose args new)) line e in
     let n = bind_ok (names_of news) (λ new. names_of arguments >>= λ args. read_ok (listings.Superpose args new)) line b.1 in
-    let count : length n.0 ≡ 2 = each_length (λ w. or_malformed (name_of w)) news n.0 n.1 ∙ words_count true superpose_pieces head b.0 in
+    let count : length n.0 ≡ 2 = each_length (λ w. or_malformed (name_of w)) news n.0 n.1 ∙ words_count slots.New superpose_pieces head b.0 in
     of_reading ListingSaid (names_of arguments) (λ args. listings.Superpose args n.0) line (λ args k. (names_said news n.0 n.1, count)) n.2
 
 plain_said : (w : List ℕ) (ws : List (List ℕ)) (l : BookLine) → (raw_line_named w ws >>= λ f. read_ok (Plain f)) ≡ Ok l → LineSaid (w ∷ ws) l

@@ -19,7 +19,7 @@ use Rattle.e_line.specs.declared.literal.RawAtom.{RawAtom}
 use Rattle.e_line.specs.declared.literal.RawAtom.TheVariants as raw
 use Rattle.e_line.specs.Reading.{◌>>=◌, each}
 use Rattle.e_line.specs.Sums.{term_named, term_of, coefficient_of, counted_term, mono_of, is_plus, is_zero, sum_of}
-use Rattle.e_line.specs.Literals.{is_relation, single_name, sums_of, equal_sides, sides_of, negation_of, sign_first, lit_of_sides, signed_lit, lit_of, is_diagram_raw, diagram_lit_of, is_semicolon, lits_of}
+use Rattle.e_line.specs.Literals.{is_relation, single_name, sums_of, equal_sides, sides_of, negation_of, relation_first, lit_of_sides, lit_with_neg, lit_of, is_diagram_raw, diagram_lit_of, is_semicolon, lits_of}
 use Rattle.e_line.proofs.base.Bound.{bind_ok, ok_is, read_ok}
 use Rattle.e_line.proofs.base.Choices.{passed}
 use Rattle.e_line.proofs.read_lines.LitsByWord.{OfEachRelation, lit_by_word}
@@ -159,10 +159,10 @@ compared_said : (negated : Bool) (ws : List (List ℕ)) (l : RawLit) → lit_of_
 unfolding lit_of_sides
 compared_said negated ws l e =
     let n = position_or_len is_relation ws in
-    let s = bind_ok (sign_first (drop n ws)) (λ s. negation_of negated s.0 >>= λ neg. sides_of s.0 (take n ws) s.1 >>= λ a. read_ok (signed_lit neg a)) l e in
-    let neg = bind_ok (negation_of negated s.0.0) (λ neg. sides_of s.0.0 (take n ws) s.0.1 >>= λ a. read_ok (signed_lit neg a)) l s.2 in
-    let a = bind_ok (sides_of s.0.0 (take n ws) s.0.1) (λ a. read_ok (signed_lit neg.0 a)) l neg.2 in
-    subst LitSaid (ok_is (signed_lit neg.0 a.0) l a.2) (sides_said s.0.0 (take n ws) s.0.1 a.0 a.1)
+    let s = bind_ok (relation_first (drop n ws)) (λ s. negation_of negated s.0 >>= λ neg. sides_of s.0 (take n ws) s.1 >>= λ a. read_ok (lit_with_neg neg a)) l e in
+    let neg = bind_ok (negation_of negated s.0.0) (λ neg. sides_of s.0.0 (take n ws) s.0.1 >>= λ a. read_ok (lit_with_neg neg a)) l s.2 in
+    let a = bind_ok (sides_of s.0.0 (take n ws) s.0.1) (λ a. read_ok (lit_with_neg neg.0 a)) l neg.2 in
+    subst LitSaid (ok_is (lit_with_neg neg.0 a.0) l a.2) (sides_said s.0.0 (take n ws) s.0.1 a.0 a.1)
 
 -- ---- literals
 

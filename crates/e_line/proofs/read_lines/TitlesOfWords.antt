@@ -4,8 +4,9 @@ use Rattle.std.proofs.lemmas.Bool.{and_parts}
 use Rattle.e_text.specs.Names.{is_name, is_title, name_of, title_of}
 use Rattle.e_construct.specs.Lines.{Piece}
 use Rattle.e_line.specs.Reading.{◌>>=◌, or_malformed, first_word, first_title, names_of}
-use Rattle.e_line.specs.Lets.{is_word_of, are_words_of, is_place, words_at}
-use Rattle.e_line.specs.HasSpelling.{AreNames}
+use Rattle.e_line.specs.declared.lets.Slot.{Slot}
+use Rattle.e_line.specs.Lets.{is_word_of, are_words_of, is_slot, words_in_slots}
+use Rattle.e_line.specs.Names.{AreNames}
 use Rattle.e_line.proofs.base.Bound.{bind_ok, ok_is, read_ok}
 
 -- ---- forms
@@ -35,18 +36,18 @@ names_said (w ∷ ws) ns e =
     let n : is_name a.0 ≡ true = subst (λ (x : List ℕ). is_name x ≡ true) k.1 k.0 in
     subst AreNames (ok_is (a.0 ∷ b.0) ns b.2) (n, names_said ws b.0 b.1)
 
--- how many words a line has for the pieces of a kind
-abbrev places : Bool → List Piece → ℕ
-places new [] = 0
-places new (p ∷ ps) = cond (is_place new p) 1 0 + places new ps
+-- how many words a line has in the slots of a kind
+abbrev slots_of : Slot → List Piece → ℕ
+slots_of slot [] = 0
+slots_of slot (p ∷ ps) = cond (is_slot slot p) 1 0 + slots_of slot ps
 
 place_taken : (b : Bool) (w : List ℕ) (ws : List (List ℕ)) (n : ℕ) → length ws ≡ n → length (cond b (w ∷ ws) ws) ≡ cond b 1 0 + n
 place_taken true w ws n e = omega (arith, e)
 place_taken false w ws n e = omega (arith, e)
 
-pub words_count : (new : Bool) (ps : List Piece) (ws : List (List ℕ)) → are_words_of ps ws ≡ true → length (words_at new ps ws) ≡ places new ps
-words_count new [] [] h = refl
-words_count new [] (w ∷ ws) h = absurd cc
-words_count new (p ∷ ps) [] h = absurd cc
-words_count new (p ∷ ps) (w ∷ ws) h =
-    place_taken (is_place new p) w (words_at new ps ws) (places new ps) (words_count new ps ws (and_parts (is_word_of p w) (are_words_of ps ws) h).1)
+pub words_count : (slot : Slot) (ps : List Piece) (ws : List (List ℕ)) → are_words_of ps ws ≡ true → length (words_in_slots slot ps ws) ≡ slots_of slot ps
+words_count slot [] [] h = refl
+words_count slot [] (w ∷ ws) h = absurd cc
+words_count slot (p ∷ ps) [] h = absurd cc
+words_count slot (p ∷ ps) (w ∷ ws) h =
+    place_taken (is_slot slot p) w (words_in_slots slot ps ws) (slots_of slot ps) (words_count slot ps ws (and_parts (is_word_of p w) (are_words_of ps ws) h).1)

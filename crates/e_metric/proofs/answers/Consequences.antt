@@ -21,7 +21,7 @@ use Rattle.e_metric.specs.declared.consequence.Metric.{Metric}
 use Rattle.e_metric.specs.declared.consequence.Metric.TheVariants.{Yes, No, TooWide}
 use Rattle.e_metric.specs.declared.by_kind.ByKind.{ByKind}
 use Rattle.e_metric.specs.inner.AssignedValues.{values_of, step_value}
-use Rattle.e_metric.specs.MetricAnswers.{IsMetricAnswer, IsKindAnswer, IsConsequence, preferred_answer, joined, consequence_of, IfYes, IfNo}
+use Rattle.e_metric.specs.MetricAnswers.{IsMetricAnswer, IsKindAnswer, IsConsequence, preferred_answer, answer_of_both, consequence_of, IfYes, IfNo}
 use Rattle.e_metric.proofs.answers.JoinedAnswers.{of_areas, of_angles, of_segments}
 
 pub yes_follows : (facts : List Lit) (l : Lit) (m : Metric) → is_well_formed_metric (Some l) ≡ true → IsMetricAnswer facts (Some l) m → IfYes m (MetricConsequence facts l)
@@ -60,7 +60,7 @@ IsNo (TooWide w) = ⊥
 decided : (m : Metric) → (IsNo m → ⊥) → (v : List (Term × ℕ)) → m ≡ No v → ⊥
 decided m n v e = n (subst IsNo (sym e) tt)
 
-joined_preferred : (first second : Metric) → (IsNo first → ⊥) → joined first second ≡ preferred_answer first second
+joined_preferred : (first second : Metric) → (IsNo first → ⊥) → answer_of_both first second ≡ preferred_answer first second
 joined_preferred (Yes c) second n = refl
 joined_preferred (No v) second n = absurd (n tt)
 joined_preferred (TooWide w) second n = refl
@@ -89,21 +89,21 @@ module _ (facts : List Lit) (l : Lit) (good : list_all is_well_formed facts ≡ 
   by_areas x y (TooWide w) hx hy hr = of_areas facts (Some l) (No x) (No y) (TooWide w) hx hy hr x y refl refl (decided (TooWide w) (λ z. z))
 
   by_angles : (x : List (Term × ℕ)) (a r : Metric) → (IsNo a → ⊥) → IsKindAnswer Segment facts (Some l) (No x) → IsKindAnswer Angle facts (Some l) a → IsKindAnswer Area facts (Some l) r
-      → IsConsequence facts l (consequence_of (joined a r))
+      → IsConsequence facts l (consequence_of (answer_of_both a r))
   by_angles x a r n hx ha hr =
-      answer_without_values facts l (joined a r) (of_angles facts (Some l) (No x) a r hx ha hr x (joined a r) refl (decided a n) (joined_preferred a r n))
+      answer_without_values facts l (answer_of_both a r) (of_angles facts (Some l) (No x) a r hx ha hr x (answer_of_both a r) refl (decided a n) (joined_preferred a r n))
 
   by_segments : (s a r : Metric) → (IsNo s → ⊥) → IsKindAnswer Segment facts (Some l) s → IsKindAnswer Angle facts (Some l) a → IsKindAnswer Area facts (Some l) r
-      → IsConsequence facts l (consequence_of (joined (joined s a) r))
+      → IsConsequence facts l (consequence_of (answer_of_both (answer_of_both s a) r))
   by_segments s a r n hs ha hr =
       let first = joined_preferred s a n in
-      answer_without_values facts l (joined (joined s a) r)
-      (of_segments facts (Some l) s a r hs ha hr (joined s a) (joined (joined s a) r) (decided s n) first
-      (joined_preferred (joined s a) r (subst (λ m. IsNo m → ⊥) (sym first) (preferred_so s a n))))
+      answer_without_values facts l (answer_of_both (answer_of_both s a) r)
+      (of_segments facts (Some l) s a r hs ha hr (answer_of_both s a) (answer_of_both (answer_of_both s a) r) (decided s n) first
+      (joined_preferred (answer_of_both s a) r (subst (λ m. IsNo m → ⊥) (sym first) (preferred_so s a n))))
 
   -- what the three kinds say together
   pub joined_is : (s a r : Metric) → IsKindAnswer Segment facts (Some l) s → IsKindAnswer Angle facts (Some l) a → IsKindAnswer Area facts (Some l) r
-      → IsConsequence facts l (consequence_of (joined (joined s a) r))
+      → IsConsequence facts l (consequence_of (answer_of_both (answer_of_both s a) r))
   joined_is (No x) (No y) r hs ha hr = by_areas x y r hs ha hr
   joined_is (No x) (Yes c) r hs ha hr = by_angles x (Yes c) r (λ z. z) hs ha hr
   joined_is (No x) (TooWide w) r hs ha hr = by_angles x (TooWide w) r (λ z. z) hs ha hr

@@ -10,7 +10,7 @@ use Rattle.e_text.specs.Names.{is_name}
 use Rattle.e_names.specs.Scope.{is_among_names}
 use Rattle.e_names.specs.Canonical.{missing_name, name_at}
 use Rattle.e_names.specs.Fits.{are_distinct, are_disjoint_names}
-use Rattle.e_line.specs.HasSpelling.{AreNames}
+use Rattle.e_line.specs.Names.{AreNames}
 use Rattle.e_line.proofs.base.Bound.{same_bytes}
 
 turn_by : (t : Bool) (a b : List ℕ) → bytes_eq b a ≡ t → bytes_eq a b ≡ false → t ≡ false

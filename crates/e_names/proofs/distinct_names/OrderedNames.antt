@@ -26,7 +26,7 @@ use Rattle.e_line.specs.declared.literal.RawAtom.TheVariants as raw
 use Rattle.e_names.specs.Scope.{is_among_names, is_taken, fresh}
 use Rattle.e_names.specs.Fits.{are_distinct}
 use Rattle.e_names.specs.Canonical.{missing_name, name_at, raw_term, raw_sum, raw_atom, raw_signed, raw_of}
-use Rattle.e_line.specs.HasSpelling.{AreNames}
+use Rattle.e_line.specs.Names.{AreNames}
 use Rattle.e_names.proofs.distinct_names.Differ.{Apart, Apart-sym, has_not_in_front}
 use Rattle.e_names.proofs.distinct_names.Distinct.{distinct_last, untaken, passed}
 use Rattle.e_names.proofs.resolution.Lookups.{InOrder, ordered}

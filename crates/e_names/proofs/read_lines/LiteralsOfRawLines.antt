@@ -23,16 +23,17 @@ use Rattle.e_line.specs.declared.lets.RawLet.{RawLet}
 use Rattle.e_line.specs.declared.superposes.RawSuperpose.{RawSuperpose}
 use Rattle.e_line.specs.declared.raw_line.RawLine.{RawLine}
 use Rattle.e_line.specs.declared.raw_line.RawLine.TheVariants as rawlines
-use Rattle.e_line.specs.Reading.{◌>>=◌, or_malformed, first_title, cut_at, names_of, not_empty, some_names}
+use Rattle.e_line.specs.Reading.{◌>>=◌, or_malformed, first_title, cut_at, names_of, not_empty, some_names, names_after}
 use Rattle.e_line.specs.Literals.{lit_of, is_diagram_raw, is_semicolon, lits_of}
 use Rattle.e_line.specs.Superposes.{superpose_pieces, raw_superpose_of, superpose_of}
-use Rattle.e_line.specs.Lets.{are_words_of, new_words, argument_words, shapes_of, avoided_of, let_named, let_of}
+use Rattle.e_line.specs.declared.lets.Slot.TheVariants as slots
+use Rattle.e_line.specs.Lets.{are_words_of, new_words, argument_words, shapes_of, let_named, let_of}
 use Rattle.e_line.specs.declared.applies.RawApply.{RawApply}
-use Rattle.e_line.specs.Applies.{arguments_of, made_names as names_after_as, apply_of}
+use Rattle.e_line.specs.Applies.{arguments_of, apply_of}
 use Rattle.e_line.specs.RawLines.{raw_line_of}
 use Rattle.e_names.specs.Scope.{used_object, number_of_name, on_sort, line_meets, meets_from, equal_at, atom_in, negated_in, lit_in, args_in, by_in, known_rule, variables_of, right_count}
 use Rattle.e_names.specs.Fits.{is_diagram_atom, is_diagram_lit}
-use Rattle.e_line.specs.HasSpelling.{AreNames}
+use Rattle.e_line.specs.Names.{AreNames}
 use Rattle.e_line.proofs.base.Bound.{bind_ok, ok_is, read_ok, each_length}
 use Rattle.e_line.proofs.base.Choices.{passed}
 use Rattle.e_line.proofs.read_lines.RawLinesByWord.{OfEachForm, form_by_word}
@@ -81,10 +82,10 @@ unfolding let_of
 let_said ws l e =
     let parts = cut_at (codes "avoid") ws in
     let rest : List (List ℕ) → Result RawLet FaultKind = λ avoid. let_named (shapes_of parts.2 parts.0) parts.0 avoid in
-    let b = bind_ok (avoided_of parts.2 parts.1) rest l e in
+    let b = bind_ok (names_after parts.2 parts.1) rest l e in
     let_named_said (shapes_of parts.2 parts.0) parts.0 b.0 l b.2
 
-after_as_said : (b : Bool) (ws ns : List (List ℕ)) → names_after_as b ws ≡ Ok ns → AreNames ns
+after_as_said : (b : Bool) (ws ns : List (List ℕ)) → names_after b ws ≡ Ok ns → AreNames ns
 after_as_said false ws ns e = subst AreNames (ok_is [] ns e) tt
 after_as_said true ws ns e = some_names_said ws ns e
 
@@ -92,11 +93,11 @@ apply_said : (ws : List (List ℕ)) (a : RawApply) → apply_of ws ≡ Ok a → 
 unfolding apply_of
 apply_said ws a e =
     let made : List ℕ → List (Option (List ℕ)) → List (List ℕ) → RawApply = λ t args new. record { title = t; args = args; new = new } in
-    let rest : List ℕ × List (List ℕ) → Result RawApply FaultKind = λ t. arguments_of (cut_at (codes "as") t.1).0 >>= λ args. names_after_as (cut_at (codes "as") t.1).2 (cut_at (codes "as") t.1).1 >>= λ new. read_ok (made t.0 args new) in
+    let rest : List ℕ × List (List ℕ) → Result RawApply FaultKind = λ t. arguments_of (cut_at (codes "as") t.1).0 >>= λ args. names_after (cut_at (codes "as") t.1).2 (cut_at (codes "as") t.1).1 >>= λ new. read_ok (made t.0 args new) in
     let t = bind_ok (first_title ws) rest a e in
     let parts = cut_at (codes "as") t.0.1 in
-    let args = bind_ok (arguments_of parts.0) (λ args. names_after_as parts.2 parts.1 >>= λ new. read_ok (made t.0.0 args new)) a t.2 in
-    let new = bind_ok (names_after_as parts.2 parts.1) (λ new. read_ok (made t.0.0 args.0 new)) a args.2 in
+    let args = bind_ok (arguments_of parts.0) (λ args. names_after parts.2 parts.1 >>= λ new. read_ok (made t.0.0 args new)) a t.2 in
+    let new = bind_ok (names_after parts.2 parts.1) (λ new. read_ok (made t.0.0 args.0 new)) a args.2 in
     subst (λ (x : RawApply). (is_title x.title ≡ true) × AreNames x.new) (ok_is (made t.0.0 args.0 new.0) a new.2)
     (title_said ws t.0 t.1, after_as_said parts.2 parts.1 new.0 new.1)
 
@@ -115,7 +116,7 @@ head_said head rest s e =
     let n = bind_ok (names_of news) (λ new. names_of arguments >>= λ args. lits_of rest >>= λ ls. read_ok (made new args ls)) s b.1 in
     let a = bind_ok (names_of arguments) (λ args. lits_of rest >>= λ ls. read_ok (made n.0 args ls)) s n.2 in
     let l = bind_ok (lits_of rest) (λ ls. read_ok (made n.0 a.0 ls)) s a.2 in
-    let count : length n.0 ≡ 2 = each_length (λ w. or_malformed (name_of w)) news n.0 n.1 ∙ words_count true superpose_pieces head b.0 in
+    let count : length n.0 ≡ 2 = each_length (λ w. or_malformed (name_of w)) news n.0 n.1 ∙ words_count slots.New superpose_pieces head b.0 in
     let shown = some_lits_said rest l.0 l.1 in
     subst (λ (x : RawSuperpose). Said (rawlines.Superpose x)) (ok_is (made n.0 a.0 l.0) s l.2) (names_said news n.0 n.1, count, shown.0, shown.1)
 

@@ -16,8 +16,8 @@ use Rattle.e_names.specs.TitledStatements.{TitledStatement, theorem_of, title_at
 use Rattle.e_names.specs.Scope.{scope_of_names, object_as, fresh}
 use Rattle.e_names.specs.Applies.{entries_in, apply_in}
 use Rattle.e_names.specs.Canonical.{name_of_object, argument_name}
-use Rattle.e_line.specs.HasSpelling.{AreNames}
-use Rattle.e_names.specs.HasSpelling.{is_found_at, is_named_by_title}
+use Rattle.e_line.specs.Names.{AreNames}
+use Rattle.e_names.specs.NamedByTitle.{is_found_at, is_named_by_title}
 use Rattle.e_names.proofs.resolution.Lookups.{InOrder, object_again, objects_named}
 use Rattle.e_line.proofs.read_again.AppliesAgain.{AreArguments, ApplyNamed}
 

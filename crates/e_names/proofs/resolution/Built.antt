@@ -21,7 +21,7 @@ use Rattle.e_line.specs.declared.lets.RawLet.{RawLet}
 use Rattle.e_line.specs.Reading.{each}
 use Rattle.e_names.specs.Scope.{scope_of_names, used_object, arguments_in, construction, first_fitting, let_in}
 use Rattle.e_names.specs.Canonical.{name_of_object}
-use Rattle.e_line.specs.HasSpelling.{AreNames}
+use Rattle.e_line.specs.Names.{AreNames}
 use Rattle.e_names.proofs.read_lines.Building.{GoodLet}
 use Rattle.e_names.proofs.resolution.Lookups.{InOrder, object_used, objects_named}
 use Rattle.e_construct.proofs.Sorts.{names_all_objects}

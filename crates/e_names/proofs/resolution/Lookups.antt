@@ -16,7 +16,7 @@ use Rattle.e_deriv.specs.Naming.{names_of_sort}
 use Rattle.e_names.specs.Scope.{scope_of_names, used_object, number_of_sort, number_of_name, object_as, objects_as}
 use Rattle.e_names.specs.Canonical.{name_at, name_of_object}
 use Rattle.e_names.specs.Fits.{are_distinct, NamesDiffer}
-use Rattle.e_line.specs.HasSpelling.{AreNames}
+use Rattle.e_line.specs.Names.{AreNames}
 use Rattle.e_names.proofs.distinct_names.Differ.{Apart, Apart-sym, apart, apart_at, there, not_there, name_there}
 
 -- the names in scope are names, and each stands once

@@ -15,7 +15,7 @@ use Rattle.e_line.specs.declared.superposes.RawSuperpose.{RawSuperpose}
 use Rattle.e_names.specs.Scope.{scope_of_names, fresh}
 use Rattle.e_names.specs.Superposes.{superpose, placed_in, superpose_in}
 use Rattle.e_names.specs.Canonical.{raw_of, placed_names}
-use Rattle.e_line.specs.HasSpelling.{AreNames}
+use Rattle.e_line.specs.Names.{AreNames}
 use Rattle.e_line.proofs.read_again.SuperposesAgain.{SuperposeNamed}
 use Rattle.e_names.proofs.resolution.Lookups.{InOrder, number_again, named_at}
 use Rattle.e_names.proofs.literals.PlainLits.{Plain, lits_number_again, lits_named}

@@ -32,8 +32,8 @@ use Rattle.e_read.specs.declared.reader.Progress.TheVariants as turns
 use Rattle.e_read.specs.declared.reader.TextFault.{TextFault}
 use Rattle.e_read.specs.declared.reader.TextFault.TheVariants as faults
 use Rattle.e_cert.specs.CertLines.{cert_line_is_of}
-use Rattle.e_line.specs.Strict.{exact_line}
-use Rattle.e_cert.specs.Strict.{exact_cert_line}
+use Rattle.e_line.specs.CanonicalLines.{canonical_line}
+use Rattle.e_cert.specs.CanonicalCertLines.{canonical_cert_line}
 use Rattle.e_read.specs.inner.Strict.{is_apart}
 use Rattle.e_cert.specs.Owed.{after_cert_line, finish_certs}
 use Rattle.e_read.specs.inner.Needs.{due_of}
@@ -65,7 +65,7 @@ with_cert_line r m = after_cert_line r.owed m >>= λ o. Ok (record r { owed = o 
 unfoldable pub parser_after_certificate : BlockParser → List ℕ → List (List ℕ)
     → Result BlockParser FaultKind
 parser_after_certificate r line words =
-    exact_cert_line line words
+    canonical_cert_line line words
     >>= λ m. if cert_line_is_of r.version m then with_cert_line r m else Err Malformed
 
 -- what a line owes, with the names in scope before it
@@ -100,7 +100,7 @@ with_raw_line known r f =
 
 unfoldable pub parser_after_exact_line : List TitledStatement → BlockParser → List ℕ
     → Result BlockParser FaultKind
-parser_after_exact_line known r line = exact_line line >>= λ f. with_raw_line known r f
+parser_after_exact_line known r line = canonical_line line >>= λ f. with_raw_line known r f
 
 -- a line by its words: the sign `|` comes before each line of a certificate
 unfoldable pub parser_after_words : List TitledStatement → BlockParser → List ℕ → List (List ℕ)

@@ -61,7 +61,7 @@ use Rattle.e_cert.specs.declared.owed.Obligation.{Obligation}
 use Rattle.e_cert.specs.declared.owed.Obligation.TheVariants as due
 use Rattle.e_cert.specs.declared.kept.StepCerts.{StepCerts}
 use Rattle.e_cert.specs.declared.kept.StepCerts.TheVariants as kept
-use Rattle.e_line.specs.Strict.{is_direct, are_direct}
+use Rattle.e_line.specs.CanonicalLines.{is_canonical_lit, are_canonical_lits}
 use Rattle.e_read.specs.Owing.{needs_in}
 use Rattle.e_read.specs.inner.Needs.{shown_inside, shown_around, goal_or, open_goal, one_each, needs_of_raw_apply, needs_at_qed, due_of}
 use Rattle.e_spell.specs.Certificates.{certs_lines, contradiction_lines}
@@ -151,7 +151,7 @@ takes_by known d e r ns l owes ks ls p b s o h =
     subst (λ (x : Obligation). Takes known d e (rawlines.By r ns l) x ks ls) (ok_is due.Nothing owes o)
     (owing_nothing known d e (rawlines.By r ns l) ks ls (goes_as known d e (ks ++ []) ks (ls ++ line_of (rawlines.By r ns l) ∷ []) (ls ++ line_of (rawlines.By r ns l) ∷ []) (append-nil ks) refl goes))
 
-pub takes_hence : (known : List TitledStatement) (d e : TheoremParser) (r : RawLit) (owes : Obligation) (ks : List StepCerts) (ls : List (List ℕ)) → d.section ≡ Proving → BodySaid known Proving d ks ls → is_direct r ≡ true → Signed r
+pub takes_hence : (known : List TitledStatement) (d e : TheoremParser) (r : RawLit) (owes : Obligation) (ks : List StepCerts) (ls : List (List ℕ)) → d.section ≡ Proving → BodySaid known Proving d ks ls → is_canonical_lit r ≡ true → Signed r
     → due_of known d (rawlines.Hence r) ≡ Ok owes → after_line known d (rawlines.Hence r) ≡ Ok e → Takes known d e (rawlines.Hence r) owes ks ls
 unfolding after_line due_of
 takes_hence known d e r owes ks ls p b dir s o h =
@@ -264,7 +264,7 @@ inner_goes : (known : List TitledStatement) (d : TheoremParser) (op : BlockKind)
 inner_goes known d op n start terms ks js ls ms p b o =
     goes_on known d (inner_at d op n start terms) (ks ++ js) (ls ++ ms) refl p (blocks_open known (start_of d) d.blocks (outer_of d op) ks js start ls ms b o)
 
-claimed_goes : (known : List TitledStatement) (d e : TheoremParser) (raws : List RawLit) (ks : List StepCerts) (ls : List (List ℕ)) → d.section ≡ Proving → BodySaid known Proving d ks ls → are_direct raws ≡ true → AllSigned raws → after_claim d raws ≡ Ok e
+claimed_goes : (known : List TitledStatement) (d e : TheoremParser) (raws : List RawLit) (ks : List StepCerts) (ls : List (List ℕ)) → d.section ≡ Proving → BodySaid known Proving d ks ls → are_canonical_lits raws ≡ true → AllSigned raws → after_claim d raws ≡ Ok e
     → Goes known d e ks (ls ++ line_of (rawlines.Claim raws) ∷ [])
 unfolding after_claim
 claimed_goes known d e raws ks ls p b dir s h =
@@ -276,14 +276,14 @@ claimed_goes known d e raws ks ls p b dir s h =
     subst (λ (y : TheoremParser). Goes known d y ks (ls ++ line_of (rawlines.Claim raws) ∷ [])) (deeper_is d x.0 (kind.Claim shown.0) 0 x.1 ∙ ok_is x.0 e few.2)
     (goes_as known d (inside_block d (kind.Claim shown.0) 0) (ks ++ []) ks (ls ++ line_of (claim_raw_line d.in_scope shown.0) ∷ []) (ls ++ line_of (rawlines.Claim raws) ∷ []) (append-nil ks) (ap (λ (l : List (List ℕ)). ls ++ l) line) goes)
 
-pub takes_claim : (known : List TitledStatement) (d e : TheoremParser) (raws : List RawLit) (owes : Obligation) (ks : List StepCerts) (ls : List (List ℕ)) → d.section ≡ Proving → BodySaid known Proving d ks ls → are_direct raws ≡ true → AllSigned raws
+pub takes_claim : (known : List TitledStatement) (d e : TheoremParser) (raws : List RawLit) (owes : Obligation) (ks : List StepCerts) (ls : List (List ℕ)) → d.section ≡ Proving → BodySaid known Proving d ks ls → are_canonical_lits raws ≡ true → AllSigned raws
     → due_of known d (rawlines.Claim raws) ≡ Ok owes → after_line known d (rawlines.Claim raws) ≡ Ok e → Takes known d e (rawlines.Claim raws) owes ks ls
 unfolding after_line due_of
 takes_claim known d e raws owes ks ls p b dir s o h =
     subst (λ (y : Obligation). Takes known d e (rawlines.Claim raws) y ks ls) (ok_is due.Nothing owes o) (owing_nothing known d e (rawlines.Claim raws) ks ls (claimed_goes known d e raws ks ls p b dir s h))
 
 superposed_goes : (known : List TitledStatement) (d e : TheoremParser) (raw : RawSuperpose) (read : Superpose × List Lit) (cs : List Cert) (ks : List StepCerts) (ls : List (List ℕ)) → superpose_in d.in_scope raw ≡ Ok read
-    → certs_formed (scope_of_names d.in_scope) (superposing.needs_of_superposition read.0) cs ≡ true → length raw.new ≡ 2 → d.section ≡ Proving → BodySaid known Proving d ks ls → are_direct raw.shown ≡ true → AllSigned raw.shown
+    → certs_formed (scope_of_names d.in_scope) (superposing.needs_of_superposition read.0) cs ≡ true → length raw.new ≡ 2 → d.section ≡ Proving → BodySaid known Proving d ks ls → are_canonical_lits raw.shown ≡ true → AllSigned raw.shown
     → after_superpose d raw ≡ Ok e → Goes known d e (ks ++ kept.Certs cs ∷ []) (ls ++ line_of (rawlines.Superpose raw) ∷ certs_lines d.in_scope cs)
 unfolding after_superpose
 superposed_goes known d e raw read cs ks ls r c two p b dir s h =
@@ -312,7 +312,7 @@ superposed_goes known d e raw read cs ks ls r c two p b dir s h =
     (ap (λ (y : TheoremParser). at_end y n.0) (deeper_is d x.0 op (length (given q.0.0)) x.1) ∙ ok_is (at_end x.0 n.0) e n.2)
     (goes_as known d (inner_at d op (length (given q.0.0)) after n.0) (ks ++ kept.Certs cs ∷ []) (ks ++ kept.Certs cs ∷ []) (ls ++ lines) (ls ++ line_of (rawlines.Superpose raw) ∷ certs_lines ns cs) refl (ap (λ (l : List (List ℕ)). ls ++ l) line) goes)
 
-pub takes_superpose : (known : List TitledStatement) (d e : TheoremParser) (raw : RawSuperpose) (owes : Obligation) (ks : List StepCerts) (ls : List (List ℕ)) → length raw.new ≡ 2 → d.section ≡ Proving → BodySaid known Proving d ks ls → are_direct raw.shown ≡ true → AllSigned raw.shown
+pub takes_superpose : (known : List TitledStatement) (d e : TheoremParser) (raw : RawSuperpose) (owes : Obligation) (ks : List StepCerts) (ls : List (List ℕ)) → length raw.new ≡ 2 → d.section ≡ Proving → BodySaid known Proving d ks ls → are_canonical_lits raw.shown ≡ true → AllSigned raw.shown
     → due_of known d (rawlines.Superpose raw) ≡ Ok owes → after_line known d (rawlines.Superpose raw) ≡ Ok e → Takes known d e (rawlines.Superpose raw) owes ks ls
 unfolding after_line due_of
 takes_superpose known d e raw owes ks ls two p b dir s o h =
@@ -320,7 +320,7 @@ takes_superpose known d e raw owes ks ls two p b dir s o h =
     subst (λ (y : Obligation). Takes known d e (rawlines.Superpose raw) y ks ls) (ok_is (one_each (superposing.needs_of_superposition w.0.0)) owes w.2)
     (owing_certs known d e (rawlines.Superpose raw) (superposing.needs_of_superposition w.0.0) ks ls (λ cs c. superposed_goes known d e raw w.0 cs ks ls w.1 c two p b dir s h))
 
-split_goes : (known : List TitledStatement) (d e : TheoremParser) (r : RawLit) (ks : List StepCerts) (ls : List (List ℕ)) → d.section ≡ Proving → BodySaid known Proving d ks ls → is_direct r ≡ true → Signed r → after_cases d r ≡ Ok e
+split_goes : (known : List TitledStatement) (d e : TheoremParser) (r : RawLit) (ks : List StepCerts) (ls : List (List ℕ)) → d.section ≡ Proving → BodySaid known Proving d ks ls → is_canonical_lit r ≡ true → Signed r → after_cases d r ≡ Ok e
     → Goes known d e ks (ls ++ line_of (rawlines.Cases r) ∷ [])
 unfolding after_cases
 split_goes known d e r ks ls p b dir s h =
@@ -332,7 +332,7 @@ split_goes known d e r ks ls p b dir s h =
     (subst (λ (y : TheoremParser). Goes known d y ks (ls ++ line_of (rawlines.Cases r) ∷ [])) (deeper_is d x.0 (kind.First l.0) 1 x.1)
     (goes_as known d (inside_block d (kind.First l.0) 1) (ks ++ []) ks (ls ++ line_of (cases_raw_line d.in_scope l.0) ∷ []) (ls ++ line_of (rawlines.Cases r) ∷ []) (append-nil ks) (ap (λ (l : List (List ℕ)). ls ++ l) line) goes)) x.2
 
-pub takes_cases : (known : List TitledStatement) (d e : TheoremParser) (r : RawLit) (owes : Obligation) (ks : List StepCerts) (ls : List (List ℕ)) → d.section ≡ Proving → BodySaid known Proving d ks ls → is_direct r ≡ true → Signed r
+pub takes_cases : (known : List TitledStatement) (d e : TheoremParser) (r : RawLit) (owes : Obligation) (ks : List StepCerts) (ls : List (List ℕ)) → d.section ≡ Proving → BodySaid known Proving d ks ls → is_canonical_lit r ≡ true → Signed r
     → due_of known d (rawlines.Cases r) ≡ Ok owes → after_line known d (rawlines.Cases r) ≡ Ok e → Takes known d e (rawlines.Cases r) owes ks ls
 unfolding after_line due_of
 takes_cases known d e r owes ks ls p b dir s o h =

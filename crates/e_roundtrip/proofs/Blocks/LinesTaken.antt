@@ -31,7 +31,7 @@ use Rattle.e_read.specs.declared.reading.BlockParser.{BlockParser}
 use Rattle.e_clause.specs.declared.cert.Version.{Version}
 use Rattle.e_cert.specs.CertLines.{cert_line_text, cert_line_is_of}
 use Rattle.e_cert.proofs.FormsOfCertificates.{are_certs_of_version, AreOfVersion}
-use Rattle.e_line.specs.Strict.{is_strict_line, exact_line_of, exact_line}
+use Rattle.e_line.specs.CanonicalLines.{is_canonical_form, canonical_line_of, canonical_line}
 use Rattle.e_read.specs.inner.Strict.{is_apart}
 use Rattle.e_cert.specs.Owed.{after_cert_line, finish_certs}
 use Rattle.e_read.specs.inner.Needs.{due_of}
@@ -77,8 +77,8 @@ line_again (rawlines.Cases l) g = refl
 line_again rawlines.Else g = refl
 line_again rawlines.End g = refl
 
-pub strict_form_again : (f : RawLine) → GoodForm f → is_strict_line (as_read f) ≡ true → exact_line (line_of f) ≡ Ok (as_read f)
-unfolding exact_line_of
+pub strict_form_again : (f : RawLine) → GoodForm f → is_canonical_form (as_read f) ≡ true → canonical_line (line_of f) ≡ Ok (as_read f)
+unfolding canonical_line_of
 strict_form_again f g s =
     let same : bytes_eq (line_of f) (line_of (as_read f)) ≡ true = ap (bytes_eq (line_of f)) (line_again f g) ∙ same_bytes (line_of f) in
     rw (words_again f g, form_again f g, s, same) refl
@@ -180,14 +180,14 @@ cert_lines_taken known r d (words ∷ lines) last here going of fed = (
 
 -- ---- a line of the script with its certificates
 
-pub form_leads : (known : List TitledStatement) (r : BlockParser) (d e : TheoremParser) (ks : List StepCerts) (f : RawLine) (owed : Obligation) → Stands r d ks → GoodForm f → is_strict_line (as_read f) ≡ true → is_apart d (as_read f) ≡ true → due_of known d (as_read f) ≡ Ok owed
+pub form_leads : (known : List TitledStatement) (r : BlockParser) (d e : TheoremParser) (ks : List StepCerts) (f : RawLine) (owed : Obligation) → Stands r d ks → GoodForm f → is_canonical_form (as_read f) ≡ true → is_apart d (as_read f) ≡ true → due_of known d (as_read f) ≡ Ok owed
     → step known d (as_read f) ≡ Ok e → parser_after_words known r (line_of f) (tokens_of (line_of f)) ≡ Ok (record { version = r.version; parser = Some e; owed = owing d.in_scope owed None; kept = ks })
 unfolding with_raw_line owed_by parser_after_exact_line
 form_leads known r d e ks f owed s good strict apart due steps =
     ap (parser_after_words known r (line_of f)) (words_again f good) ∙ no_bar known r (line_of f) f
     ∙ rw (strict_form_again f good strict, s.settles, s.parser, apart, due, steps) (ap (λ (x : List StepCerts). Ok (record { version = r.version; parser = Some e; owed = owing d.in_scope owed None; kept = x })) s.kept)
 
-pub step_along : (known : List TitledStatement) (d e : TheoremParser) (f : RawLine) (owed : Obligation) (lines : List (List (List ℕ))) (k : Option StepCerts) → GoodForm f → is_strict_line (as_read f) ≡ true → is_apart d (as_read f) ≡ true → due_of known d (as_read f) ≡ Ok owed
+pub step_along : (known : List TitledStatement) (d e : TheoremParser) (f : RawLine) (owed : Obligation) (lines : List (List (List ℕ))) (k : Option StepCerts) → GoodForm f → is_canonical_form (as_read f) ≡ true → is_apart d (as_read f) ≡ true → due_of known d (as_read f) ≡ Ok owed
     → step known d (as_read f) ≡ Ok e → is_done e ≡ false → Keeps d.in_scope owed lines k → Along known d (line_of f ∷ map joined_words lines) e (option_to_list k)
 step_along known d e f owed lines k good strict apart due steps going keeps = λ r ks of s.
     let begun : BlockParser = record { version = r.version; parser = Some e; owed = owing d.in_scope owed None; kept = ks } in

@@ -38,7 +38,7 @@ use Rattle.e_cert.specs.declared.owed.Obligation.{Obligation}
 use Rattle.e_cert.specs.declared.owed.Obligation.TheVariants as due
 use Rattle.e_cert.specs.declared.kept.StepCerts.{StepCerts}
 use Rattle.e_cert.specs.declared.kept.StepCerts.TheVariants as kept
-use Rattle.e_line.specs.Strict.{are_direct, is_strict_line}
+use Rattle.e_line.specs.CanonicalLines.{are_canonical_lits, is_canonical_form}
 use Rattle.e_read.specs.inner.Strict.{is_apart}
 use Rattle.e_read.specs.inner.Needs.{one_each, needs_of_raw_apply, needs_at_qed, due_of}
 use Rattle.e_roundtrip.specs.Formed.{certs_formed}
@@ -178,17 +178,17 @@ puts_end known d e ks ls i h =
       body = (i.said, i.body, refl);
     })
 
-pub line_left : (known : List TitledStatement) (d e : TheoremParser) (f : RawLine) (owes : Obligation) (ks : List StepCerts) (ls : List (List ℕ)) → ParserSaid known d.section d ks ls → Read f → is_strict_line f ≡ true → is_apart d f ≡ true
+pub line_left : (known : List TitledStatement) (d e : TheoremParser) (f : RawLine) (owes : Obligation) (ks : List StepCerts) (ls : List (List ℕ)) → ParserSaid known d.section d ks ls → Read f → is_canonical_form f ≡ true → is_apart d f ≡ true
     → due_of known d f ≡ Ok owes → line_may_come d.section f ≡ true → after_line known d f ≡ Ok e → Leaves known d e f owes ks ls
 unfolding due_of
 line_left known d e (rawlines.Theorem t) owes ks ls g r s n o a h = absurd (no_title known d e t h)
 line_left known d e (rawlines.Declare sort ns) owes ks ls g r s n o a h = head_left known d e (rawlines.Declare sort ns) owes ks ls o (puts_declared known d e sort ns ks ls a g r n h)
 line_left known d e (rawlines.Given raws) owes ks ls g r s n o a h =
-    let b = and_parts (eqb (length raws) 1) (are_direct raws) s in
+    let b = and_parts (eqb (length raws) 1) (are_canonical_lits raws) s in
     head_left known d e (rawlines.Given raws) owes ks ls o (puts_given known d e raws ks ls a g b.0 b.1 r h)
 line_left known d e (rawlines.Made sort ns) owes ks ls g r s n o a h = head_left known d e (rawlines.Made sort ns) owes ks ls o (puts_made known d e sort ns ks ls a g r n h)
 line_left known d e (rawlines.Show raws) owes ks ls g r s n o a h =
-    let b = and_parts (eqb (length raws) 1) (are_direct raws) s in
+    let b = and_parts (eqb (length raws) 1) (are_canonical_lits raws) s in
     head_left known d e (rawlines.Show raws) owes ks ls o (puts_shown known d e raws ks ls a g b.0 b.1 r h)
 line_left known d e rawlines.Proof owes ks ls g r s n o a h = head_left known d e rawlines.Proof owes ks ls o (puts_proof known d e ks ls a g h)
 line_left known d e (rawlines.By rule ns l) owes ks ls g r s n o a h =
@@ -224,7 +224,7 @@ line_left known d e rawlines.Else owes ks ls g r s n o a h =
 line_left known d e rawlines.End owes ks ls g r s n o a h = head_left known d e rawlines.End owes ks ls o (puts_end known d e ks ls (at_end known d.section d ks ls a g) h)
 
 -- a line at its place
-pub step_left : (known : List TitledStatement) (d e : TheoremParser) (f : RawLine) (owes : Obligation) (ks : List StepCerts) (ls : List (List ℕ)) → ParserSaid known d.section d ks ls → Read f → is_strict_line f ≡ true → is_apart d f ≡ true
+pub step_left : (known : List TitledStatement) (d e : TheoremParser) (f : RawLine) (owes : Obligation) (ks : List StepCerts) (ls : List (List ℕ)) → ParserSaid known d.section d ks ls → Read f → is_canonical_form f ≡ true → is_apart d f ≡ true
     → due_of known d f ≡ Ok owes → step known d f ≡ Ok e → Leaves known d e f owes ks ls
 unfolding step
 step_left known d e f owes ks ls g r s n o h = let p = passes (line_may_come d.section f) (after_line known d f) e h in line_left known d e f owes ks ls g r s n o p.0 p.1

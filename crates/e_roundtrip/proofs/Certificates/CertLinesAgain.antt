@@ -18,10 +18,10 @@ use Rattle.e_line.specs.declared.sum.RawTerm.TheVariants as rawterms
 use Rattle.e_line.specs.declared.literal.RawAtom.{RawAtom}
 use Rattle.e_line.specs.declared.literal.RawAtom.TheVariants as raw
 use Rattle.e_line.specs.declared.literal.RawLit.{RawLit}
-use Rattle.e_line.specs.Canonical.{term_words, coefficient_words, mono_words, more_monos, sum_words, sums_words, signed_words, lit_words}
+use Rattle.e_line.specs.Canonical.{term_words, coefficient_words, mono_words, more_monos, sum_words, sums_words, words_with_neg, lit_words}
 use Rattle.e_line.specs.Reading.{◌>>=◌, first_title, first_word, no_word_left}
 use Rattle.e_line.specs.Literals.{lit_of, is_diagram_raw}
-use Rattle.e_line.specs.HasSpelling.{AreNames}
+use Rattle.e_line.specs.Names.{AreNames}
 use Rattle.e_line.proofs.base.Bound.{same_bytes}
 use Rattle.e_line.proofs.read_again.NamesAgain.{titled, names_again}
 use Rattle.e_line.proofs.read_again.SumsAgain.{TermNamed, term_again, term_tokens}
@@ -32,14 +32,14 @@ use Rattle.e_cert.specs.declared.cert_line.RawRow.TheVariants as rows
 use Rattle.e_cert.specs.declared.cert_line.CertLine.{CertLine}
 use Rattle.e_cert.specs.declared.cert_line.CertLine.TheVariants as certlines
 use Rattle.e_cert.specs.CertLines.{size_of, multiplier_of, place_of_digits, fact_row_of, fact_cert_line_of, raw_row_named, raw_row_of, may_differ, differs_of, transfer_of, row_cert_line_of, cert_line_named, cert_line_of, raw_row_words, cert_line_words, cert_line_text}
-use Rattle.e_line.specs.Strict.{is_direct}
-use Rattle.e_cert.specs.Strict.{is_strict_row, is_strict_cert_line, exact_cert_line}
+use Rattle.e_line.specs.CanonicalLines.{is_canonical_lit}
+use Rattle.e_cert.specs.CanonicalCertLines.{is_canonical_row, is_canonical_cert_line, canonical_cert_line}
 
 -- ---- what is known of the lines of certificates
 
 -- names where names stand
 abbrev pub RowNamed : RawRow → Type 0
-RowNamed (rows.Fact l) = LitNamed l × (is_direct l ≡ true)
+RowNamed (rows.Fact l) = LitNamed l × (is_canonical_lit l ≡ true)
 RowNamed (rows.Pos t) = TermNamed t
 RowNamed (rows.Top t) = TermNamed t
 RowNamed (rows.Least t) = TermNamed t
@@ -159,7 +159,7 @@ sums_two x sign y =
     let s = sum_some x in
     subst (λ (ws : List (List ℕ)). TwoWords (ws ++ sign ∷ sum_words y)) (sym s.are) (then_two s.rest s.first sign (sum_words y))
 
-atom_two : (neg : Bool) (a : RawAtom) → TwoWords (signed_words neg a)
+atom_two : (neg : Bool) (a : RawAtom) → TwoWords (words_with_neg neg a)
 atom_two true (raw.SumsEqual x y) = sums_two x (codes "!=") y
 atom_two false (raw.SumsEqual x y) = sums_two x (codes "=") y
 atom_two false (raw.SumsLess x y) = sums_two x (codes "<") y
@@ -271,7 +271,7 @@ cert_line_tokens_again m h = tokens_of-joined (codes "|" ∷ cert_line_words m) 
 
 -- ---- the line is spelled as its form is
 
-strict_row : (r : RawRow) → RowNamed r → is_strict_row r ≡ true
+strict_row : (r : RawRow) → RowNamed r → is_canonical_row r ≡ true
 strict_row (rows.Fact l) h = h.1
 strict_row rows.Goal h = refl
 strict_row (rows.Pos t) h = refl
@@ -282,7 +282,7 @@ strict_row rows.Above h = refl
 strict_row rows.Below h = refl
 strict_row (rows.FactAt k) h = refl
 
-strict : (m : CertLine) → CertLineNamed m → is_strict_cert_line m ≡ true
+strict : (m : CertLine) → CertLineNamed m → is_canonical_cert_line m ≡ true
 strict certlines.Fact h = refl
 strict certlines.Metric h = refl
 strict (certlines.FactAt k) h = refl
@@ -292,6 +292,6 @@ strict certlines.Sum h = refl
 strict (certlines.Differs r) h = strict_row r h.0
 strict (certlines.Row m r) h = strict_row r h.1
 
-pub strict_cert_line_again : (m : CertLine) → CertLineNamed m → exact_cert_line (cert_line_text m) (cert_line_words m) ≡ Ok m
-unfolding exact_cert_line
+pub strict_cert_line_again : (m : CertLine) → CertLineNamed m → canonical_cert_line (cert_line_text m) (cert_line_words m) ≡ Ok m
+unfolding canonical_cert_line
 strict_cert_line_again m h = rw (cert_line_again m h, strict m h, same_bytes (cert_line_text m)) refl

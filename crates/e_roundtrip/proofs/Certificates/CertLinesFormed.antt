@@ -47,7 +47,7 @@ use Rattle.e_cert.specs.declared.owed.Pending.{Pending}
 use Rattle.e_cert.specs.declared.kept.StepCerts.{StepCerts}
 use Rattle.e_cert.specs.declared.kept.StepCerts.TheVariants as kept
 use Rattle.e_cert.specs.CertLines.{limited_size, size_of, multiplier_of, raw_row_of, may_differ, bare_cert_line, differs_of, transfer_of, row_cert_line_of, cert_line_named, cert_line_of, cert_line_text, place_of_digits as place_in, fact_cert_line_of}
-use Rattle.e_cert.specs.Strict.{is_strict_cert_line, exact_cert_line}
+use Rattle.e_cert.specs.CanonicalCertLines.{is_canonical_cert_line, canonical_cert_line}
 use Rattle.e_cert.specs.Owed.{has_more, certificate, row_put, sum_begun, differs_put, sums_ended, transfer_put, part_put, metric_put, takes_metric, clash_put, count_others, transfer_at, open_transfer_in, transfer_begun, with_sums_ended, sums_after, due_after, after_cert_line, kept_of, finish_certs}
 use Rattle.e_cert.specs.Rows.{row_in, transfer_rule}
 use Rattle.e_cert.proofs.FormsOfCertLines.{CertLineSaid, strict_said}
@@ -281,11 +281,11 @@ after_cert_line_formed o (certlines.Row m raw) new h said signed numbers same =
     to_owed (sums_after o s.0) new (record { certs = h.certs; rows_of_sums = row_put_formed (scope_of_names o.names) o.sums m r.0 s.0 h.rows_of_sums (row_formed o.names m raw r.0 numbers said r.1) s.1 }) s.2
 
 -- a line of a certificate by its bytes
-pub strict_formed : (o : Pending) (line : List ℕ) (ws : List (List ℕ)) (m : CertLine) (new : Pending) → OwedFormed o → exact_cert_line line ws ≡ Ok m → after_cert_line o m ≡ Ok new → OwedFormed new
-unfolding exact_cert_line
+pub strict_formed : (o : Pending) (line : List ℕ) (ws : List (List ℕ)) (m : CertLine) (new : Pending) → OwedFormed o → canonical_cert_line line ws ≡ Ok m → after_cert_line o m ≡ Ok new → OwedFormed new
+unfolding canonical_cert_line
 strict_formed o line ws m new h e same =
-    let x = bind_ok (cert_line_of ws) (λ m. cond (is_strict_cert_line m && bytes_eq line (cert_line_text m)) (read_ok m) (Err Malformed)) m e in
-    let is : x.0 ≡ m = ok_is x.0 m (passed (is_strict_cert_line x.0 && bytes_eq line (cert_line_text x.0)) (read_ok x.0) m x.2).1 in
+    let x = bind_ok (cert_line_of ws) (λ m. cond (is_canonical_cert_line m && bytes_eq line (cert_line_text m)) (read_ok m) (Err Malformed)) m e in
+    let is : x.0 ≡ m = ok_is x.0 m (passed (is_canonical_cert_line x.0 && bytes_eq line (cert_line_text x.0)) (read_ok x.0) m x.2).1 in
     after_cert_line_formed o m new h (strict_said line ws m e) (subst CertLineSigned is (cert_line_signed ws x.0 x.1)) (subst Numbers is (cert_line_numbers ws x.0 x.1)) same
 
 -- ---- what is kept

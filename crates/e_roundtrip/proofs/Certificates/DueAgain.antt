@@ -30,14 +30,14 @@ use Rattle.e_names.proofs.read_lines.Building.{GoodLet}
 use Rattle.e_names.proofs.resolution.Built.{of_sorts_length, let_number_again}
 use Rattle.e_names.proofs.resolution.Superposed.{GoodSuperpose, superpose_number_again}
 use Rattle.e_names.proofs.resolution.Applied.{GoodApply, apply_number_again}
-use Rattle.e_line.specs.Strict.{are_direct}
+use Rattle.e_line.specs.CanonicalLines.{are_canonical_lits}
 use Rattle.e_read.specs.Owing.{needs_in}
 use Rattle.e_read.specs.inner.Needs.{open_goal, one_each, needs_of_raw_apply as needs_of_line, needs_at_qed, due_of}
 use Rattle.e_roundtrip.proofs.Certificates.RowsAgain.{lit_direct}
 
 -- ---- what is written directly
 
-pub all_direct : (ns : Names) (ls : List Lit) → are_direct (map (raw_of ns) ls) ≡ true
+pub all_direct : (ns : Names) (ls : List Lit) → are_canonical_lits (map (raw_of ns) ls) ≡ true
 all_direct ns [] = refl
 all_direct ns (l ∷ ls) = rw (lit_direct ns l, all_direct ns ls) refl
 

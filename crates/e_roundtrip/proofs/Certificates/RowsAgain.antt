@@ -21,7 +21,7 @@ use Rattle.e_names.proofs.literals.ShortLits.{few_again}
 use Rattle.e_cert.specs.declared.cert_line.RawRow.{RawRow}
 use Rattle.e_cert.specs.declared.cert_line.RawRow.TheVariants as rows
 use Rattle.e_cert.specs.CertLines.{raw_row_words}
-use Rattle.e_line.specs.Strict.{is_direct}
+use Rattle.e_line.specs.CanonicalLines.{is_canonical_lit}
 use Rattle.e_cert.specs.Rows.{row_in}
 use Rattle.e_spell.specs.Certificates.{row_words as spelled_row}
 use Rattle.e_roundtrip.proofs.Certificates.CertLinesAgain.{RowNamed}
@@ -78,14 +78,14 @@ term_read ns terms.Right o h = record { read = refl; named = tt }
 
 -- ---- rows
 
-signed_direct : (ns : Names) (neg : Bool) (a : Atom) → is_direct (raw_signed ns neg a) ≡ true
+signed_direct : (ns : Names) (neg : Bool) (a : Atom) → is_canonical_lit (raw_signed ns neg a) ≡ true
 signed_direct ns true (atoms.MagLt x y) = refl
 signed_direct ns false (atoms.MagLt x y) = refl
 signed_direct ns true a = refl
 signed_direct ns false a = refl
 
 -- the negation of X < Y is written Y <= X
-pub lit_direct : (ns : Names) (l : Lit) → is_direct (raw_of ns l) ≡ true
+pub lit_direct : (ns : Names) (l : Lit) → is_canonical_lit (raw_of ns l) ≡ true
 lit_direct ns l = signed_direct ns l.neg l.atom
 
 -- the objects of its name are in scope, and its literal is well formed

@@ -18,7 +18,7 @@ use Rattle.e_line.specs.Limits.{most_facts, most_terms, most_blanks, monomials, 
 use Rattle.e_names.specs.Applies.{count_blanks}
 use Rattle.e_names.specs.TitledStatements.{TitledStatement}
 use Rattle.e_book.specs.Fits.{NewNamesFit, few_facts, few_terms, few_blanks}
-use Rattle.e_names.specs.HasSpelling.{is_named_by_title}
+use Rattle.e_names.specs.NamedByTitle.{is_named_by_title}
 use Rattle.e_book.specs.HasSpelling.{is_plain, names_theorems}
 
 -- ---- two tests, each as good as another

@@ -26,7 +26,7 @@ use Rattle.e_book.proofs.canonical.ScriptParts.{steps_of, close_of}
 use Rattle.e_book.proofs.canonical.ScriptRead.{Ready}
 use Rattle.e_cert.specs.declared.owed.Obligation.{Obligation}
 use Rattle.e_cert.specs.declared.kept.StepCerts.{StepCerts}
-use Rattle.e_line.specs.Strict.{is_strict_line}
+use Rattle.e_line.specs.CanonicalLines.{is_canonical_form}
 use Rattle.e_read.specs.inner.Strict.{is_apart}
 use Rattle.e_read.specs.inner.Needs.{open_goal, due_of}
 use Rattle.e_spell.specs.Spelling.{script_lines}
@@ -87,7 +87,7 @@ pub record Spelled (known : List TitledStatement) (d : TheoremParser) (i : Insid
 -- a line of the script that is taken where this parser has come, with its certificates
 pub record Goes (known : List TitledStatement) (d e : TheoremParser) (f : RawLine) (owed : Obligation) (certs : List (List (List ℕ))) (k : Option StepCerts) : Type 0 where
   pub good : GoodForm f
-  pub strict : is_strict_line (as_read f) ≡ true
+  pub strict : is_canonical_form (as_read f) ≡ true
   pub apart : is_apart d (as_read f) ≡ true
   pub owes : due_of known d (as_read f) ≡ Ok owed
   pub steps : step known d (as_read f) ≡ Ok e

@@ -30,7 +30,7 @@ use Rattle.e_line.proofs.base.Bound.{bind_ok, ok_is}
 use Rattle.e_line.proofs.base.Choices.{passed}
 use Rattle.e_cert.specs.declared.owed.Obligation.TheVariants as due
 use Rattle.e_cert.specs.declared.kept.StepCerts.{StepCerts}
-use Rattle.e_line.specs.Strict.{is_strict_line}
+use Rattle.e_line.specs.CanonicalLines.{is_canonical_form}
 use Rattle.e_read.specs.Owing.{ends_with}
 use Rattle.e_read.specs.inner.Strict.{is_apart}
 use Rattle.e_read.specs.inner.Needs.{due_of}
@@ -47,8 +47,8 @@ abbrev pub Heads : (declared made : List Sort) → List RawLine → Type 0
 Heads ds ms [] = Unit {0}
 Heads ds ms (rawlines.Declare sort ns ∷ fs) = (ends_with ds sort ≡ false) × Heads (ds ++ replicate (length ns) sort) ms fs
 Heads ds ms (rawlines.Made sort ns ∷ fs) = (ends_with ms sort ≡ false) × Heads ds (ms ++ replicate (length ns) sort) fs
-Heads ds ms (rawlines.Given ls ∷ fs) = (is_strict_line (rawlines.Given ls) ≡ true) × Heads ds ms fs
-Heads ds ms (rawlines.Show ls ∷ fs) = (is_strict_line (rawlines.Show ls) ≡ true) × Heads ds ms fs
+Heads ds ms (rawlines.Given ls ∷ fs) = (is_canonical_form (rawlines.Given ls) ≡ true) × Heads ds ms fs
+Heads ds ms (rawlines.Show ls ∷ fs) = (is_canonical_form (rawlines.Show ls) ≡ true) × Heads ds ms fs
 Heads ds ms (rawlines.Proof ∷ fs) = Heads ds ms fs
 Heads ds ms (f ∷ fs) = ⊥
 
@@ -113,7 +113,7 @@ proof_sorts known d e h =
 
 -- ---- the lines are taken
 
-plain_along : (known : List TitledStatement) (d e last : TheoremParser) (f : RawLine) (fs : List RawLine) → GoodForm f → is_strict_line (as_read f) ≡ true → is_apart d (as_read f) ≡ true → due_of known d (as_read f) ≡ Ok due.Nothing → step known d (as_read f) ≡ Ok e
+plain_along : (known : List TitledStatement) (d e last : TheoremParser) (f : RawLine) (fs : List RawLine) → GoodForm f → is_canonical_form (as_read f) ≡ true → is_apart d (as_read f) ≡ true → due_of known d (as_read f) ≡ Ok due.Nothing → step known d (as_read f) ≡ Ok e
     → is_done e ≡ false → Along known e (map line_of fs) last [] → Along known d (map line_of (f ∷ fs)) last []
 plain_along known d e last f fs good strict apart owes steps going rest =
     then_along known d e last f due.Nothing [] None (map line_of fs) [] (record { good = good; strict = strict; apart = apart; owes = owes; steps = steps; going = going; keeps = nothing_kept d.in_scope }) rest

@@ -29,7 +29,7 @@ use Rattle.e_book.specs.ParserViews.{statement_of_parser}
 use Rattle.e_book.proofs.parsers.Answered.{untaken}
 use Rattle.e_line.proofs.base.Bound.{bind_ok, ok_is, read_ok}
 use Rattle.e_cert.specs.declared.kept.StepCerts.{StepCerts}
-use Rattle.e_line.specs.Strict.{is_direct, are_direct}
+use Rattle.e_line.specs.CanonicalLines.{is_canonical_lit, are_canonical_lits}
 use Rattle.e_read.specs.Owing.{ends_with}
 use Rattle.e_roundtrip.proofs.OneLine.NamesSpelled.{Keeps, keeps_all}
 use Rattle.e_roundtrip.proofs.OneLine.LitsRead.{AllSigned}
@@ -175,13 +175,13 @@ record OneLit (ns : Names) (front : List Lit) (raws : List RawLit) (all : List L
   named : (more : Names) → Keeps ns more → given_raw_line more lit ≡ rawlines.Given raws
   shown : (more : Names) → Keeps ns more → show_raw_line more lit ≡ rawlines.Show raws
 
-one_lit : (ns : Names) (front : List Lit) (raws : List RawLit) (all : List Lit) → (eqb (length raws) 1) ≡ true → are_direct raws ≡ true → AllSigned raws → with_front front (lits_in ns raws) ≡ Ok all → OneLit ns front raws all
+one_lit : (ns : Names) (front : List Lit) (raws : List RawLit) (all : List Lit) → (eqb (length raws) 1) ≡ true → are_canonical_lits raws ≡ true → AllSigned raws → with_front front (lits_in ns raws) ≡ Ok all → OneLit ns front raws all
 one_lit ns front [] all n d s e = absurd cc
 one_lit ns front (r ∷ q ∷ raws) all n d s e = let k : length (r ∷ q ∷ raws) ≡ 1 = eqb-true (length (r ∷ q ∷ raws)) 1 n in absurd (omega (arith, k))
 one_lit ns front (r ∷ []) all n d s e =
     let x = bind_ok (lits_in ns (r ∷ [])) (λ xs. read_ok (front ++ xs)) all e in
     let l = bind_ok (lit_in ns r) (λ l. read_ok (l ∷ [])) x.0 x.1 in
-    let named : (more : Names) → Keeps ns more → _ = λ more k. lit_named ns more r l.0 k (canonical r (and_parts (is_direct r) true d).0 s.0) l.1 in
+    let named : (more : Names) → Keeps ns more → _ = λ more k. lit_named ns more r l.0 k (canonical r (and_parts (is_canonical_lit r) true d).0 s.0) l.1 in
     record {
       raw = r;
       lit = l.0;
@@ -205,7 +205,7 @@ terms_are x e raws w =
     (n.0, ok_is (with_count x n.0) e n.2)
 
 pub puts_given : (known : List TitledStatement) (d e : TheoremParser) (raws : List RawLit) (ks : List StepCerts) (ls : List (List ℕ)) → line_may_come d.section (rawlines.Given raws) ≡ true → ParserSaid known d.section d ks ls → (eqb (length raws) 1) ≡ true
-    → are_direct raws ≡ true → AllSigned raws → after_line known d (rawlines.Given raws) ≡ Ok e → Puts known e (rawlines.Given raws) ks ls
+    → are_canonical_lits raws ≡ true → AllSigned raws → after_line known d (rawlines.Given raws) ≡ Ok e → Puts known e (rawlines.Given raws) ks ls
 unfolding after_line
 puts_given known d e raws ks ls a g one dir s h =
     let i = at_given known d.section d ks ls raws a g in
@@ -230,7 +230,7 @@ abbrev showing : TheoremParser → List Lit → TheoremParser
 showing d ls = record d { shown = ls; section = Showing }
 
 pub puts_shown : (known : List TitledStatement) (d e : TheoremParser) (raws : List RawLit) (ks : List StepCerts) (ls : List (List ℕ)) → line_may_come d.section (rawlines.Show raws) ≡ true → ParserSaid known d.section d ks ls → (eqb (length raws) 1) ≡ true
-    → are_direct raws ≡ true → AllSigned raws → after_line known d (rawlines.Show raws) ≡ Ok e → Puts known e (rawlines.Show raws) ks ls
+    → are_canonical_lits raws ≡ true → AllSigned raws → after_line known d (rawlines.Show raws) ≡ Ok e → Puts known e (rawlines.Show raws) ks ls
 unfolding after_line
 puts_shown known d e raws ks ls a g one dir s h =
     let i = at_shown known d.section d ks ls raws a g in

@@ -14,9 +14,9 @@ use Rattle.e_line.specs.declared.raw_line.RawLine.{RawLine}
 use Rattle.e_line.specs.declared.raw_line.RawLine.TheVariants as rawlines
 use Rattle.e_line.specs.declared.items.RawAs.{RawAs}
 use Rattle.e_line.specs.declared.items.RawItem.TheVariants.{As}
-use Rattle.e_line.specs.declared.items.Listing.{Listing}
-use Rattle.e_line.specs.declared.items.Listing.TheVariants.{Given, Show, Claim, Superpose}
-use Rattle.e_line.specs.Items.{listing_raw_line}
+use Rattle.e_line.specs.declared.items.ListHead.{ListHead}
+use Rattle.e_line.specs.declared.items.ListHead.TheVariants.{Given, Show, Claim, Superpose}
+use Rattle.e_line.specs.Items.{list_raw_line}
 use Rattle.e_line.specs.Limits.{most_expanded}
 use Rattle.e_line.specs.Reading.{◌>>=◌}
 use Rattle.e_line.proofs.base.Bound.{bind_ok, ok_is, read_ok}
@@ -83,7 +83,7 @@ show_is h raws ls o read e =
     let a = bind_ok (lits_in h.names raws) (λ ls. read_ok (Stating (with_listed Show ls h))) o e in
     ap (λ (xs : List Lit). Stating (with_listed Show xs h)) (ok_is ls a.0 (sym read ∙ a.1)) ∙ ok_is (Stating (with_listed Show a.0 h)) o a.2
 
-listed_is : (h : Head) (line : Listing) (raws : List RawLit) (ls : List Lit) (o : Open) → lits_in h.names raws ≡ Ok ls → states h (listing_raw_line line raws) ≡ Ok o → Stating (with_listed line ls h) ≡ o
+listed_is : (h : Head) (line : ListHead) (raws : List RawLit) (ls : List Lit) (o : Open) → lits_in h.names raws ≡ Ok ls → states h (list_raw_line line raws) ≡ Ok o → Stating (with_listed line ls h) ≡ o
 listed_is h Given raws ls o read e = given_is h raws ls o read e
 listed_is h Show raws ls o read e = show_is h raws ls o read e
 listed_is h Claim raws ls o read e = absurd cc
@@ -99,10 +99,10 @@ counted_is k o n c e =
     record { is = ok_is (InTheorem o (n + k)) c a.2; few = leb-true (n + k) most_expanded (kept_true (leb (n + k) most_expanded) limits.Expanded a.0 a.1) }
 
 -- the line is taken: then the literals are there
-taken_is : (known : Known) (h : Head) (n k : ℕ) (line : Listing) (raws : List RawLit) (ls : List Lit) (c : PartialItem) → lits_in h.names raws ≡ Ok ls
-    → (plain_line known (InTheorem (Stating h) n) (listing_raw_line line raws) >>= λ c. with_more_literals k c) ≡ Ok c → IsCounted (Stating (with_listed line ls h)) (n + k) c
+taken_is : (known : Known) (h : Head) (n k : ℕ) (line : ListHead) (raws : List RawLit) (ls : List Lit) (c : PartialItem) → lits_in h.names raws ≡ Ok ls
+    → (plain_line known (InTheorem (Stating h) n) (list_raw_line line raws) >>= λ c. with_more_literals k c) ≡ Ok c → IsCounted (Stating (with_listed line ls h)) (n + k) c
 taken_is known h n k line raws ls c read e =
-    let f = listing_raw_line line raws in
+    let f = list_raw_line line raws in
     let p = bind_ok (plain_line known (InTheorem (Stating h) n) f) (λ c. with_more_literals k c) c e in
     let m = bind_ok (line_after known.theorems (Some (Stating h)) f) (λ m. read_ok (InTheorem m n)) p.0 p.1 in
     let o : Stating (with_listed line ls h) ≡ m.0 = listed_is h line raws ls m.0 read (line_is known.theorems (Stating h) m.0 f m.1) in
@@ -114,8 +114,8 @@ taken_is known h n k line raws ls c read e =
 abbrev pair : List Lit → ℕ → List Lit × ℕ
 pair ls n = (ls, n)
 
-abbrev out : Names → Listing → List Lit × ℕ → RawLine × ℕ
-out ns line p = (listing_raw_line line (map (raw_of ns) p.0), p.1)
+abbrev out : Names → ListHead → List Lit × ℕ → RawLine × ℕ
+out ns line p = (list_raw_line line (map (raw_of ns) p.0), p.1)
 
 -- the literals of one item, with their number
 record OneItem (notions : List Titled) (ns : Names) (raw : RawAs) (p : List Lit × ℕ) : Type 0 where
@@ -136,9 +136,9 @@ one_item notions ns raw p e =
     }
 
 -- the line with these literals written out is taken
-added : (known : Known) (h : Head) (n : ℕ) (line : Listing) (raw : RawAs) (notion : Notion) (args : List Obj) (c : PartialItem) (ls : List Lit) → InOrder h.names → are_notions known.notions ≡ true → notion_of known.notions raw.title ≡ Some notion
+added : (known : Known) (h : Head) (n : ℕ) (line : ListHead) (raw : RawAs) (notion : Notion) (args : List Obj) (c : PartialItem) (ls : List Lit) → InOrder h.names → are_notions known.notions ≡ true → notion_of known.notions raw.title ≡ Some notion
     → objects_of_sorts h.names notion.declared raw.args ≡ Ok args → meant_in known.notions h.names (most_expanded + 1 - 0) raw ≡ Ok ls
-    → (plain_line known (InTheorem (Stating h) n) (listing_raw_line line (map (raw_of h.names) ls)) >>= λ d. with_more_literals (0 + length ls) d) ≡ Ok c →
+    → (plain_line known (InTheorem (Stating h) n) (list_raw_line line (map (raw_of h.names) ls)) >>= λ d. with_more_literals (0 + length ls) d) ≡ Ok c →
     let given = literals_of_notion notion args (scope_of_names h.names) in c ≡ InTheorem (Stating (with_listed line given h)) (n + length given)
 added known h n line raw notion args c ls order all there read m e =
     let most = most_expanded + 1 - 0 in
@@ -155,7 +155,7 @@ pub items_add : ItemsAddWhatTheyMean
 items_add known h n line raw notion args c hp hl hc d all there read e =
     let ns = h.names in
     let written = bind_ok (written_out known (Stating h) line (As raw ∷ [])) (λ w. plain_line known (InTheorem (Stating h) n) w.0 >>= λ c. with_more_literals w.1 c) c e in
-    let may = bind_ok (next known.theorems (Stating h) (listing_raw_line line [])) (λ there. items_in known.notions ns 0 (As raw ∷ []) >>= λ p. read_ok (out ns line p)) written.0 written.1 in
+    let may = bind_ok (next known.theorems (Stating h) (list_raw_line line [])) (λ there. items_in known.notions ns 0 (As raw ∷ []) >>= λ p. read_ok (out ns line p)) written.0 written.1 in
     let its = bind_ok (items_in known.notions ns 0 (As raw ∷ [])) (λ p. read_ok (out ns line p)) written.0 may.2 in
     let one = one_item known.notions ns raw its.0 its.1 in
     let is : out ns line (pair one.lits (0 + length one.lits)) ≡ written.0 = ap (out ns line) one.is ∙ ok_is (out ns line its.0) written.0 its.2 in

@@ -20,7 +20,7 @@ use Rattle.e_deriv.specs.Naming.{names_of_sort}
 use Rattle.e_line.specs.Limits.{monomials, count_monomials}
 use Rattle.e_line.specs.Canonical.{term_words, coefficient_words, mono_words, more_monos, sum_words, sums_words, atom_words, lit_words, more_words, lits_words}
 use Rattle.e_names.specs.Canonical.{name_at, name_of_object, raw_term, raw_mono, raw_sum, raw_atom, raw_signed, raw_of}
-use Rattle.e_line.specs.HasSpelling.{AreNames}
+use Rattle.e_line.specs.Names.{AreNames}
 use Rattle.e_names.proofs.resolution.Lookups.{InOrder}
 use Rattle.e_names.proofs.literals.ComparedSums.{is_bounded_mono, AreBounded, good_sums}
 use Rattle.e_names.proofs.literals.ShortLits.{count_first}

@@ -26,7 +26,7 @@ use Rattle.e_line.specs.Superposes.{superpose_pieces}
 use Rattle.e_names.specs.TitledStatements.{TitledStatement, title_at}
 use Rattle.e_line.specs.Canonical.{filled_pieces, avoid_words, argument_word, made_words, lit_words, lits_words, line_of}
 use Rattle.e_names.specs.Canonical.{argument_name, name_at, name_of_object, raw_of, rule_name, placed_names, by_raw_line, hence_raw_line, let_raw_line, apply_raw_line, claim_raw_line, superpose_raw_line, qed_raw_line, contradiction_raw_line, cases_raw_line, else_raw_line, end_raw_line}
-use Rattle.e_line.specs.HasSpelling.{AreNames}
+use Rattle.e_line.specs.Names.{AreNames}
 use Rattle.e_names.proofs.resolution.Lookups.{InOrder}
 use Rattle.e_roundtrip.proofs.Lengths.Rooms.{is_short, short_name, short_title, Room, room_none, room_more, room_word, room_append, room_line, IsShortLine}
 use Rattle.e_roundtrip.proofs.Lengths.LitRooms.{short_at, short_object, room_objects, room_one, room_lits}

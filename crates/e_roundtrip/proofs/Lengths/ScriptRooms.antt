@@ -40,7 +40,7 @@ use Rattle.e_names.specs.Fits.{is_diagram_lit}
 use Rattle.e_book.specs.Fits.{few_facts, has_well_formed_literals, NewNamesFit}
 use Rattle.e_line.specs.Canonical.{line_of}
 use Rattle.e_names.specs.Canonical.{else_raw_line}
-use Rattle.e_names.specs.HasSpelling.{is_named_by_title}
+use Rattle.e_names.specs.NamedByTitle.{is_named_by_title}
 use Rattle.e_book.specs.HasSpelling.{is_plain, names_theorems}
 use Rattle.e_names.proofs.resolution.LitLookups.{diagram_is_well_formed}
 use Rattle.e_names.proofs.resolution.Built.{of_sorts_length}

@@ -9,8 +9,8 @@ use Rattle.e_text.specs.Names.{is_name}
 use Rattle.e_construct.specs.declared.construction.Shape.{Shape}
 use Rattle.e_construct.specs.Lines.{Piece, New, Argument, Word, pieces, all_shapes, may_avoid}
 use Rattle.e_line.specs.declared.lets.RawLet.{RawLet}
-use Rattle.e_line.specs.Reading.{◌>>=◌, cut_at, names_of}
-use Rattle.e_line.specs.Lets.{are_words_of, new_words, argument_words, is_line_of, shapes_of, avoided_of, let_named, let_of}
+use Rattle.e_line.specs.Reading.{◌>>=◌, cut_at, names_of, names_after}
+use Rattle.e_line.specs.Lets.{are_words_of, new_words, argument_words, is_line_of, shapes_of, let_named, let_of}
 use Rattle.e_line.specs.Canonical.{line_pieces}
 use Rattle.e_line.proofs.base.Bound.{bind_ok, ok_is, read_ok}
 use Rattle.e_line.proofs.read_again.Pieces.{is_own_word, own_words, own_words_of, similar}
@@ -175,5 +175,5 @@ pub let_line : (ws : List (List ℕ)) (l : RawLet) → let_of ws ≡ Ok l → On
 unfolding let_of
 let_line ws l e =
     let parts = cut_at (codes "avoid") ws in
-    let b = bind_ok (avoided_of parts.2 parts.1) (λ avoid. let_named (shapes_of parts.2 parts.0) parts.0 avoid) l e in
+    let b = bind_ok (names_after parts.2 parts.1) (λ avoid. let_named (shapes_of parts.2 parts.0) parts.0 avoid) l e in
     named_line (shapes_of parts.2 parts.0) parts.0 b.0 l (shapes_of_line parts.2 parts.0) b.2

@@ -11,7 +11,7 @@ use Rattle.e_line.specs.declared.literal.RawLit.{RawLit}
 use Rattle.e_line.specs.declared.literal.RawAtom.{RawAtom}
 use Rattle.e_line.specs.declared.literal.RawAtom.TheVariants as raw
 use Rattle.e_line.specs.Reading.{◌>>=◌, or_malformed}
-use Rattle.e_line.specs.Literals.{relation_of, is_relation, single_name, sums_of, equal_sides, sides_of, negation_of, sign_first, lit_of_sides, signed_lit, lit_of, is_semicolon, lits_of}
+use Rattle.e_line.specs.Literals.{relation_of, is_relation, single_name, sums_of, equal_sides, sides_of, negation_of, relation_first, lit_of_sides, lit_with_neg, lit_of, is_semicolon, lits_of}
 use Rattle.e_line.proofs.base.Bound.{bind_ok, ok_is, read_ok}
 use Rattle.e_line.proofs.read_lines.LitsByWord.{OfEachRelation, lit_by_word}
 use Rattle.e_line.proofs.read_lines.SumsOfLiterals.{each_said}
@@ -74,14 +74,14 @@ abbrev pair : {A B : Type 0} → A → B → A × B
 pair a b = (a, b)
 
 -- two sides after the sign that a word is
-sides_signed : (negated : Bool) (left rest : List (List ℕ)) (l : RawLit) → (sign_first rest >>= λ s. negation_of negated s.0 >>= λ neg. sides_of s.0 left s.1 >>= λ a. read_ok (signed_lit neg a)) ≡ Ok l → Signed l
+sides_signed : (negated : Bool) (left rest : List (List ℕ)) (l : RawLit) → (relation_first rest >>= λ s. negation_of negated s.0 >>= λ neg. sides_of s.0 left s.1 >>= λ a. read_ok (lit_with_neg neg a)) ≡ Ok l → Signed l
 unfolding sides_of
 sides_signed negated left [] l e = absurd cc
 sides_signed negated left (w ∷ ws) l e =
-    let s = bind_ok (sign_first (w ∷ ws)) (λ s. negation_of negated s.0 >>= λ neg. sides_of s.0 left s.1 >>= λ a. read_ok (signed_lit neg a)) l e in
+    let s = bind_ok (relation_first (w ∷ ws)) (λ s. negation_of negated s.0 >>= λ neg. sides_of s.0 left s.1 >>= λ a. read_ok (lit_with_neg neg a)) l e in
     let t = bind_ok (or_malformed (relation_of w)) (λ s. read_ok (pair s ws)) s.0 s.1 in
-    let neg = bind_ok (negation_of negated s.0.0) (λ neg. sides_of s.0.0 left s.0.1 >>= λ a. read_ok (signed_lit neg a)) l s.2 in
-    let a = bind_ok (sides_of s.0.0 left s.0.1) (λ a. read_ok (signed_lit neg.0 a)) l neg.2 in
+    let neg = bind_ok (negation_of negated s.0.0) (λ neg. sides_of s.0.0 left s.0.1 >>= λ a. read_ok (lit_with_neg neg a)) l s.2 in
+    let a = bind_ok (sides_of s.0.0 left s.0.1) (λ a. read_ok (lit_with_neg neg.0 a)) l neg.2 in
     let is = ok_is (pair t.0 ws) s.0 t.2 in
     let holds = by_sign (λ sign. (neg : Bool) (a : RawAtom) → negation_of negated sign ≡ Ok neg → sides_of sign left ws ≡ Ok a → (neg && is_at_most a) ≡ false)
     (bytes_eq w (codes "=")) (bytes_eq w (codes "!=")) (bytes_eq w (codes "<")) (bytes_eq w (codes "<=")) _ _ _ _ t.0
@@ -90,7 +90,7 @@ sides_signed negated left (w ∷ ws) l e =
     (λ neg a n k. unsigned a neg (from_sums raw.SumsLess (λ x y. refl) left ws a k))
     (λ neg a n k. at_most_signed negated neg a n)
     (sign_found (relation_of w) t.0 t.1) in
-    subst Signed (ok_is (signed_lit neg.0 a.0) l a.2)
+    subst Signed (ok_is (lit_with_neg neg.0 a.0) l a.2)
     (holds neg.0 a.0 (ap (λ q. negation_of negated q.0) is ∙ neg.1) (ap (λ q. sides_of q.0 left q.1) is ∙ a.1))
 
 compared_signed : (negated : Bool) (ws : List (List ℕ)) (l : RawLit) → lit_of_sides negated ws ≡ Ok l → Signed l

@@ -23,11 +23,11 @@ use Rattle.e_line.specs.declared.literal.RawLit.{RawLit}
 use Rattle.e_line.specs.declared.literal.RawAtom.{RawAtom}
 use Rattle.e_line.specs.declared.literal.RawAtom.TheVariants as raw
 use Rattle.e_line.specs.Reading.{◌>>=◌, each}
-use Rattle.e_line.specs.Literals.{signed_lit, is_diagram_raw}
+use Rattle.e_line.specs.Literals.{lit_with_neg, is_diagram_raw}
 use Rattle.e_names.specs.Scope.{used_object, number_of_name, on_sort, line_meets, meets_from, equal_at, term_in, kind_of_raw, first_kind, mono_in, sums_in, atom_in, negated_in, lit_in, lits_in}
 use Rattle.e_names.specs.Canonical.{name_at, name_of_object, raw_term, raw_mono, raw_sum, raw_atom, raw_signed, raw_of}
 use Rattle.e_line.proofs.base.Bound.{bind_ok, ok_is, read_ok}
-use Rattle.e_line.specs.Strict.{is_less, is_direct, are_direct}
+use Rattle.e_line.specs.CanonicalLines.{is_less, is_canonical_lit, are_canonical_lits}
 use Rattle.e_roundtrip.proofs.OneLine.NamesSpelled.{Keeps, used_named, number_named}
 use Rattle.e_roundtrip.proofs.OneLine.LitsRead.{is_at_most, Signed, AllSigned}
 
@@ -97,7 +97,7 @@ sums_named ns more x y p k e =
 
 -- the atom with its sign is spelled as it was read
 abbrev Spells : Names → Bool → RawAtom → Atom → Type 0
-Spells more neg r a = raw_signed more (negated_in r neg) a ≡ signed_lit neg r
+Spells more neg r a = raw_signed more (negated_in r neg) a ≡ lit_with_neg neg r
 
 to : (more : Names) (neg : Bool) (r : RawAtom) (x a : Atom) → Spells more neg r x → read_ok x ≡ Ok a → Spells more neg r a
 to more neg r x a h e = subst (λ (y : Atom). Spells more neg r y) (ok_is x a e) h
@@ -106,16 +106,16 @@ abbrev is_less_atom : Atom → Bool
 is_less_atom (atoms.MagLt x y) = true
 is_less_atom a = false
 
-plainly : (more : Names) (neg : Bool) (a : Atom) → is_less_atom a ≡ false → raw_signed more neg a ≡ signed_lit neg (raw_atom more a)
+plainly : (more : Names) (neg : Bool) (a : Atom) → is_less_atom a ≡ false → raw_signed more neg a ≡ lit_with_neg neg (raw_atom more a)
 plainly more false a h = refl
 plainly more true (atoms.MagLt x y) h = absurd cc
 plainly more true a h = refl
 
 -- an atom that is no comparison
 other : (more : Names) (neg : Bool) (r : RawAtom) (x a : Atom) → is_less_atom x ≡ false → is_at_most r ≡ false → raw_atom more x ≡ r → read_ok x ≡ Ok a → Spells more neg r a
-other more neg r x a hx hr h e = to more neg r x a (same_sign r hr (plainly more neg x hx ∙ ap (signed_lit neg) h)) e
+other more neg r x a hx hr h e = to more neg r x a (same_sign r hr (plainly more neg x hx ∙ ap (lit_with_neg neg) h)) e
   where
-    same_sign : (r : RawAtom) → is_at_most r ≡ false → raw_signed more neg x ≡ signed_lit neg r → Spells more neg r x
+    same_sign : (r : RawAtom) → is_at_most r ≡ false → raw_signed more neg x ≡ lit_with_neg neg r → Spells more neg r x
     same_sign (raw.SumsAtMost x y) hr h = absurd cc
     same_sign r hr h = h
 
@@ -204,7 +204,7 @@ atom_named ns more false (raw.SumsAtMost x y) a k d e =
 abbrev pub Canonical : RawLit → Type 0
 Canonical r = may_stand r.neg r.atom ≡ true
 
-pub canonical : (r : RawLit) → is_direct r ≡ true → Signed r → Canonical r
+pub canonical : (r : RawLit) → is_canonical_lit r ≡ true → Signed r → Canonical r
 canonical r d s = rw (d, s) refl
 
 diagram_stands : (neg : Bool) (r : RawAtom) → is_diagram_raw r ≡ true → may_stand neg r ≡ true
@@ -229,10 +229,10 @@ lit_named ns more r l k d e =
     ap (raw_of more) (sym (ok_is (lit (negated_in r.atom r.neg) a.0) l a.2)) ∙ atom_named ns more r.neg r.atom a.0 k d a.1
 
 -- several literals
-pub lits_named : (ns more : Names) (rs : List RawLit) (ls : List Lit) → Keeps ns more → are_direct rs ≡ true → AllSigned rs → lits_in ns rs ≡ Ok ls → map (raw_of more) ls ≡ rs
+pub lits_named : (ns more : Names) (rs : List RawLit) (ls : List Lit) → Keeps ns more → are_canonical_lits rs ≡ true → AllSigned rs → lits_in ns rs ≡ Ok ls → map (raw_of more) ls ≡ rs
 lits_named ns more [] ls k d s e = ap (map (raw_of more)) (sym (ok_is [] ls e))
 lits_named ns more (r ∷ rs) ls k d s e =
-    let q = and_parts (is_direct r) (are_direct rs) d in
+    let q = and_parts (is_canonical_lit r) (are_canonical_lits rs) d in
     let a = bind_ok (lit_in ns r) (λ y. each (lit_in ns) rs >>= λ ys. read_ok (y ∷ ys)) ls e in
     let b = bind_ok (each (lit_in ns) rs) (λ ys. read_ok (a.0 ∷ ys)) ls a.2 in
     ap (map (raw_of more)) (sym (ok_is (a.0 ∷ b.0) ls b.2)) ∙ rw (lit_named ns more r a.0 k (canonical r q.0 s.0) a.1, lits_named ns more rs b.0 k q.1 s.1 b.1) refl

@@ -37,7 +37,7 @@ use Rattle.e_names.proofs.read_lines.Citations.{counted}
 use Rattle.e_line.proofs.base.Bound.{bind_ok, ok_is, read_ok}
 use Rattle.e_names.proofs.read_lines.Building.{placed_after}
 use Rattle.e_names.proofs.read_lines.Uses.{found_title}
-use Rattle.e_line.specs.Strict.{is_direct, are_direct}
+use Rattle.e_line.specs.CanonicalLines.{is_canonical_lit, are_canonical_lits}
 use Rattle.e_roundtrip.proofs.OneLine.NamesSpelled.{keeps_all, used_named, number_named, object_named}
 use Rattle.e_roundtrip.proofs.OneLine.LitsRead.{Signed, AllSigned}
 use Rattle.e_roundtrip.proofs.OneLine.LitsSpelled.{each_back, canonical, diagram_canonical, lit_named, lits_named}
@@ -46,13 +46,13 @@ use Rattle.e_roundtrip.proofs.OneLine.LinePieces.{AllHave, OneLine}
 
 -- ---- literals
 
-pub hence_spelled : (ns : Names) (r : RawLit) (l : Lit) → is_direct r ≡ true → Signed r → lit_in ns r ≡ Ok l → hence_raw_line ns l ≡ rawlines.Hence r
+pub hence_spelled : (ns : Names) (r : RawLit) (l : Lit) → is_canonical_lit r ≡ true → Signed r → lit_in ns r ≡ Ok l → hence_raw_line ns l ≡ rawlines.Hence r
 hence_spelled ns r l d s e = ap (λ (x : RawLit). rawlines.Hence x) (lit_named ns ns r l (keeps_all ns) (canonical r d s) e)
 
-pub cases_spelled : (ns : Names) (r : RawLit) (l : Lit) → is_direct r ≡ true → Signed r → lit_in ns r ≡ Ok l → cases_raw_line ns l ≡ rawlines.Cases r
+pub cases_spelled : (ns : Names) (r : RawLit) (l : Lit) → is_canonical_lit r ≡ true → Signed r → lit_in ns r ≡ Ok l → cases_raw_line ns l ≡ rawlines.Cases r
 cases_spelled ns r l d s e = ap (λ (x : RawLit). rawlines.Cases x) (lit_named ns ns r l (keeps_all ns) (canonical r d s) e)
 
-pub claim_spelled : (ns : Names) (rs : List RawLit) (ls : List Lit) → are_direct rs ≡ true → AllSigned rs → lits_in ns rs ≡ Ok ls → claim_raw_line ns ls ≡ rawlines.Claim rs
+pub claim_spelled : (ns : Names) (rs : List RawLit) (ls : List Lit) → are_canonical_lits rs ≡ true → AllSigned rs → lits_in ns rs ≡ Ok ls → claim_raw_line ns ls ≡ rawlines.Claim rs
 claim_spelled ns rs ls d s e = ap (λ (x : List RawLit). rawlines.Claim x) (lits_named ns ns rs ls (keeps_all ns) d s e)
 
 -- ---- citations
@@ -177,7 +177,7 @@ placed_named ns (a ∷ b ∷ c ∷ k ∷ d ∷ g ∷ h ∷ l ∷ []) superpositi
     (number_named ns ns Point d p.nd keeps p.d_is) (number_named ns ns Point g p.ng keeps p.g_is) (number_named ns ns Point h p.nh keeps p.h_is) (number_named ns ns Line l p.nl keeps p.l_is)
 placed_named ns args superposition e = absurd cc
 
-pub superpose_spelled : (ns : Names) (raw : RawSuperpose) (p : Superpose × List Lit) → are_direct raw.shown ≡ true → AllSigned raw.shown → superpose_in ns raw ≡ Ok p → superpose_raw_line ns p.0 raw.new p.1 ≡ rawlines.Superpose raw
+pub superpose_spelled : (ns : Names) (raw : RawSuperpose) (p : Superpose × List Lit) → are_canonical_lits raw.shown ≡ true → AllSigned raw.shown → superpose_in ns raw ≡ Ok p → superpose_raw_line ns p.0 raw.new p.1 ≡ rawlines.Superpose raw
 unfolding superpose_in
 superpose_spelled ns raw p d s e =
     let both_of : Superpose → List Lit → Superpose × List Lit = λ form ls. (form, ls) in

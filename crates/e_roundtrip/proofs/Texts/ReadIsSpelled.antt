@@ -40,7 +40,7 @@ use Rattle.e_cert.specs.declared.owed.Pending.{Pending}
 use Rattle.e_cert.specs.declared.kept.StepCerts.{StepCerts}
 use Rattle.e_read.specs.declared.reading.BlockParser.{BlockParser}
 use Rattle.e_cert.specs.CertLines.{cert_line_text}
-use Rattle.e_line.specs.Strict.{is_strict_line}
+use Rattle.e_line.specs.CanonicalLines.{is_canonical_form}
 use Rattle.e_read.specs.inner.Strict.{is_apart}
 use Rattle.e_read.specs.inner.Needs.{due_of}
 use Rattle.e_read.specs.Filled.{script_with_certs}
@@ -163,7 +163,7 @@ owed_is known d f o e =
     let n = bind_ok (due_of known d f) (λ new. read_ok (owed d.in_scope new)) o e in
     (n.0, n.1, ok_is (owed d.in_scope n.0) o n.2)
 
-gone_said : (known : List TitledStatement) (parser : Option TheoremParser) (e : TheoremParser) (f : RawLine) (o : Pending) (ks : List StepCerts) (done : List (List ℕ)) → StateSaid known parser ks done → Read f → is_strict_line f ≡ true → parser_and_owed known parser f ≡ Ok (e, o)
+gone_said : (known : List TitledStatement) (parser : Option TheoremParser) (e : TheoremParser) (f : RawLine) (o : Pending) (ks : List StepCerts) (done : List (List ℕ)) → StateSaid known parser ks done → Read f → is_canonical_form f ≡ true → parser_and_owed known parser f ≡ Ok (e, o)
     → StepSaid known e o ks (done ++ line_of f ∷ [])
 gone_said known None e f o ks done s r st g =
     let b = bind_ok (begin known f) (λ x. read_ok (with_owed x owes_nothing)) (e, o) g in
@@ -181,7 +181,7 @@ gone_said known (Some d) e f o ks done s r st g =
 stepped_said : (known : List TitledStatement) (r next : BlockParser) (line : List ℕ) (done : List (List ℕ)) → SaidSoFar known r.parser r.owed r.kept done → (s : Stepped known r next line) → StepSaid known s.parser s.owed (r.kept ++ option_to_list s.read) (done ++ line ∷ [])
 stepped_said known r next line done so s =
     let f = form_read line s.raw_line s.spelled in
-    let b = and_parts (is_strict_line s.raw_line) (bytes_eq line (line_of s.raw_line)) f.1 in
+    let b = and_parts (is_canonical_form s.raw_line) (bytes_eq line (line_of s.raw_line)) f.1 in
     let is : line ≡ line_of s.raw_line = (bytes_eq-Decides line (line_of s.raw_line)).0 b.1 in
     let text = settled_spelled r.owed s.read so.fits s.settled_is in
     let state = so.said s.read (settled_formed r.owed s.read so.formed s.settled_is) in

@@ -31,7 +31,7 @@ use Rattle.e_line.specs.Limits.{count_monomials}
 use Rattle.e_names.specs.TitledStatements.{TitledStatement, stated_by}
 use Rattle.e_book.specs.TheoremViews.{TheoremView}
 use Rattle.e_book.specs.Fits.{Fits, has_well_formed_literals}
-use Rattle.e_names.specs.HasSpelling.{is_named_by_title}
+use Rattle.e_names.specs.NamedByTitle.{is_named_by_title}
 use Rattle.e_book.specs.HasSpelling.{HasSpelling, is_plain, names_theorems}
 use Rattle.e_book.proofs.fit_theorems.Fitting.{small_statement}
 use Rattle.e_book.proofs.fit_theorems.WrittenScripts.{erased_literals, written_well}

@@ -13,7 +13,7 @@ loop-line-init c = record { alike = refl; last = refl; fits = c.requires.fits }
 pub returns-in-Err : goal.returns-in-Err
 returns-in-Err c =
     let taken = subst (λ (r : Result Line LineFault). TakesNext c.loop-line.lines (Some r) c.next.new.self) c.in-Err.is c.in-Some.ensures in
-    rw c.of_line.ensures
+    rw c.book_fault_of.ensures
     (fails_in_line (last_line c.args.lines.now) c.args.plan.now c.loop-line.plan c.args.lines.now.lines c.loop-line.lines.lines [] c.in-Err.fault taken.0 c.loop-line.invariant.alike)
 
 pub returns-in_err-take_line : goal.returns-in_err-take_line

@@ -20,7 +20,7 @@ loop-line-init c = record {
 pub returns-in-Err-clause-reads : goal.returns-in-Err-clause-reads
 returns-in-Err-clause-reads c =
     let taken = subst (λ (r : Result Line LineFault). TakesNext c.loop-line.lines (Some r) c.next.new.self) c.in-Err.is c.in-Some.ensures in
-    rw c.of_line.ensures (fails_in_line c.args.known.now c.args.self.now.partial_item c.loop-line.self.partial_item c.loop-line.self.partial_item c.args.lines.now.lines c.loop-line.lines.lines c.next.new.self.lines c.in-Err.fault taken.0 c.loop-line.invariant.alike)
+    rw c.book_fault_of.ensures (fails_in_line c.args.known.now c.args.self.now.partial_item c.loop-line.self.partial_item c.loop-line.self.partial_item c.args.lines.now.lines c.loop-line.lines.lines c.next.new.self.lines c.in-Err.fault taken.0 c.loop-line.invariant.alike)
 
 pub returns-in_err-take-clause-reads : goal.returns-in_err-take-clause-reads
 returns-in_err-take-clause-reads c =

@@ -1,6 +1,0 @@
-use Rattle.std.proofs.Common.{◌≡◌, drop}
-use Rattle.e_line.specs.Comparison.{past}
-use Rattle.e_line.proofs.comparison.SpellingCheck.names.Given as goal
-
-abbrev pub invariant-loop-name : goal.invariant-loop-name
-invariant-loop-name l = past l.self (drop l.name-index l.names) ≡ past l.initial.self l.names
