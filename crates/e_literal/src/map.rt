@@ -53,7 +53,7 @@ impl Map {
         requires one_sort { map (λ o. o.sort) from.now ≡ map (λ o. o.sort) to.now }
         ensures { IfOk result (λ m. m ≡ pairs_of from.now to.now) }
     {
-        let mut entries = Vec::new(alloc);
+        let mut entries = Vec::with_capacity(alloc, from.len())?;
         for (source, target) in from.iter().zip(to) {
             entries.push(Entry {
                 source: *source,
