@@ -9,6 +9,7 @@ ghost use Rattle.e_clause.specs.LimitedFacts.{most_terms_of_step};
 ghost use Rattle.e_clause.specs.Metric.{MetricConsequence};
 ghost use Rattle.e_metric.specs.Fronts.{AreFronts};
 ghost use Rattle.e_transfer.specs.Areas.{name_areas_of};
+ghost use Rattle.e_transfer.specs.Models.{is_model, value_by};
 ghost use Rattle.e_transfer.specs.Prepared.{IsPrepared};
 
 use crate::areas::areas_of;
@@ -33,17 +34,27 @@ pub struct Prepared {
     pub marks: [bool; MARKS],
 }
 
+// Whether it is seen that the values are those of a model: it may be known without a look at the
+// facts.
+fn is_seen(facts: &Facts, filling: Filling, values: &[(Term, u128)], known: bool) -> bool
+    requires { known ≡ true → IsTrue (is_model facts.now (value_by filling values.now)) }
+    ensures { result ≡ true → IsTrue (is_model facts.now (value_by filling values.now)) }
+{
+    known || are_of_model(facts, filling, values)
+}
+
 // What is made of the facts, with these values, which may list all terms of the facts, and areas.
 fn with_values(facts: &Facts, values: Values, lists_all: bool, areas: Vec<Term>) -> Prepared
     requires listed { lists_all ≡ true → ListsCounterexample facts.now None values }
     requires named { IsTrue (name_areas_of areas.items facts.now) }
     ensures { IsPrepared facts.now result }
 {
+    let no_areas = lists_all && areas.is_empty();
     Prepared {
         lists_all,
-        plain_model: are_of_model(facts, Filling::Each(1), values.items()),
-        spread_model: are_of_model(facts, Filling::Spread, values.items()),
-        flat_model: are_of_model(facts, Filling::Flat, values.items()),
+        plain_model: is_seen(facts, Filling::Each(1), values.items(), lists_all),
+        spread_model: is_seen(facts, Filling::Spread, values.items(), lists_all),
+        flat_model: is_seen(facts, Filling::Flat, values.items(), no_areas),
         marks: marks_of(facts),
         values,
         areas,
