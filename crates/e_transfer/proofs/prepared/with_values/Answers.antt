@@ -32,6 +32,7 @@ returns c =
     let flat = where_true c.is_seen-3.result (is_model facts (value_by filling.Flat c.items-3.result.now)) c.is_seen-3.ensures in
     record {
       marked = c.marks_of.ensures;
+      listed = c.requires.numbers;
       named = c.requires.named;
       all = λ n. where_true c.args.lists_all (is_model facts (value_by (filling.Each n) c.args.values)) (λ e. listed_model facts c.args.values (c.requires.listed e) (filling.Each n) refl (λ t a. refl));
       plain = subst (λ vs. (not c.is_seen.result || is_model facts (value_by (filling.Each 1) vs)) ≡ true) c.items.ensures plain;
