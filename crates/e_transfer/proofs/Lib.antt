@@ -14,6 +14,7 @@ pub mod SearchedPlaces
 pub mod RuleSearches
 pub mod ModelValues
 pub mod MarkedFacts
+pub mod Listings
 pub mod BoundFacts
 pub mod MarkedSums
 pub mod FreeAreas

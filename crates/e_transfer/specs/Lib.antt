@@ -4,6 +4,7 @@ pub mod GivenGoals
 pub mod FoundTransfers
 pub mod Models
 pub mod Marks
+pub mod Listings
 pub mod SumMarks
 pub mod Areas
 pub mod Prepared

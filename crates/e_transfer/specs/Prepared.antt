@@ -6,10 +6,12 @@ use Rattle.e_transfer.specs.declared.prepared.Prepared.{Prepared}
 use Rattle.e_transfer.specs.Models.{is_model, value_by}
 use Rattle.e_transfer.specs.Areas.{name_areas_of}
 use Rattle.e_transfer.specs.Marks.{are_marked}
+use Rattle.e_transfer.specs.Listings.{IsListing}
 
--- the areas are named, the relations marked, and the values are those of the models that are named
+-- the areas are named, the relations marked, the numbers listed, and the values are those of the models that are named
 pub record IsPrepared (facts : List Lit) (p : Prepared) : Type 0 where
   pub marked : IsTrue (are_marked p.marks facts)
+  pub listed : IsListing facts p.listing.items
   pub named : IsTrue (name_areas_of p.areas.items facts)
   pub all : (n : ℕ)
       → IsTrue (not p.lists_all || is_model facts (value_by (filling.Each n) p.values))

@@ -9,7 +9,7 @@ use crate::numbers::Numbers;
 use e_literal::Term;
 
 /// Whether a number may be this one, by what is known of it.
-fn may_be(known: Option<u16>, number: u16) -> bool
+pub fn may_be(known: Option<u16>, number: u16) -> bool
     ensures { result ≡ Angles.may_be known number }
 {
     match known {

@@ -1,172 +1,164 @@
 //! Whether a fact may be what an instance needs at a place of its clause, by what is known of its
 //! variables.
 
-ghost use Rattle.std.specs.Prelude.{◌≡◌, ◌≢◌, ℕ, ◌<◌, length, slice_get, Some, false};
+ghost use Rattle.std.specs.Prelude.{◌≡◌, ℕ, ◌<◌, length, slice_get, Some, false};
+ghost use Rattle.std.specs.List.{list_any};
+ghost use Rattle.e_literal.specs.declared.literal.Lit.{Lit};
 ghost use Rattle.e_clause.specs.Instance.{clause_of};
 ghost use Rattle.e_clause.specs.Table.{table};
-ghost use Rattle.e_clause.specs.Views.{atom_of, row_of};
+ghost use Rattle.e_clause.specs.Views.{atom_of, lit_of_pattern, row_of};
 ghost use Rattle.e_transfer.specs.GivenGoals.{NoneWithEquations};
+ghost use Rattle.e_transfer.specs.Marks;
 ghost use Rattle.e_transfer.specs.inner.BoundFacts;
 ghost use Rattle.e_transfer.specs.inner.BoundFacts.{NoneHoldsWith};
-ghost use Rattle.e_transfer.specs.inner.Equations as InEquations;
 
-use crate::clause::{clause_len, pattern_at};
+use crate::angles::may_be;
+use crate::clause::clause_len;
 use crate::equations::Equation;
-use crate::marks::{has_to_be_fact, parts};
+use crate::listing::{Triple, numbers_of};
+use crate::marks::{has_to_be_fact, mark, mark_of, relation_at};
 use crate::query::Query;
-use e_clause::{Row, Shape};
-use e_literal::Atom;
+use e_clause::{Pattern, Row, Shape};
 
-/// Whether the equations let the variable have this number.
-fn may_be(equations: &[Equation], variable: usize, number: u16) -> bool
-    ensures { result ≡ BoundFacts.may_be equations.now variable number }
+/// What is known of the numbers of a literal.
+type Known = (Option<u16>, Option<u16>, Option<u16>);
+
+/// The number of a variable, if the equations give it one.
+fn known(equations: &[Equation], variable: usize) -> Option<u16>
+    ensures { result ≡ BoundFacts.known_of equations.now variable }
 {
-    equations.iter().all(|equation| match equation {
-        Equation::Is(bound, is) => *bound != variable || *is == number,
-        Equation::Same(_, _) => true,
-    })
+    for equation in equations {
+        if let Equation::Is(bound, number) = equation {
+            if *bound == variable {
+                return Some(*number);
+            }
+        }
+    }
+    None
 }
 
-fn point(equations: &[Equation], at: u16, number: u16) -> bool
-    ensures { result ≡ BoundFacts.may_be equations.now at number }
+fn point(equations: &[Equation], at: u16) -> Option<u16>
+    ensures { result ≡ BoundFacts.known_of equations.now at }
 {
-    may_be(equations, at as usize, number)
+    known(equations, at as usize)
 }
 
-fn line(row: &Row, equations: &[Equation], at: u16, number: u16) -> bool
-    ensures { result ≡ BoundFacts.may_be equations.now
-        (InEquations.line_variable (row_of row.now) at) number }
+fn line(row: &Row, equations: &[Equation], at: u16) -> Option<u16>
+    ensures { result ≡ BoundFacts.known_line (row_of row.now) equations.now at }
 {
-    may_be(equations, row.points as usize + at as usize, number)
+    known(equations, row.points as usize + at as usize)
 }
 
-fn circle(row: &Row, equations: &[Equation], at: u16, number: u16) -> bool
-    ensures { result ≡ BoundFacts.may_be equations.now
-        (InEquations.circle_variable (row_of row.now) at) number }
+fn circle(row: &Row, equations: &[Equation], at: u16) -> Option<u16>
+    ensures { result ≡ BoundFacts.known_circle (row_of row.now) equations.now at }
 {
-    may_be(
+    known(
         equations,
         row.points as usize + row.lines as usize + at as usize,
-        number,
     )
 }
 
-/// Whether the diagram atom over variables may be this one.
-fn may_be_atom(row: &Row, equations: &[Equation], shape: &Shape, atom: &Atom) -> bool
-    ensures { result ≡ BoundFacts.may_be_atom (row_of row.now) equations.now (atom_of shape.now)
-        atom.now }
+/// What is known of the numbers of a diagram atom over variables.
+fn known_of_shape(row: &Row, es: &[Equation], shape: &Shape) -> Known
+    ensures { result ≡ BoundFacts.known_of_atom (row_of row.now) es.now (atom_of shape.now) }
 {
-    match (shape, atom) {
-        (Shape::On(x, l), Atom::On(a, b)) => {
-            point(equations, *x, *a) && line(row, equations, *l, *b)
+    match shape {
+        Shape::On(x, l) => (point(es, *x), line(row, es, *l), None),
+        Shape::OnC(x, c) | Shape::Inside(x, c) | Shape::Center(x, c) => {
+            (point(es, *x), circle(row, es, *c), None)
         }
-        (Shape::OnC(x, c), Atom::OnC(a, b)) => {
-            point(equations, *x, *a) && circle(row, equations, *c, *b)
-        }
-        (Shape::Inside(x, c), Atom::Inside(a, b)) => {
-            point(equations, *x, *a) && circle(row, equations, *c, *b)
-        }
-        (Shape::Center(x, c), Atom::Center(a, b)) => {
-            point(equations, *x, *a) && circle(row, equations, *c, *b)
-        }
-        (Shape::Between(x, y, z), Atom::Between(a, b, c)) => {
-            point(equations, *x, *a) && (point(equations, *y, *b) && point(equations, *z, *c))
-        }
-        (Shape::Same(x, y, l), Atom::Same(a, b, c)) => {
-            point(equations, *x, *a) && (point(equations, *y, *b) && line(row, equations, *l, *c))
-        }
-        (Shape::MeetLL(l, m), Atom::MeetLL(a, b)) | (Shape::EqL(l, m), Atom::EqL(a, b)) => {
-            line(row, equations, *l, *a) && line(row, equations, *m, *b)
-        }
-        (Shape::MeetLC(l, c), Atom::MeetLC(a, b)) => {
-            line(row, equations, *l, *a) && circle(row, equations, *c, *b)
-        }
-        (Shape::MeetCC(c, d), Atom::MeetCC(a, b)) | (Shape::EqC(c, d), Atom::EqC(a, b)) => {
-            circle(row, equations, *c, *a) && circle(row, equations, *d, *b)
-        }
-        (Shape::EqP(x, y), Atom::EqP(a, b)) => point(equations, *x, *a) && point(equations, *y, *b),
-        _ => false,
+        Shape::Between(x, y, z) => (point(es, *x), point(es, *y), point(es, *z)),
+        Shape::Same(x, y, l) => (point(es, *x), point(es, *y), line(row, es, *l)),
+        Shape::MeetLL(l, m) | Shape::EqL(l, m) => (line(row, es, *l), line(row, es, *m), None),
+        Shape::MeetLC(l, c) => (line(row, es, *l), circle(row, es, *c), None),
+        Shape::MeetCC(c, d) | Shape::EqC(c, d) => (circle(row, es, *c), circle(row, es, *d), None),
+        Shape::EqP(x, y) => (point(es, *x), point(es, *y), None),
+        Shape::MagEq(_, _) | Shape::MagLt(_, _) => (None, None, None),
     }
 }
 
-/// Whether one of the facts may be the atom over variables, or its negation.
-fn may_be_fact(query: &Query, row: &Row, equations: &[Equation], neg: bool, shape: &Shape) -> bool
-    ensures { result ≡ BoundFacts.may_be_fact (row_of row.now) equations.now neg (atom_of shape.now)
-        query.now.facts.now }
+fn known_of_pattern(row: &Row, es: &[Equation], pattern: &Pattern) -> Known
+    ensures { result
+        ≡ BoundFacts.known_of_atom (row_of row.now) es.now (lit_of_pattern pattern.now).atom }
 {
-    let facts = query.facts.items();
-    facts.iter().any(|fact| fact.neg == neg && may_be_atom(row, equations, shape, &fact.atom))
+    match pattern {
+        Pattern::Is(shape) | Pattern::Not(shape) => known_of_shape(row, es, shape),
+    }
 }
 
-// Whether the equations bind the variable.
-fn binds(equations: &[Equation], variable: usize) -> bool {
-    equations.iter().any(|equation| match equation {
-        Equation::Is(bound, _) => *bound == variable,
-        Equation::Same(_, _) => false,
-    })
+/// What is known of the numbers at a place of the clause.
+fn known_at(row: &Row, es: &[Equation], at: usize) -> Known
+    requires { at < length (clause_of (row_of row.now)) }
+    ensures { (l : Lit) × (slice_get (clause_of (row_of row.now)) at ≡ Some l)
+        × (result ≡ BoundFacts.known_of_atom (row_of row.now) es.now l.atom) }
+{
+    let premises = row.premises.len();
+    if at < premises {
+        known_of_pattern(row, es, &row.premises[at])
+    } else {
+        known_of_pattern(row, es, &row.conclusions[at - premises])
+    }
 }
 
-// Whether the equations bind a variable of the shape: else what the relations of the facts tell is
-// all that is known. It is a matter of speed alone.
-fn is_bound(row: &Row, equations: &[Equation], shape: &Shape) -> bool {
-    let line = row.points as usize;
-    let circle = line + row.lines as usize;
-    let (first, second) = match shape {
-        Shape::On(x, l) => (*x as usize, line + *l as usize),
-        Shape::OnC(x, c) | Shape::Inside(x, c) | Shape::Center(x, c) => {
-            (*x as usize, circle + *c as usize)
+// Whether nothing is known: else what the relations of the facts tell is all that is known. It is a
+// matter of speed alone.
+fn is_unknown(known: Known) -> bool {
+    known.0.is_none() && known.1.is_none() && known.2.is_none()
+}
+
+/// Whether the numbers are those that are known.
+fn fits(known: Known, numbers: Triple) -> bool
+    ensures { result ≡ BoundFacts.fits known numbers }
+{
+    may_be(known.0, numbers.0) && (may_be(known.1, numbers.1) && may_be(known.2, numbers.2))
+}
+
+fn is_any(known: Known, numbers: &[Triple]) -> bool
+    ensures { result ≡ list_any (BoundFacts.fits known) numbers.now }
+{
+    numbers.iter().any(|triple| fits(known, *triple))
+}
+
+/// Whether a fact with the mark has such numbers.
+fn may_be_fact(query: &Query, mark: usize, known: Known) -> bool
+    requires { mark < 28 }
+    ensures { result ≡ BoundFacts.may_be_among mark known query.now.facts.now }
+{
+    match query.hints {
+        Some(hints) => is_any(known, hints.listing[mark].items()),
+        None => {
+            let facts = query.facts.items();
+            facts.iter().any(|fact| mark_of(fact) == mark && fits(known, numbers_of(&fact.atom)))
         }
-        Shape::Between(x, y, z) => {
-            if binds(equations, *y as usize) {
-                return true;
-            }
-            (*x as usize, *z as usize)
-        }
-        Shape::Same(x, y, l) => {
-            if binds(equations, line + *l as usize) {
-                return true;
-            }
-            (*x as usize, *y as usize)
-        }
-        Shape::MeetLL(l, m) | Shape::EqL(l, m) => (line + *l as usize, line + *m as usize),
-        Shape::MeetLC(l, c) => (line + *l as usize, circle + *c as usize),
-        Shape::MeetCC(c, d) | Shape::EqC(c, d) => (circle + *c as usize, circle + *d as usize),
-        Shape::EqP(x, y) => (*x as usize, *y as usize),
-        Shape::MagEq(_, _) | Shape::MagLt(_, _) => return false,
-    };
-    binds(equations, first) || binds(equations, second)
+    }
 }
 
 /// Whether an instance whose variables are so may have at this place of the clause the goal, or a
 /// literal whose negation holds.
-fn may_hold(query: &Query, row: &Row, equations: &[Equation], at: usize) -> bool
-    requires { at < length (clause_of (row_of row.now)) }
+fn may_hold(query: &Query, goal_mark: usize, row: &Row, es: &[Equation], at: usize) -> bool
+    requires in_clause { at < length (clause_of (row_of row.now)) }
+    requires of_goal { goal_mark ≡ Marks.lit_mark query.now.goal.now }
     ensures { result ≡ false → NoneHoldsWith query.now.strength query.now.facts.now
-        query.now.goal.now (row_of row.now) equations.now at }
+        query.now.goal.now (row_of row.now) es.now at }
 {
-    let (pattern, negated) = pattern_at(row, at);
-    let (shape, neg) = parts(&pattern, negated);
-    if !has_to_be_fact(query, neg, &shape) || !is_bound(row, equations, &shape) {
+    let (relation, neg) = relation_at(row, at);
+    if !has_to_be_fact(relation, neg, goal_mark) {
         return true;
     }
-    may_be_fact(query, row, equations, !neg, &shape)
+    let known = known_at(row, es, at);
+    if is_unknown(known) {
+        return true;
+    }
+    may_be_fact(query, mark(relation, !neg), known)
 }
 
-/// Whether the place is the goal's, or may have the goal or a literal whose negation holds.
-fn may_be_there(query: &Query, row: &Row, equations: &[Equation], place: usize, at: usize) -> bool
-    requires { at < length (clause_of (row_of row.now)) }
-    ensures { result ≡ false → (at ≢ place) × NoneHoldsWith query.now.strength query.now.facts.now
-        query.now.goal.now (row_of row.now) equations.now at }
-{
-    at == place || may_hold(query, row, equations, at)
-}
-
-/// Whether at each place of the clause but this one an instance whose variables are so may have the
-/// goal, or a literal whose negation holds.
-pub fn may_all_hold(query: &Query, row: &Row, equations: &[Equation], place: usize) -> bool
-    ensures { result ≡ false → (rule : ℕ) → slice_get table rule ≡ Some (row_of row.now)
+/// Whether at each place of the clause an instance whose variables are so may have the goal, or a
+/// literal whose negation holds.
+pub fn may_all_hold(query: &Query, goal_mark: usize, row: &Row, es: &[Equation]) -> bool
+    requires of_goal { goal_mark ≡ Marks.lit_mark query.now.goal.now }
+    ensures { result ≡ false → (rule place : ℕ) → slice_get table rule ≡ Some (row_of row.now)
         → NoneWithEquations query.now.strength query.now.scope query.now.facts.now
-        query.now.goal.now rule place equations.now }
+        query.now.goal.now rule place es.now }
 {
-    (0..clause_len(row)).all(|at| may_be_there(query, row, equations, place, at))
+    (0..clause_len(row)).all(|at| may_hold(query, goal_mark, row, es, at))
 }

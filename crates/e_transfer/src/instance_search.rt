@@ -120,6 +120,30 @@ fn is_free(query: &Query, area: Term) -> bool
     hints.plain_model || hints.spread_model
 }
 
+// Whether the last number of the part is that of the point variable.
+fn is_newest(numbers: &Numbers, at: u16) -> bool {
+    match numbers.positions.get(usize::from(at)) {
+        Some(place) => is_last(*place, numbers.part.len()),
+        None => false,
+    }
+}
+
+// Whether the last number of the part is one of the angle: else what was seen of the angle before
+// it came is all that is seen. It is a matter of speed alone.
+fn has_newest(numbers: &Numbers, term: Term) -> bool {
+    match term {
+        Term::Ang(x, y, z) => {
+            is_newest(numbers, x) || is_newest(numbers, y) || is_newest(numbers, z)
+        }
+        _ => false,
+    }
+}
+
+// Whether more may be seen of the two angles than before the last number of the part came.
+fn is_news(numbers: &Numbers, term: Term, other: Term) -> bool {
+    numbers.part.is_empty() || has_newest(numbers, term) || has_newest(numbers, other)
+}
+
 /// Whether it is seen that two angles do not differ, whatever numbers come next: there are values
 /// with which all facts are true, they list neither, and what they do not list has 1.
 fn are_unlisted(query: &Query, numbers: &Numbers, term: Term, other: Term) -> bool
@@ -128,7 +152,7 @@ fn are_unlisted(query: &Query, numbers: &Numbers, term: Term, other: Term) -> bo
     let Some(hints) = query.hints else {
         return false;
     };
-    if !hints.plain_model {
+    if !hints.plain_model || !is_news(numbers, term, other) {
         return false;
     }
     let values = hints.values.items();

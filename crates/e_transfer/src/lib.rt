@@ -15,6 +15,7 @@ mod equations;
 mod finding;
 mod instance_check;
 mod instance_search;
+mod listing;
 mod marks;
 mod matches;
 mod models;

@@ -99,7 +99,7 @@ fn relation_of(shape: &Shape) -> usize
 }
 
 /// The mark of a relation, or of its negation.
-fn mark(relation: usize, neg: bool) -> usize
+pub fn mark(relation: usize, neg: bool) -> usize
     requires { relation < 14 }
     ensures is { result ≡ Marks.mark_number relation neg }
     ensures below { result < 28 }
@@ -199,15 +199,14 @@ fn may_suffice(query: &Query, neg: bool, shape: &Shape) -> bool
     }
 }
 
-/// Whether the atom over variables, or its negation, is of diagrams, and has not the goal's relation
-/// and sign: then what negates it has to be a fact.
-pub fn has_to_be_fact(query: &Query, neg: bool, shape: &Shape) -> bool
-    ensures diagram { result ≡ true → Marks.relation_number (atom_of shape.now) < 12 }
-    ensures unlike { result ≡ true → Marks.mark_number (Marks.relation_number (atom_of shape.now))
-        neg ≢ Marks.lit_mark query.now.goal.now }
+/// Whether a literal of this relation and sign is of diagrams, and has not the goal's mark: then
+/// what negates it has to be a fact.
+pub fn has_to_be_fact(relation: usize, neg: bool, goal_mark: usize) -> bool
+    requires { relation < 14 }
+    ensures diagram { result ≡ true → relation < 12 }
+    ensures unlike { result ≡ true → Marks.mark_number relation neg ≢ goal_mark }
 {
-    let relation = relation_of(shape);
-    relation < OF_DIAGRAMS && mark(relation, neg) != mark_of(query.goal)
+    relation < OF_DIAGRAMS && mark(relation, neg) != goal_mark
 }
 
 /// Whether an instance may have at this place of the clause the goal, or a literal whose negation
@@ -222,28 +221,42 @@ fn may_hold(query: &Query, row: &Row, at: usize) -> bool
     mark(relation_of(&shape), neg) == mark_of(query.goal) || may_suffice(query, !neg, &shape)
 }
 
-/// The mark of a pattern, or of its negation.
-fn mark_of_pattern(pattern: &Pattern, negated: bool) -> usize
-    ensures { result ≡ Marks.lit_mark (signed_literal negated pattern.now) }
+/// The relation and the sign of a pattern, or of its negation.
+fn relation_of_pattern(pattern: &Pattern, negated: bool) -> (usize, bool)
+    ensures relation { result.0
+        ≡ Marks.relation_number (signed_literal negated pattern.now).atom }
+    ensures sign { result.1 ≡ (signed_literal negated pattern.now).neg }
+    ensures below { result.0 < 14 }
 {
     match pattern {
-        Pattern::Is(shape) => mark(relation_of(shape), negated),
-        Pattern::Not(shape) => mark(relation_of(shape), !negated),
+        Pattern::Is(shape) => (relation_of(shape), negated),
+        Pattern::Not(shape) => (relation_of(shape), !negated),
     }
 }
 
-/// The mark at a place of the clause; the pattern is looked at where it is.
+/// The relation and the sign at a place of the clause; the pattern is looked at where it is.
+pub fn relation_at(row: &Row, at: usize) -> (usize, bool)
+    requires { at < length (clause_of (row_of row.now)) }
+    ensures is { (l : Lit) × (slice_get (clause_of (row_of row.now)) at ≡ Some l)
+        × (result.0 ≡ Marks.relation_number l.atom) × (result.1 ≡ l.neg) }
+    ensures below { result.0 < 14 }
+{
+    let premises = row.premises.len();
+    if at < premises {
+        relation_of_pattern(&row.premises[at], true)
+    } else {
+        relation_of_pattern(&row.conclusions[at - premises], false)
+    }
+}
+
+/// The mark at a place of the clause.
 fn mark_at(row: &Row, at: usize) -> usize
     requires { at < length (clause_of (row_of row.now)) }
     ensures { (l : Lit) × (slice_get (clause_of (row_of row.now)) at ≡ Some l)
         × (result ≡ Marks.lit_mark l) }
 {
-    let premises = row.premises.len();
-    if at < premises {
-        mark_of_pattern(&row.premises[at], true)
-    } else {
-        mark_of_pattern(&row.conclusions[at - premises], false)
-    }
+    let (relation, neg) = relation_at(row, at);
+    mark(relation, neg)
 }
 
 /// Whether an instance may have the goal, which has this mark, at this place of the clause.

@@ -9,9 +9,12 @@ ghost use Rattle.e_clause.specs.LimitedFacts.{most_terms_of_step};
 ghost use Rattle.e_clause.specs.Metric.{MetricConsequence};
 ghost use Rattle.e_metric.specs.Fronts.{AreFronts};
 ghost use Rattle.e_transfer.specs.Areas.{name_areas_of};
+ghost use Rattle.e_transfer.specs.Listings.{IsListing};
+ghost use Rattle.e_transfer.specs.Models.{is_model, value_by};
 ghost use Rattle.e_transfer.specs.Prepared.{IsPrepared};
 
 use crate::areas::areas_of;
+use crate::listing::{Listing, listing_of};
 use crate::marks::{MARKS, marks_of};
 use crate::models::{Filling, are_of_model, equal_value, refutes};
 use e_facts::Facts;
@@ -20,7 +23,8 @@ use e_metric::{Metric, MetricFacts};
 use std::alloc::{AllocError, Global};
 
 /// What is made of facts: values with which all metric ones are true, if such are known, of which
-/// models those are, the areas that the facts name, and which relations they have.
+/// models those are, the areas that the facts name, which relations they have, and with which
+/// numbers.
 #[derive(Drop)]
 pub struct Prepared {
     pub values: Values,
@@ -31,20 +35,39 @@ pub struct Prepared {
     pub spread_model: bool,
     pub flat_model: bool,
     pub marks: [bool; MARKS],
+    pub listing: Listing,
+}
+
+// Whether it is seen that the values are those of a model: it may be known without a look at the
+// facts.
+fn is_seen(facts: &Facts, filling: Filling, values: &[(Term, u128)], known: bool) -> bool
+    requires { known ≡ true → IsTrue (is_model facts.now (value_by filling values.now)) }
+    ensures { result ≡ true → IsTrue (is_model facts.now (value_by filling values.now)) }
+{
+    known || are_of_model(facts, filling, values)
 }
 
 // What is made of the facts, with these values, which may list all terms of the facts, and areas.
-fn with_values(facts: &Facts, values: Values, lists_all: bool, areas: Vec<Term>) -> Prepared
+fn with_values(
+    facts: &Facts,
+    values: Values,
+    lists_all: bool,
+    areas: Vec<Term>,
+    listing: Listing,
+) -> Prepared
     requires listed { lists_all ≡ true → ListsCounterexample facts.now None values }
     requires named { IsTrue (name_areas_of areas.items facts.now) }
+    requires numbers { IsListing facts.now listing.items }
     ensures { IsPrepared facts.now result }
 {
+    let no_areas = lists_all && areas.is_empty();
     Prepared {
         lists_all,
-        plain_model: are_of_model(facts, Filling::Each(1), values.items()),
-        spread_model: are_of_model(facts, Filling::Spread, values.items()),
-        flat_model: are_of_model(facts, Filling::Flat, values.items()),
+        plain_model: is_seen(facts, Filling::Each(1), values.items(), lists_all),
+        spread_model: is_seen(facts, Filling::Spread, values.items(), lists_all),
+        flat_model: is_seen(facts, Filling::Flat, values.items(), no_areas),
         marks: marks_of(facts),
+        listing,
         values,
         areas,
     }
@@ -62,10 +85,12 @@ pub fn prepare(
     ensures { IfOk result (IsPrepared facts.now) }
 {
     let areas = areas_of(alloc, facts)?;
+    let listing = listing_of(alloc, facts.items())?;
     match metric_facts.absurd(alloc, facts)? {
-        Metric::No(values) => Ok(with_values(facts, values, true, areas)),
+        Metric::No(values) => Ok(with_values(facts, values, true, areas, listing)),
         Metric::Yes(_) | Metric::TooWide(_) => {
-            Ok(with_values(facts, Values::new(Vec::new(alloc)), false, areas))
+            let values = Values::new(Vec::new(alloc));
+            Ok(with_values(facts, values, false, areas, listing))
         }
     }
 }

@@ -72,17 +72,19 @@ fn search_with_equations(
     rule: Rule,
     row: &Row,
     preferred: &[u8],
+    goal_mark: usize,
     place: usize,
     equality: Option<usize>,
     equations: &[Equation],
 ) -> Result<Verdict<TransferCert>, AllocError>
     requires of_table { slice_get table rule ≡ Some (row_of row.now) }
     requires transfer { IsTrue (is_transfer rule) }
+    requires of_goal { goal_mark ≡ Marks.lit_mark query.now.goal.now }
     ensures { IfOk result (RuleSearchIs query.now.strength query.now.scope query.now.facts.now
         query.now.goal.now (NoneWithEquations query.now.strength query.now.scope query.now.facts.now
         query.now.goal.now rule place equations.now)) }
 {
-    if !bound_facts::may_all_hold(query, row, equations, place) {
+    if !bound_facts::may_all_hold(query, goal_mark, row, equations) {
         return Ok(Verdict::No);
     }
     let total = row.points as usize + row.lines as usize + row.circles as usize;
@@ -139,6 +141,7 @@ fn search_place(
             rule,
             row,
             preferred,
+            goal_mark,
             place,
             equality,
             equations.items(),

@@ -1,16 +1,8 @@
-use Rattle.e_transfer.proofs.Clauses.{premise_at, conclusion_at}
+use Rattle.std.proofs.Common.{ap, ◌∙◌}
+use Rattle.e_transfer.specs.Marks.{mark_number, relation_number}
 use Rattle.e_transfer.proofs.marks.mark_at.Goals as goal
 
-pub returns-then-at-premises : goal.returns-then-at-premises
-returns-then-at-premises c = (
-  _,
-  premise_at c.args.row.now.premises.now c.args.row.now.conclusions.now c.args.at _ c.if-at-premises.true,
-  c.mark_of_pattern.ensures,
-)
-
-pub returns-else-at-premises : goal.returns-else-at-premises
-returns-else-at-premises c = (
-  _,
-  conclusion_at c.args.row.now.premises.now c.args.row.now.conclusions.now c.args.at _ c.if-at-premises.false c.requires,
-  c.mark_of_pattern-else-at-premises.ensures,
-)
+pub returns : goal.returns
+returns c =
+    let at = c.relation_at-relation.ensures.is in
+    (at.0, at.1, c.mark.ensures.is ∙ ap (λ n. mark_number n c.relation_at-relation.result.1) at.2 ∙ ap (mark_number (relation_number at.0.atom)) at.3)
