@@ -14,7 +14,7 @@ ghost use Rattle.e_metric.specs.inner.TermTotals.{kept_total};
 ghost use Rattle.e_literal.specs.declared.object.Term.{Term as ATerm};
 
 use crate::in_two::InTwo;
-use crate::totals::{total_of_term, totals_of};
+use crate::totals::{has_negative, total_of_term, totals_of};
 use e_clause::{MetricCert, RowName, Sum, Sums};
 use e_fraction::Row;
 use e_literal::{Term, canonical, copy};
@@ -98,7 +98,7 @@ fn add_leasts_of(
 }
 
 // Where the rows, each times its weight, leave less than nothing of a term, adds as many times the
-// row that says that it is at least 0.
+// row that says that it is at least 0. Mostly there is no such term.
 fn add_leasts(
     sum: &mut Vec<(i128, RowName)>,
     alloc: Global,
@@ -111,7 +111,11 @@ fn add_leasts(
         ++ leasts (Absurd.total (with_multipliers rows.now weights.now)) terms.now) }
 {
     let totals = totals_of(alloc, rows, weights)?;
-    add_leasts_of(sum, &totals, terms)
+    if has_negative(&totals) {
+        add_leasts_of(sum, &totals, terms)
+    } else {
+        Ok(())
+    }
 }
 
 // The sum of the rows with these multipliers, and of what brings each term to 0, where it is

@@ -1,7 +1,9 @@
 //! Rows added up, term by term.
 
 ghost use Rattle.std.specs.Prelude.{◌≡◌, ◌+◌, ◌<◌, ◌≤◌, ◌^◌, ◌∷◌, [], IsTrue, IfOk, OnOk};
-ghost use Rattle.std.specs.Prelude.{◌+ℤ◌, ◌*ℤ◌, pos, true, unsigned_abs};
+ghost use Rattle.std.specs.Prelude.{◌+ℤ◌, ◌*ℤ◌, pos, true, unsigned_abs, int_lt};
+ghost use Rattle.std.specs.List.{list_any};
+ghost use Rattle.std.specs.BTreeMap.{values};
 ghost use Rattle.e_literal.specs.Absurd;
 ghost use Rattle.e_literal.specs.declared.object.Term.{Term as ATerm};
 ghost use Rattle.e_literal.specs.Rows.{coefficient};
@@ -25,6 +27,13 @@ pub fn total_of_term(totals: &BTreeMap<Term, i128>, term: Term) -> i128
         Some(total) => *total,
         None => 0,
     }
+}
+
+/// Whether a number less than 0 is kept.
+pub fn has_negative(totals: &BTreeMap<Term, i128>) -> bool
+    ensures { result ≡ list_any (λ total. int_lt total (pos 0)) (values totals.now) }
+{
+    totals.values().any(|total| *total < 0)
 }
 
 // Adds to the number that is kept for a term.

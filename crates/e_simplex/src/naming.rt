@@ -179,7 +179,7 @@ pub fn tried_constraints(
         v.items ≡ named_constraints true terms.now (views_of_rows (rows.now ++ more.now))) }
     ensures small { IfOk result (λ v. AllSmallConstraints v.items) }
 {
-    let mut constraints = Vec::new(alloc);
+    let mut constraints = Vec::with_capacity(alloc, more.len())?;
     add_constraints_where(&mut constraints, alloc, true, terms, rows)?;
     add_constraints_where(&mut constraints, alloc, true, terms, more)?;
     Ok(constraints)

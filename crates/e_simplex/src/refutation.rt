@@ -12,7 +12,6 @@ ghost use Rattle.e_simplex.specs.inner.Readings.{WeightsWith};
 use crate::constraints::{Constraint, is_zero};
 use crate::further::has_wide;
 use crate::pivot::with_sign_of;
-use crate::readings::zeros;
 use crate::table::{Table, may_enter, violates};
 use std::alloc::{AllocError, Global};
 
@@ -44,7 +43,9 @@ impl Table {
             self.now.columns.items self.now.det row.now v.items) }
     {
         let w = self.columns.len();
-        let mut weights = zeros(alloc, self.basis.len())?;
+        let count = self.basis.len();
+        let mut weights = Vec::with_capacity(alloc, count.saturating_add(1))?;
+        weights.resize(count, 0)?;
         for (q, number) in self.columns.iter().enumerate() {
             if w <= *number {
                 weights[*number - w] = -with_sign_of(row[0], row[q]);

@@ -10,7 +10,7 @@ use crate::solve::End;
 use crate::table::Table;
 use e_literal::Items;
 use std::alloc::{AllocError, Global};
-use std::mem;
+use std::{mem, slice};
 
 /// What comes of constraints: every one is satisfied, or multipliers refute them, or a minor is
 /// large.
@@ -276,7 +276,6 @@ impl Table {
         ensures { IfOk result (IsTableOutcome (columns_of self.now)
             (constraints_of self.now ++ constraint.now ∷ [])) }
     {
-        let more = [copy_of_constraint(alloc, constraint)?];
-        self.with_all(alloc, &more)
+        self.with_all(alloc, slice::from_ref(constraint))
     }
 }

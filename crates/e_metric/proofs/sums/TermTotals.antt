@@ -3,7 +3,7 @@ use Rattle.std.proofs.Common.{◌≡◌, ℕ, zero, suc, ◌+◌, ◌*◌, ◌<�
 use Rattle.std.specs.Prelude.{ℤ, pos, neg_ℤ, ◌+ℤ◌, ◌*ℤ◌, unsigned_abs, unwrap_or, int_lt, nat_le}
 use Rattle.std.specs.List.{list_any}
 use Rattle.std.specs.Ordering.{is_eq}
-use Rattle.std.specs.Map.{lookup}
+use Rattle.std.specs.Map.{lookup, values_of}
 use Rattle.std.specs.BTreeMap.{BTreeMap, Updates}
 use Rattle.std.proofs.lemmas.Bool.{and_from, not-true}
 use Rattle.std.proofs.lemmas.List.{take_more}
@@ -118,3 +118,19 @@ leasts_alike f g [] e = refl
 leasts_alike f g (t ∷ ts) e =
     ap (λ (z : ℤ). least_of z t (leasts f ts)) (e (canonical t))
     ∙ ap (λ (rest : List (ℤ × RowName)). least_of (g (canonical t)) t rest) (leasts_alike f g ts e)
+
+-- ---- no term has less than nothing
+
+kept_not_less : (test : Term → Bool) (es : List (Term × ℤ)) → list_any (λ z. int_lt z (pos 0)) (values_of es) ≡ false → int_lt (unwrap_or (lookup test es) (pos 0)) (pos 0) ≡ false
+kept_not_less test [] h = refl
+kept_not_less test (e ∷ es) h = by (test e.0) (kept_not_less test es (or_not_right (int_lt e.1 (pos 0)) (list_any (λ z. int_lt z (pos 0)) (values_of es)) h))
+  where
+    by : (b : Bool) → int_lt (unwrap_or (lookup test es) (pos 0)) (pos 0) ≡ false → int_lt (unwrap_or (cond b (Some e.1) (lookup test es)) (pos 0)) (pos 0) ≡ false
+    by true rest = or_not_left (int_lt e.1 (pos 0)) (list_any (λ z. int_lt z (pos 0)) (values_of es)) h
+    by false rest = rest
+
+pub no_leasts : (es : List (Term × ℤ)) (ts : List Term) → list_any (λ z. int_lt z (pos 0)) (values_of es) ≡ false → leasts (kept_total es) ts ≡ []
+no_leasts es [] h = refl
+no_leasts es (t ∷ ts) h =
+    ap (λ b. cond b ((neg_ℤ (kept_total es (canonical t)), Least t) ∷ leasts (kept_total es) ts) (leasts (kept_total es) ts)) (kept_not_less (λ k. is_eq ((order_impl.cmp-value).it (canonical t) k)) es h)
+    ∙ no_leasts es ts h

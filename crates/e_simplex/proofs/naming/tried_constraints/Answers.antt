@@ -13,5 +13,5 @@ add_constraints_where-requires-2-clause-named c = all_named_last c.args.terms.no
 pub returns-clause-value : goal.returns-clause-value
 returns-clause-value c =
     c.in_ok-add_constraints_where-2.ensures.value
-    ∙ ap (λ v. v ++ named_constraints true c.args.terms.now (views_of_rows c.args.more.now)) (c.in_ok-add_constraints_where.ensures.value ∙ ap (λ v. v ++ named_constraints true c.args.terms.now (views_of_rows c.args.rows.now)) c.new-constraints.ensures.items)
+    ∙ ap (λ v. v ++ named_constraints true c.args.terms.now (views_of_rows c.args.more.now)) (c.in_ok-add_constraints_where.ensures.value ∙ ap (λ v. v ++ named_constraints true c.args.terms.now (views_of_rows c.args.rows.now)) c.in_ok-constraints.ensures.items)
     ∙ constraints_both true c.args.terms.now c.args.rows.now c.args.more.now
