@@ -93,10 +93,23 @@ pub fn equal_terms(pattern: &Pattern) -> Option<(Term, Term)>
     }
 }
 
+/// Where a clause says of two terms alone that they are equal, and of which.
+#[derive(Clone, Copy)]
+pub struct Equality {
+    pub at: usize,
+    pub one: Term,
+    pub other: Term,
+}
+
 /// The place of the clause that says of two terms alone that they are equal, if there is one.
-pub fn place_of_equality(row: &Row) -> Option<usize> {
-    (0..clause_len(row)).find(|&at| {
+pub fn place_of_equality(row: &Row) -> Option<Equality> {
+    for at in 0..clause_len(row) {
         let (pattern, negated) = pattern_at(row, at);
-        !negated && equal_terms(&pattern).is_some()
-    })
+        if !negated {
+            if let Some((one, other)) = equal_terms(pattern) {
+                return Some(Equality { at, one, other });
+            }
+        }
+    }
+    None
 }

@@ -6,19 +6,19 @@ ghost use Rattle.std.specs.List.{list_any};
 ghost use Rattle.e_literal.specs.declared.literal.Lit.{Lit};
 ghost use Rattle.e_clause.specs.Instance.{clause_of};
 ghost use Rattle.e_clause.specs.Table.{table};
-ghost use Rattle.e_clause.specs.Views.{atom_of, lit_of_pattern, row_of};
+ghost use Rattle.e_clause.specs.Views.{atom_of, row_of};
 ghost use Rattle.e_transfer.specs.GivenGoals.{NoneWithEquations};
 ghost use Rattle.e_transfer.specs.Marks;
 ghost use Rattle.e_transfer.specs.inner.BoundFacts;
 ghost use Rattle.e_transfer.specs.inner.BoundFacts.{NoneHoldsWith};
 
 use crate::angles::may_be;
-use crate::clause::clause_len;
+use crate::clause::{clause_len, pattern_at};
 use crate::equations::Equation;
 use crate::listing::{Triple, numbers_of};
-use crate::marks::{has_to_be_fact, mark, mark_of, relation_at};
+use crate::marks::{has_to_be_fact, mark, mark_of, parts, relation_at};
 use crate::query::Query;
-use e_clause::{Pattern, Row, Shape};
+use e_clause::{Row, Shape};
 
 /// What is known of the numbers of a literal.
 type Known = (Option<u16>, Option<u16>, Option<u16>);
@@ -77,27 +77,15 @@ fn known_of_shape(row: &Row, es: &[Equation], shape: &Shape) -> Known
     }
 }
 
-fn known_of_pattern(row: &Row, es: &[Equation], pattern: &Pattern) -> Known
-    ensures { result
-        ≡ BoundFacts.known_of_atom (row_of row.now) es.now (lit_of_pattern pattern.now).atom }
-{
-    match pattern {
-        Pattern::Is(shape) | Pattern::Not(shape) => known_of_shape(row, es, shape),
-    }
-}
-
 /// What is known of the numbers at a place of the clause.
 fn known_at(row: &Row, es: &[Equation], at: usize) -> Known
     requires { at < length (clause_of (row_of row.now)) }
     ensures { (l : Lit) × (slice_get (clause_of (row_of row.now)) at ≡ Some l)
         × (result ≡ BoundFacts.known_of_atom (row_of row.now) es.now l.atom) }
 {
-    let premises = row.premises.len();
-    if at < premises {
-        known_of_pattern(row, es, &row.premises[at])
-    } else {
-        known_of_pattern(row, es, &row.conclusions[at - premises])
-    }
+    let (pattern, negated) = pattern_at(row, at);
+    let (shape, _neg) = parts(pattern, negated);
+    known_of_shape(row, es, shape)
 }
 
 // Whether nothing is known: else what the relations of the facts tell is all that is known. It is a

@@ -17,16 +17,16 @@ pub fn clause_len(row: &Row) -> usize
     row.premises.len() + row.conclusions.len()
 }
 
-/// The pattern at a place of the clause, and whether its negation is meant.
-pub fn pattern_at(row: &Row, at: usize) -> (Pattern, bool)
+/// The pattern at a place of the clause, where it is, and whether its negation is meant.
+pub fn pattern_at(row: &Row, at: usize) -> (&Pattern, bool)
     requires { at < length (clause_of (row_of row.now)) }
-    ensures { slice_get (clause_of (row_of row.now)) at ≡ Some (signed_literal result.1 result.0) }
+    ensures { slice_get (clause_of (row_of row.now)) at ≡ Some (signed_literal result.1 result.0.now) }
 {
     let premises = row.premises.len();
     if at < premises {
-        (row.premises[at], true)
+        (&row.premises[at], true)
     } else {
-        (row.conclusions[at - premises], false)
+        (&row.conclusions[at - premises], false)
     }
 }
 
@@ -37,5 +37,5 @@ pub fn literal_at(alloc: Global, row: &Row, args: &[Obj], at: usize) -> Result<L
         (map (lit_at (row_of row.now) args.now) (clause_of (row_of row.now))) at ≡ Some l) }
 {
     let (pattern, negated) = pattern_at(row, at);
-    literal(alloc, row, args, &pattern, negated)
+    literal(alloc, row, args, pattern, negated)
 }

@@ -12,13 +12,13 @@ ghost use Rattle.e_clause.specs.Instance.{clause_of, lit_at};
 ghost use Rattle.e_transfer.specs.GivenGoals.{IsFittingLiteral, IsWideTransfer, Suffices};
 ghost use Rattle.e_transfer.specs.declared.query.Strength.TheVariants as strength;
 ghost use Rattle.e_transfer.specs.Areas;
-ghost use Rattle.e_transfer.specs.Marks.{is_area_term};
+ghost use Rattle.e_transfer.specs.Marks.{is_area_term, relation_number};
 ghost use Rattle.e_transfer.specs.inner.Angles.{NeverDiffer};
 ghost use Rattle.e_transfer.specs.inner.PartsOfChoices.{arguments_by};
 ghost use Rattle.e_transfer.specs.inner.SearchedPlaces.{Wanted, NoneFrom, Shown};
 
 use crate::angles::is_unlisted;
-use crate::areas::{equal_terms, is_one_of};
+use crate::areas::{Equality, equal_terms, is_one_of};
 use crate::clause::{clause_len, pattern_at};
 use crate::instance_check::{check_instance, is_refuted};
 use crate::marks::{is_area, is_equation, parts};
@@ -42,7 +42,7 @@ pub struct InstanceSearch<'a> {
     pub plan: &'a Plan,
     /// Where the clause says of two terms alone that they are equal, if it does. That is a matter
     /// of speed alone.
-    pub equality: Option<usize>,
+    pub equality: Option<Equality>,
     ghost transfer: { IsTrue (is_transfer rule) },
     ghost of_table: { slice_get table rule ≡ Some (row_of row.now) },
 }
@@ -87,6 +87,27 @@ fn is_negated_goal(query: &Query, need: Lit) -> bool
     is_goal
 }
 
+/// Whether a literal of an instance that compares no sums may be what it has to be: at the goal's
+/// place the goal, elsewhere the goal or one whose negation is a fact.
+fn diagram_may_hold(query: &Query, here: bool, lit: Lit) -> bool
+    requires { relation_number lit.atom < 12 }
+    ensures { result ≡ false
+        → IsFittingLiteral query.now.strength query.now.facts.now query.now.goal.now here lit → ⊥ }
+{
+    if same(&lit, query.goal) {
+        mem::drop(lit);
+        return true;
+    }
+    if here {
+        mem::drop(lit);
+        return false;
+    }
+    let need = negate(lit);
+    let holds = query.facts.has(&need);
+    mem::drop(need);
+    holds
+}
+
 /// Whether a literal of an instance may be what it has to be: at the goal's place the goal,
 /// elsewhere the goal or one whose negation may hold. Most that do not are not the goal's negation
 /// by their sign, so this comes last.
@@ -128,20 +149,22 @@ fn is_newest(numbers: &Numbers, at: u16) -> bool {
     }
 }
 
-// Whether the last number of the part is one of the angle: else what was seen of the angle before
-// it came is all that is seen. It is a matter of speed alone.
+// Whether the last number of the part is one of the term.
 fn has_newest(numbers: &Numbers, term: Term) -> bool {
     match term {
-        Term::Ang(x, y, z) => {
+        Term::Ang(x, y, z) | Term::Area(x, y, z) => {
             is_newest(numbers, x) || is_newest(numbers, y) || is_newest(numbers, z)
         }
-        _ => false,
+        Term::Seg(_, _) | Term::Right => false,
     }
 }
 
-// Whether more may be seen of the two angles than before the last number of the part came.
-fn is_news(numbers: &Numbers, term: Term, other: Term) -> bool {
-    numbers.part.is_empty() || has_newest(numbers, term) || has_newest(numbers, other)
+// Whether more may be seen of the two terms than before the last number of the part came. It is a
+// matter of speed alone.
+fn is_news(numbers: &Numbers, equality: Equality) -> bool {
+    numbers.part.is_empty()
+        || has_newest(numbers, equality.one)
+        || has_newest(numbers, equality.other)
 }
 
 /// Whether it is seen that two angles do not differ, whatever numbers come next: there are values
@@ -152,7 +175,7 @@ fn are_unlisted(query: &Query, numbers: &Numbers, term: Term, other: Term) -> bo
     let Some(hints) = query.hints else {
         return false;
     };
-    if !hints.plain_model || !is_news(numbers, term, other) {
+    if !hints.plain_model {
         return false;
     }
     let values = hints.values.items();
@@ -183,7 +206,7 @@ fn never_differ(query: &Query, numbers: &Numbers, term: Term, other: Term) -> bo
 impl<'a> InstanceSearch<'a> {
     /// Whether the clause says at this place of two terms that they are equal, and it is seen that
     /// they never differ.
-    fn has_equal_terms(&self, numbers: &Numbers, at: usize) -> bool
+    fn has_equal_terms(&self, numbers: &Numbers, equality: Equality) -> bool
         requires of_table { slice_get table self.now.rule ≡ Some (row_of numbers.now.row.now) }
         requires places { numbers.now.positions.now ≡ self.now.plan.now.positions.items }
         ensures { result ≡ true
@@ -191,11 +214,15 @@ impl<'a> InstanceSearch<'a> {
             self.now.query.goal.now self.now.rule self.now.place self.now.plan.now
             numbers.now.part.now }
     {
+        if !is_news(numbers, equality) {
+            return false;
+        }
+        let at = equality.at;
         if at >= clause_len(numbers.row) || at == self.place || is_equation(self.query.goal) {
             return false;
         }
         let (pattern, negated) = pattern_at(numbers.row, at);
-        let Some(both) = equal_terms(&pattern) else {
+        let Some(both) = equal_terms(pattern) else {
             return false;
         };
         if negated {
@@ -218,8 +245,8 @@ impl<'a> InstanceSearch<'a> {
             return false;
         }
         let (pattern, negated) = pattern_at(numbers.row, j);
-        let (shape, _neg) = parts(&pattern, negated);
-        match numbers.sum_mark(&shape) {
+        let (shape, _neg) = parts(pattern, negated);
+        match numbers.sum_mark(shape) {
             Some(mark) => !self.query.sum_marks[mark],
             None => false,
         }
@@ -240,7 +267,7 @@ impl<'a> InstanceSearch<'a> {
             return false;
         }
         match numbers.diagram(j) {
-            Some(lit) => !may_hold(&self.query, j == self.place, lit),
+            Some(lit) => !diagram_may_hold(&self.query, j == self.place, lit),
             None => false,
         }
     }
@@ -338,8 +365,8 @@ impl<'a> Task for InstanceSearch<'a> {
         if !self.diagrams_may_hold(&numbers) {
             return Ok(Verdict::No);
         }
-        if let Some(at) = self.equality {
-            if self.has_equal_terms(&numbers, at) {
+        if let Some(equality) = self.equality {
+            if self.has_equal_terms(&numbers, equality) {
                 return Ok(Verdict::No);
             }
         }

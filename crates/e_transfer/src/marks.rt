@@ -158,13 +158,13 @@ fn is_strict_of_areas(neg: bool, shape: &Shape) -> bool
 }
 
 /// The atom of a pattern, or of its negation, and its sign.
-pub fn parts(pattern: &Pattern, negated: bool) -> (Shape, bool)
+pub fn parts(pattern: &Pattern, negated: bool) -> (&Shape, bool)
     ensures { signed_literal negated pattern.now
-        ≡ record { neg = result.1; atom = atom_of result.0 } }
+        ≡ record { neg = result.1; atom = atom_of result.0.now } }
 {
     match pattern {
-        Pattern::Is(shape) => (*shape, negated),
-        Pattern::Not(shape) => (*shape, !negated),
+        Pattern::Is(shape) => (shape, negated),
+        Pattern::Not(shape) => (shape, !negated),
     }
 }
 
@@ -217,36 +217,20 @@ fn may_hold(query: &Query, row: &Row, at: usize) -> bool
         → NoneHolds query.now.strength query.now.facts.now query.now.goal.now (row_of row.now) at }
 {
     let (pattern, negated) = pattern_at(row, at);
-    let (shape, neg) = parts(&pattern, negated);
-    mark(relation_of(&shape), neg) == mark_of(query.goal) || may_suffice(query, !neg, &shape)
+    let (shape, neg) = parts(pattern, negated);
+    mark(relation_of(shape), neg) == mark_of(query.goal) || may_suffice(query, !neg, shape)
 }
 
-/// The relation and the sign of a pattern, or of its negation.
-fn relation_of_pattern(pattern: &Pattern, negated: bool) -> (usize, bool)
-    ensures relation { result.0
-        ≡ Marks.relation_number (signed_literal negated pattern.now).atom }
-    ensures sign { result.1 ≡ (signed_literal negated pattern.now).neg }
-    ensures below { result.0 < 14 }
-{
-    match pattern {
-        Pattern::Is(shape) => (relation_of(shape), negated),
-        Pattern::Not(shape) => (relation_of(shape), !negated),
-    }
-}
-
-/// The relation and the sign at a place of the clause; the pattern is looked at where it is.
+/// The relation and the sign at a place of the clause.
 pub fn relation_at(row: &Row, at: usize) -> (usize, bool)
     requires { at < length (clause_of (row_of row.now)) }
     ensures is { (l : Lit) × (slice_get (clause_of (row_of row.now)) at ≡ Some l)
         × (result.0 ≡ Marks.relation_number l.atom) × (result.1 ≡ l.neg) }
     ensures below { result.0 < 14 }
 {
-    let premises = row.premises.len();
-    if at < premises {
-        relation_of_pattern(&row.premises[at], true)
-    } else {
-        relation_of_pattern(&row.conclusions[at - premises], false)
-    }
+    let (pattern, negated) = pattern_at(row, at);
+    let (shape, neg) = parts(pattern, negated);
+    (relation_of(shape), neg)
 }
 
 /// The mark at a place of the clause.

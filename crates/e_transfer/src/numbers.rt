@@ -7,6 +7,7 @@ ghost use Rattle.e_clause.specs.Instance;
 ghost use Rattle.e_clause.specs.Instance.{clause_of, lit_at, line_arg, circle_arg};
 ghost use Rattle.e_clause.specs.Rows;
 ghost use Rattle.e_clause.specs.Views.{atom_of, row_of};
+ghost use Rattle.e_transfer.specs.Marks.{relation_number};
 ghost use Rattle.e_transfer.specs.SumMarks;
 ghost use Rattle.e_transfer.specs.SumMarks.{mark_total};
 ghost use Rattle.e_transfer.specs.inner.Angles.{IsKnown};
@@ -129,7 +130,8 @@ impl<'a> Numbers<'a> {
 
     /// The atom of a shape, unless it compares sums: it takes no memory.
     fn diagram_atom(&self, shape: &Shape) -> Option<Atom>
-        ensures { IfSome result (λ a. a ≡ atom_by self.now (atom_of shape.now)) }
+        ensures is { IfSome result (λ a. a ≡ atom_by self.now (atom_of shape.now)) }
+        ensures diagram { IfSome result (λ a. relation_number a < 12) }
     {
         let atom = match shape {
             Shape::On(x, l) => Atom::On(self.point(*x), self.line(*l)),
@@ -180,12 +182,13 @@ impl<'a> Numbers<'a> {
     /// The literal at a place of the clause, unless it compares sums: it takes no memory.
     pub fn diagram(&self, at: usize) -> Option<Lit>
         requires { at < length (clause_of (row_of self.now.row.now)) }
-        ensures { IfSome result (λ l. slice_get (map (lit_at (row_of self.now.row.now)
+        ensures is { IfSome result (λ l. slice_get (map (lit_at (row_of self.now.row.now)
             (arguments_by self.now)) (clause_of (row_of self.now.row.now))) at ≡ Some l) }
+        ensures diagram { IfSome result (λ l. relation_number l.atom < 12) }
     {
         let (pattern, negated) = pattern_at(self.row, at);
-        let (shape, neg) = parts(&pattern, negated);
-        match self.diagram_atom(&shape) {
+        let (shape, neg) = parts(pattern, negated);
+        match self.diagram_atom(shape) {
             Some(atom) => Some(Lit { neg, atom }),
             None => None,
         }
@@ -196,7 +199,7 @@ impl<'a> Numbers<'a> {
         requires { at < length (clause_of (row_of self.now.row.now)) }
     {
         let (pattern, negated) = pattern_at(self.row, at);
-        let (shape, _neg) = parts(&pattern, negated);
+        let (shape, _neg) = parts(pattern, negated);
         matches!(shape, Shape::MagEq(_, _) | Shape::MagLt(_, _))
     }
 

@@ -10,7 +10,7 @@ ghost use Rattle.e_transfer.specs.GivenGoals.{NoneWithEquations, NoneAt, NoneOf,
 ghost use Rattle.e_transfer.specs.Marks;
 ghost use Rattle.e_transfer.specs.inner.Plans.{total_of};
 
-use crate::areas::place_of_equality;
+use crate::areas::{Equality, place_of_equality};
 use crate::bound_facts;
 use crate::clause::{clause_len, pattern_at};
 use crate::equations::Equation;
@@ -34,7 +34,7 @@ fn search_with_bindings(
     row: &Row,
     preferred: &[u8],
     place: usize,
-    equality: Option<usize>,
+    equality: Option<Equality>,
     bindings: &[Binding],
 ) -> Result<Verdict<TransferCert>, AllocError>
     requires of_table { slice_get table rule ≡ Some (row_of row.now) }
@@ -74,7 +74,7 @@ fn search_with_equations(
     preferred: &[u8],
     goal_mark: usize,
     place: usize,
-    equality: Option<usize>,
+    equality: Option<Equality>,
     equations: &[Equation],
 ) -> Result<Verdict<TransferCert>, AllocError>
     requires of_table { slice_get table rule ≡ Some (row_of row.now) }
@@ -128,7 +128,7 @@ fn search_place(
         return Ok(Verdict::No);
     }
     let (pattern, negated) = pattern_at(row, place);
-    let matches = matches(alloc, row, &pattern, negated, query.goal)?;
+    let matches = matches(alloc, row, pattern, negated, query.goal)?;
     let equality = if query.hints.is_none() || is_equation(query.goal) {
         None
     } else {

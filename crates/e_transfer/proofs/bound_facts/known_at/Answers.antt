@@ -1,16 +1,11 @@
-use Rattle.e_transfer.proofs.Clauses.{premise_at, conclusion_at}
+use Rattle.std.proofs.Common.{ap, ◌∙◌}
+use Rattle.std.specs.Prelude.{Some}
+use Rattle.e_literal.specs.declared.literal.Lit.{Lit}
 use Rattle.e_transfer.proofs.bound_facts.known_at.Goals as goal
 
-pub returns-then-at-premises : goal.returns-then-at-premises
-returns-then-at-premises c = (
+pub returns : goal.returns
+returns c = (
   _,
-  premise_at c.args.row.now.premises.now c.args.row.now.conclusions.now c.args.at _ c.if-at-premises.true,
-  c.known_of_pattern.ensures,
-)
-
-pub returns-else-at-premises : goal.returns-else-at-premises
-returns-else-at-premises c = (
-  _,
-  conclusion_at c.args.row.now.premises.now c.args.row.now.conclusions.now c.args.at _ c.if-at-premises.false c.requires,
-  c.known_of_pattern-else-at-premises.ensures,
+  c.pattern_at-negated.ensures ∙ ap (λ (l : Lit). Some l) c.parts-neg.ensures,
+  c.known_of_shape.ensures,
 )

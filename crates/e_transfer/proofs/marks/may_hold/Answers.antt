@@ -9,7 +9,7 @@ use Rattle.e_transfer.proofs.marks.may_hold.Goals as goal
 pub returns-else-mark-mark_of : goal.returns-else-mark-mark_of
 returns-else-mark-mark_of c = λ e.
     let s = c.args.query.now in
-    let shape = c.parts-neg.result.0 in
+    let shape = c.parts-neg.result.0.now in
     let neg = c.parts-neg.result.1 in
     let here = c.pattern_at-negated.ensures ∙ ap (λ (l : Lit). Some l) c.parts-neg.ensures in
     let at = c.mark.ensures.is ∙ ap (λ r. mark_number r neg) c.relation_of.ensures.is in

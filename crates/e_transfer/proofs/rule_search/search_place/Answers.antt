@@ -22,8 +22,8 @@ pub returns : goal.returns
 returns c =
     let s = c.args.query.now in
     let items = c.deref-equations-items.result.now in
-    none_at s.strength s.scope s.facts.now s.goal.now c.args.rule c.args.place (row_of c.args.row.now) (signed_literal c.pattern_at-negated.result.1 c.pattern_at-negated.result.0) items
+    none_at s.strength s.scope s.facts.now s.goal.now c.args.rule c.args.place (row_of c.args.row.now) (signed_literal c.pattern_at-negated.result.1 c.pattern_at-negated.result.0.now) items
     c.requires.of_table c.pattern_at-negated.ensures
-    (subst (λ (ms : List (List Equation)). Cover (row_of c.args.row.now) (signed_literal c.pattern_at-negated.result.1 c.pattern_at-negated.result.0) s.goal.now ms)
+    (subst (λ (ms : List (List Equation)). Cover (row_of c.args.row.now) (signed_literal c.pattern_at-negated.result.1 c.pattern_at-negated.result.0.now) s.goal.now ms)
     (sym c.deref-equations-items.ensures.value) c.in_ok-matches.ensures)
     (λ k less. c.loop-equations.invariant k (omega (arith, less, c.loop-equations-test.false)))

@@ -17,4 +17,4 @@ returns-in-Some c = λ e.
     (c.is_completed.ensures.below c.if-not-is_completed.false) in
     excluded s.query.strength s.query.scope s.query.facts.now s.query.goal.now s.rule s.place s.plan.now (row_of c.args.numbers.now.row.now) c.args.numbers.now.part.now (arguments_by c.args.numbers.now) c.args.j
     (get_or s.plan.now.ready_at.items c.args.j 0) c.in-Some.lit
-    c.requires.of_table (arguments_at c.args.numbers.now s.plan.now.positions.items c.requires.places) bound below c.in-Some.ensures (c.may_hold.ensures (not-true c.may_hold.result e))
+    c.requires.of_table (arguments_at c.args.numbers.now s.plan.now.positions.items c.requires.places) bound below c.in-Some.ensures.is (c.diagram_may_hold.ensures (not-true c.diagram_may_hold.result e))

@@ -16,7 +16,7 @@ returns-in-Some c = λ e.
     let n = c.args.numbers.now in
     let r = row_of n.row.now in
     let is = c.asks_facts.ensures c.if-not-asks_facts.false in
-    let l : Lit = record { neg = c.parts-neg.result.1; atom = atom_of c.parts-neg.result.0 } in
+    let l : Lit = record { neg = c.parts-neg.result.1; atom = atom_of c.parts-neg.result.0.now } in
     let here : slice_get (clause_of r) c.args.j ≡ Some l = c.pattern_at-negated.ensures ∙ ap (λ (k : Lit). Some k) c.parts-neg.ensures in
     let lit : Lit = lit_at r (arguments_by n) l in
     let none : get_or s.sum_marks (sum_mark lit.atom) false ≡ false = ap (λ k. get_or s.sum_marks k false) (sym c.in-Some.ensures.is) ∙ not-true (get_or s.sum_marks c.in-Some.mark false) e in (
