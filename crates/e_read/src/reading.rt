@@ -30,7 +30,7 @@ use crate::kept::AllCerts;
 use crate::needs::due_of;
 use crate::strict::is_apart;
 use e_book::{Section, Theorem, TheoremParser, no_names};
-use e_cert::{CertLine, Obligation, Pending, cert_line_is_of, canonical_cert_line};
+use e_cert::{CertLine, Obligation, Pending, canonical_cert_line, cert_line_is_of};
 use e_clause::Version;
 use e_line::{LineError, RawLine, canonical_line_of, words_of_line};
 use e_names::Theorems;
