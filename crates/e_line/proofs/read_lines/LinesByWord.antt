@@ -14,7 +14,6 @@ use Rattle.e_line.specs.declared.items.BookLine.{BookLine}
 use Rattle.e_line.specs.declared.items.BookLine.TheVariants.{Plain, Define, Listed}
 use Rattle.e_line.specs.Reading.{◌>>=◌, or_malformed, each, first_title, no_word_left, names_of}
 use Rattle.e_line.specs.Literals.{is_semicolon, lit_of}
-use Rattle.e_line.specs.declared.lets.Slot.TheVariants as slots
 use Rattle.e_line.specs.Lets.{are_words_of, new_words, argument_words}
 use Rattle.e_line.specs.Superposes.{superpose_pieces}
 use Rattle.e_line.specs.RawLines.{raw_line_named, raw_line_of}
@@ -23,7 +22,7 @@ use Rattle.e_line.specs.Items.{is_as, as_of, item_of, items_of, has_item, define
 use Rattle.e_line.proofs.base.Bound.{bind_ok, ok_is, read_ok, each_length}
 use Rattle.e_line.proofs.base.Choices.{either, passed, of_reading}
 use Rattle.e_line.proofs.read_lines.SumsOfLiterals.{lit_said}
-use Rattle.e_line.proofs.read_lines.TitlesOfWords.{title_said, names_said, words_count}
+use Rattle.e_line.proofs.read_lines.TitlesOfWords.{title_said, names_said, new_count}
 use Rattle.e_line.proofs.read_lines.ItemsOfWords.{ItemSaid, ItemsSaid}
 
 -- the new names of a superposition are two names
@@ -80,7 +79,7 @@ placing_said head line e =
     let arguments = argument_words superpose_pieces head in
     let b = passed (are_words_of superpose_pieces head) (names_of news >>= λ new. names_of arguments >>= λ args. read_ok (list_heads.Superpose args new)) line e in
     let n = bind_ok (names_of news) (λ new. names_of arguments >>= λ args. read_ok (list_heads.Superpose args new)) line b.1 in
-    let count : length n.0 ≡ 2 = each_length (λ w. or_malformed (name_of w)) news n.0 n.1 ∙ words_count slots.New superpose_pieces head b.0 in
+    let count : length n.0 ≡ 2 = each_length (λ w. or_malformed (name_of w)) news n.0 n.1 ∙ new_count superpose_pieces head b.0 in
     of_reading ListHeadSaid (names_of arguments) (λ args. list_heads.Superpose args n.0) line (λ args k. (names_said news n.0 n.1, count)) n.2
 
 plain_said : (w : List ℕ) (ws : List (List ℕ)) (l : BookLine) → (raw_line_named w ws >>= λ f. read_ok (Plain f)) ≡ Ok l → LineSaid (w ∷ ws) l
