@@ -21,7 +21,8 @@ use Rattle.e_line.specs.declared.raw_line.RawLine.{RawLine}
 use Rattle.e_line.specs.declared.raw_line.RawLine.TheVariants as rawlines
 use Rattle.e_names.specs.TitledStatements.{TitledStatement, theorem_of}
 use Rattle.e_names.specs.Scope.{scope_of_names}
-use Rattle.e_line.specs.Limits.{most_of, most_steps, most_depth, most_facts, most_terms}
+use Rattle.e_line.specs.Limits.{most_of, most_steps, most_depth, most_facts}
+use Rattle.e_line.specs.Limits.{most_monomials_of_facts}
 use Rattle.e_line.specs.Limits.{most_blanks, count_monomials}
 use Rattle.e_line.specs.LineLimits.{have_few_monomials, have_low_coefficients}
 use Rattle.e_book.specs.Open.{Head, Opener, ByClaim, BySuperposition, ByCase, ByElse, Enclosing}
@@ -150,7 +151,7 @@ limits_at f at steps depth =
     ∷ (nat_le (length at.facts) most_facts, limits.Facts)
     ∷ (have_few_monomials (literals_on f), limits.Monomials)
     ∷ (have_low_coefficients (literals_on f), limits.Coefficient)
-    ∷ (nat_le (count_monomials at.facts) most_terms, limits.Terms)
+    ∷ (nat_le (count_monomials at.facts) most_monomials_of_facts, limits.Terms)
     ∷ (nat_le (blanks_on f) most_blanks, limits.Blanks) ∷ []
 
 abbrev pub limits_kept : List TitledStatement → RawLine → Open → List (Bool × What)

@@ -18,7 +18,8 @@ use Rattle.e_deriv.specs.Script.{Contradiction, Cases, size, depth}
 use Rattle.e_deriv.specs.PlacedSteps.{theorem_at, proof_steps}
 use Rattle.e_deriv.specs.Naming.{with_new_names, declared_names}
 use Rattle.e_deriv.specs.Fitting.{all_objects, fits_with_blanks}
-use Rattle.e_line.specs.Limits.{most_of, most_steps, most_depth, most_facts, most_terms}
+use Rattle.e_line.specs.Limits.{most_of, most_steps, most_depth, most_facts}
+use Rattle.e_line.specs.Limits.{most_monomials_of_facts}
 use Rattle.e_line.specs.Limits.{most_blanks, monomials, count_monomials}
 use Rattle.e_names.specs.TitledStatements.{TitledStatement, is_known, stated_by}
 use Rattle.e_names.specs.Scope.{scope_of_names, fresh}
@@ -102,27 +103,27 @@ has_well_formed_literals (Cases lit first second) =
 unfoldable pub few_terms : List StatementView → ℕ → Scope → Script → Bool
 few_terms before n s (Cite by rest) = few_terms before n s rest
 few_terms before n s (Hence lit cert rest) =
-    nat_le (n + monomials lit.atom) most_terms && few_terms before (n + monomials lit.atom) s rest
+    let m = n + monomials lit.atom in nat_le m most_monomials_of_facts && few_terms before m s rest
 few_terms before n s (Make construction names certs rest) =
     few_terms before n (with_sorts s (sorts_made construction)) rest
 few_terms before n s (Apply theorem args names certs rest) =
-    nat_le (n + count_monomials (theorem_at before theorem).shown) most_terms
+    nat_le (n + count_monomials (theorem_at before theorem).shown) most_monomials_of_facts
     && few_terms before (n + count_monomials (theorem_at before theorem).shown)
     (with_sorts s (theorem_at before theorem).made) rest
 few_terms before n s (Claim shown inner rest) =
-    few_terms before n s inner && (nat_le (n + count_monomials shown) most_terms
+    few_terms before n s inner && (nat_le (n + count_monomials shown) most_monomials_of_facts
     && few_terms before (n + count_monomials shown) s rest)
 few_terms before n s (Superposed superposition names shown certs inner rest) =
-    nat_le (n + count_monomials (superposing.gives_of_superposition superposition s)) most_terms
-    && (few_terms before (n + count_monomials (superposing.gives_of_superposition superposition s))
-    (with_sorts s superposing.sorts_copied) inner
-    && (nat_le (n + count_monomials shown) most_terms
+    let m = n + count_monomials (superposing.gives_of_superposition superposition s) in
+    nat_le m most_monomials_of_facts
+    && (few_terms before m (with_sorts s superposing.sorts_copied) inner
+    && (nat_le (n + count_monomials shown) most_monomials_of_facts
     && few_terms before (n + count_monomials shown) s rest))
 few_terms before n s (Qed objects certs) = true
 few_terms before n s (Contradiction against) = true
 few_terms before n s (Cases lit first second) =
-    nat_le (n + monomials lit.atom) most_terms && (few_terms before (n + monomials lit.atom) s first
-    && few_terms before (n + monomials lit.atom) s second)
+    let m = n + monomials lit.atom in nat_le m most_monomials_of_facts
+    && (few_terms before m s first && few_terms before m s second)
 
 -- no line has more blanks than the limit
 unfoldable pub few_blanks : Script → Bool
@@ -164,7 +165,7 @@ pub record Fits (known : List TitledStatement) (t : TheoremView) : Type 0 where
   pub steps : size t.script ≤ most_steps
   pub depth : depth t.script ≤ most_depth
   pub given_facts : length t.statement.given ≤ most_facts
-  pub given_terms : count_monomials t.statement.given ≤ most_terms
+  pub given_terms : count_monomials t.statement.given ≤ most_monomials_of_facts
   pub facts : IsTrue (few_facts (stated_by known) (length t.statement.given)
       (scope_of (as_view t.statement)) t.script)
   pub terms : IsTrue (few_terms (stated_by known) (count_monomials t.statement.given)

@@ -34,7 +34,7 @@ use Rattle.e_book.specs.declared.parser.TheoremParser.{TheoremParser}
 use Rattle.e_line.specs.declared.fault.LineError.{LineError}
 use Rattle.e_line.specs.Reading.{◌>>=◌, with_front, Fails}
 use Rattle.e_line.specs.Limits.{most_theorems, most_of, most_steps, most_depth, most_facts}
-use Rattle.e_line.specs.Limits.{most_terms, most_blanks, what_of, within, monomials}
+use Rattle.e_line.specs.Limits.{most_monomials_of_facts, most_blanks, what_of, within, monomials}
 use Rattle.e_line.specs.Limits.{count_monomials}
 use Rattle.e_theorem.specs.Statements.{as_view}
 use Rattle.e_names.specs.TitledStatements.{TitledStatement, is_known, theorem_of}
@@ -89,11 +89,11 @@ with_step d s given = do
 -- this many monomials and those of the literals, or the limit of all
 abbrev pub terms_after_raw : ℕ → List RawLit → Result ℕ FaultKind
 terms_after_raw n raws =
-    within (n + count_raw_monomials raws) most_terms limits.Terms >>= λ few. Ok (n + count_raw_monomials raws)
+    let m = n + count_raw_monomials raws in within m most_monomials_of_facts limits.Terms >>= λ few. Ok m
 
 abbrev pub terms_after : ℕ → List Lit → Result ℕ FaultKind
 terms_after n ls =
-    within (n + count_monomials ls) most_terms limits.Terms >>= λ few. Ok (n + count_monomials ls)
+    let m = n + count_monomials ls in within m most_monomials_of_facts limits.Terms >>= λ few. Ok m
 
 -- the limits of literals that become facts, after that of facts
 unfoldable pub with_terms : TheoremParser → List RawLit → Result TheoremParser FaultKind
@@ -372,7 +372,7 @@ begun_terms other = 0
 pub record FitsOuter (o : OpenBlock) : Type 0 where
   pub in_scope : FewNamed o.in_scope
   pub facts : o.facts + begun_with o.kind ≤ most_facts
-  pub terms : o.terms + begun_terms o.kind ≤ most_terms
+  pub terms : o.terms + begun_terms o.kind ≤ most_monomials_of_facts
 
 abbrev pub AllFit : List OpenBlock → Type 0
 AllFit [] = Unit {0}
@@ -386,7 +386,7 @@ pub record FitsScope (d : TheoremParser) : Type 0 where
   pub declared : length d.declared ≤ count_names d.names
   pub lines : d.lines ≤ most_steps
   pub facts : d.facts ≤ most_facts
-  pub terms : d.terms ≤ most_terms
+  pub terms : d.terms ≤ most_monomials_of_facts
   pub blocks : AllFit d.blocks
   pub shallow : length d.blocks + 1 ≤ most_depth
 

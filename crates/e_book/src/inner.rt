@@ -43,7 +43,8 @@ fn names_with(
 impl TheoremParser {
     ghost use Rattle.e_deriv.specs.Naming.{with_new_names};
     ghost use Rattle.e_deriv.specs.PlainStep.{plain_step, Claimed, Copied, all_before};
-    ghost use Rattle.e_line.specs.Limits.{most_depth, most_facts, most_terms, monomials};
+    ghost use Rattle.e_line.specs.Limits.{most_depth, most_facts, most_monomials_of_facts};
+    ghost use Rattle.e_line.specs.Limits.{monomials};
     ghost use Rattle.e_book.specs.LineLimits.{few_objects};
     ghost use Rattle.e_book.specs.Steps.{FitsScope, FitsOuter, HasRoom, ClosesInside};
     ghost use Rattle.e_book.specs.Steps.{after_qed, room_inside, terms_inside, inside_block};
@@ -95,7 +96,7 @@ impl TheoremParser {
         requires given { self.old.facts + given ≤ most_facts }
         requires inside { FewNamed inside }
         requires begun { begun_with kind ≤ given }
-        requires terms { self.old.terms + begun_terms kind ≤ most_terms }
+        requires terms { self.old.terms + begun_terms kind ≤ most_monomials_of_facts }
         ensures value { OnOk result (self.new ≡ record (inside_block self.old kind given) {
           lines = self.old.lines;
           in_scope = inside;
@@ -125,7 +126,7 @@ impl TheoremParser {
         requires room { length self.old.blocks + 2 ≤ most_depth }
         requires given { self.old.facts + given ≤ most_facts }
         requires begun { begun_with kind ≤ given }
-        requires terms { self.old.terms + begun_terms kind ≤ most_terms }
+        requires terms { self.old.terms + begun_terms kind ≤ most_monomials_of_facts }
         ensures value { OnOk result
             (self.new ≡ record (inside_block self.old kind given) { lines = self.old.lines }) }
         ensures fits { OnOk result (FitsScope self.new) }

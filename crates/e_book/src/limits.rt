@@ -2,7 +2,8 @@
 ghost use Rattle.std.specs.Prelude.{◌≡◌, ◌≤◌, ◌+◌, length, IfOk};
 ghost use Rattle.e_line.specs.Reading.{Gives};
 ghost use Rattle.e_line.specs.declared.fault.What.TheVariants as limits;
-ghost use Rattle.e_line.specs.Limits.{most_facts, most_terms, most_of, what_of, within};
+ghost use Rattle.e_line.specs.Limits.{most_facts, most_of, what_of, within};
+ghost use Rattle.e_line.specs.Limits.{most_monomials_of_facts};
 ghost use Rattle.e_book.specs.LineLimits.{few_objects, FewNamed};
 ghost use Rattle.e_book.specs.Steps.{terms_after_raw, terms_after};
 
@@ -83,7 +84,7 @@ pub(crate) fn few_objects(names: &Names) -> Result<(), LineError>
 /// This many monomials and those of the literals as they are written; the limit where they are too
 /// many.
 pub(crate) fn terms_with(before: usize, lits: &[RawLit]) -> Result<usize, LineError>
-    requires { before ≤ most_terms }
+    requires { before ≤ most_monomials_of_facts }
     ensures { Gives (λ n. n) result (terms_after_raw before lits.now) }
 {
     let mut terms = before;
@@ -123,7 +124,7 @@ pub(crate) fn monomials(lit: &Lit) -> usize
 
 /// This many monomials and those of the literals; the limit where they are too many.
 pub(crate) fn terms_of(before: usize, lits: &[Lit]) -> Result<usize, LineError>
-    requires { before ≤ most_terms }
+    requires { before ≤ most_monomials_of_facts }
     ensures { Gives (λ n. n) result (terms_after before lits.now) }
 {
     let mut terms = before;

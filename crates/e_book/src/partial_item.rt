@@ -9,7 +9,8 @@ ghost use Rattle.e_book.specs.Definitions.{has_notion_title, OfNotion, view_of};
 ghost use Rattle.e_book.specs.Steps.{line_may_come, FitsScope};
 ghost use Rattle.e_book.specs.inner.Machine.{FitsPartial, is_ready, line_written_out, line_step};
 ghost use Rattle.e_book.specs.inner.Machine.{begins_theorem, begins_definition, goes_on};
-ghost use Rattle.e_book.specs.inner.Machine.{defines_on, lists, item_of_partial, notion_of_parser};
+ghost use Rattle.e_book.specs.inner.Machine.{defines_on, goes_on_with_items};
+ghost use Rattle.e_book.specs.inner.Machine.{item_of_partial, notion_of_parser};
 
 use crate::item::Item;
 use crate::limits::MAX_NOTIONS;
@@ -164,7 +165,12 @@ impl PartialItem {
         let taken = match &line {
             BookLine::Plain(raw_line) => self.go_on(alloc, known, raw_line),
             BookLine::Define(_) => Err(LineError::Fault(FaultKind::Malformed)),
-            BookLine::Listed(line, items) => self.list(alloc, known, line, items.items()),
+            BookLine::Listed(line, items) => self.go_on_with_items(
+                alloc,
+                known,
+                line,
+                items.items(),
+            ),
         };
         mem::drop(line);
         taken
@@ -212,8 +218,8 @@ impl PartialItem {
 
     /// A line with items: they are written out, and it is taken; then the limit of the literals
     /// that they mean.
-    #[tactic(auto, unfolding(crate::specs::inner::Machine::lists))]
-    fn list(
+    #[tactic(auto, unfolding(crate::specs::inner::Machine::goes_on_with_items))]
+    fn go_on_with_items(
         &mut self,
         alloc: Global,
         known: &Known,
@@ -222,7 +228,7 @@ impl PartialItem {
     ) -> Result<(), LineError>
         requires partial_item { FitsPartial known.now self.old }
         requires notions { IsTrue (are_notions known.now.notions) }
-        ensures value { Moves result self.new (lists known.now self.old line.now items.now) }
+        ensures value { Moves result self.new (goes_on_with_items known.now self.old line.now items.now) }
         ensures fits { OnOk result (FitsPartial known.now self.new) }
     {
         right_place(!self.defines || is_show(line))?;

@@ -41,8 +41,8 @@ abbrev pub most_coefficient : ℕ
 most_coefficient = 1000000
 
 -- monomials of the literals that are facts, repeats counted
-abbrev pub most_terms : ℕ
-most_terms = 1024
+abbrev pub most_monomials_of_facts : ℕ
+most_monomials_of_facts = 1024
 
 -- blanks of a line
 abbrev pub most_blanks : ℕ

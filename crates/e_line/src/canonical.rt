@@ -40,7 +40,7 @@ fn have_no_blank(args: &[Option<Name>]) -> bool
     args.iter().all(|argument| argument.is_some())
 }
 
-/// Whether the literals are direct, one on a given or show line, and no argument is a blank.
+/// Whether the literals are canonical, one on a given or show line, and no argument is a blank.
 fn is_canonical_form(raw_line: &RawLine) -> bool
     ensures { result ≡ is_canonical_form raw_line.now }
 {

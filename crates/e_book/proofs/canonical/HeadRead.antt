@@ -14,7 +14,7 @@ use Rattle.e_book.specs.declared.parser.Section.{Section}
 use Rattle.e_book.specs.declared.parser.Section.TheVariants.{Declaring, Giving, Making, Showing}
 use Rattle.e_book.specs.declared.parser.TheoremParser.{TheoremParser}
 use Rattle.e_line.specs.Reading.{◌>>=◌}
-use Rattle.e_line.specs.Limits.{most_of, most_theorems, most_facts, most_terms, monomials, count_monomials}
+use Rattle.e_line.specs.Limits.{most_of, most_theorems, most_facts, most_monomials_of_facts, monomials, count_monomials}
 use Rattle.e_names.specs.TitledStatements.{TitledStatement, is_known}
 use Rattle.e_line.specs.LineLimits.{count_raw_monomials}
 use Rattle.e_book.specs.Steps.{with_terms, line_may_come, with_declared, after_line, step, begin, with_title, no_names}
@@ -85,19 +85,19 @@ stating_more t ns sorts given l =
     ap₂ (λ (m n : ℕ). stating t ns sorts (given ++ l ∷ []) [] [] m n Giving) (sym (length-append given (l ∷ [])))
     (ap (λ (n : ℕ). count_monomials given + n) (count_again ns l) ∙ sym (count_more given l))
 
-step_given : (known : List TitledStatement) (t : List ℕ) (ns : Names) (sorts : List Sort) (given : List Lit) (place : Section) (l : Lit) → InOrder ns → PlainLit ns l → length given + 1 ≤ most_facts → count_monomials given + monomials l.atom ≤ most_terms
+step_given : (known : List TitledStatement) (t : List ℕ) (ns : Names) (sorts : List Sort) (given : List Lit) (place : Section) (l : Lit) → InOrder ns → PlainLit ns l → length given + 1 ≤ most_facts → count_monomials given + monomials l.atom ≤ most_monomials_of_facts
     → line_may_come place (given_raw_line ns l) ≡ true
     → step known (stating t ns sorts given [] [] (length given) (count_monomials given) place) (given_raw_line ns l) ≡ Ok (stating t ns sorts (given ++ l ∷ []) [] [] (length (given ++ l ∷ [])) (count_monomials (given ++ l ∷ [])) Giving)
 unfolding step after_line with_terms
 step_given known t ns sorts given place l o p few short a =
     let room : ltb most_facts (length given + length (raw_of ns l ∷ [])) ≡ false = le-ltb _ _ (omega (arith, few)) in
-    let terms : ltb most_terms (count_monomials given + count_raw_monomials (raw_of ns l ∷ [])) ≡ false = le-ltb _ _ (omega (arith, short, count_again ns l)) in
+    let terms : ltb most_monomials_of_facts (count_monomials given + count_raw_monomials (raw_of ns l ∷ [])) ≡ false = le-ltb _ _ (omega (arith, short, count_again ns l)) in
     rw (a, lit_number_again ns l o p.within p.good, room, few_again ns l p.good, terms) (ap (λ (d : TheoremParser). Ok d) (stating_more t ns sorts given l))
 
 abbrev giving : List ℕ → Names → List Sort → List Lit → TheoremParser
 giving t ns sorts given = stating t ns sorts given [] [] (length given) (count_monomials given) Giving
 
-run_given : (known : List TitledStatement) (t : List ℕ) (ns : Names) (sorts : List Sort) (given more : List Lit) → InOrder ns → Plain ns more → length given + length more ≤ most_facts → count_monomials given + count_monomials more ≤ most_terms
+run_given : (known : List TitledStatement) (t : List ℕ) (ns : Names) (sorts : List Sort) (given more : List Lit) → InOrder ns → Plain ns more → length given + length more ≤ most_facts → count_monomials given + count_monomials more ≤ most_monomials_of_facts
     → Runs known (Some (giving t ns sorts given)) (map (given_raw_line ns) more) (Some (giving t ns sorts (given ++ more)))
 run_given known t ns sorts given [] o p few short = ap (λ (g : List Lit). Some (giving t ns sorts g)) (sym (append-nil given))
 run_given known t ns sorts given (l ∷ more) o p few short =
@@ -118,7 +118,7 @@ after_given (l ∷ ls) = Giving
 abbrev pub given_parser : List ℕ → Names → List Sort → List Lit → TheoremParser
 given_parser t ns sorts given = stating t ns sorts given [] [] (length given) (count_monomials given) (after_given given)
 
-pub run_all_given : (known : List TitledStatement) (t : List ℕ) (ns : Names) (sorts : List Sort) (given : List Lit) → InOrder ns → Plain ns given → length given ≤ most_facts → count_monomials given ≤ most_terms
+pub run_all_given : (known : List TitledStatement) (t : List ℕ) (ns : Names) (sorts : List Sort) (given : List Lit) → InOrder ns → Plain ns given → length given ≤ most_facts → count_monomials given ≤ most_monomials_of_facts
     → Runs known (Some (declaring t ns sorts)) (map (given_raw_line ns) given) (Some (given_parser t ns sorts given))
 run_all_given known t ns sorts [] o p few short = refl
 run_all_given known t ns sorts (l ∷ more) o p few short =

@@ -26,7 +26,7 @@ use Rattle.e_book.specs.declared.steps.CloseLine.{CloseLine}
 use Rattle.e_book.specs.declared.steps.CloseLine.TheVariants as closes
 use Rattle.e_book.specs.declared.parser.Section.TheVariants.{Proving, Splitting}
 use Rattle.e_book.specs.declared.parser.TheoremParser.{TheoremParser}
-use Rattle.e_line.specs.Limits.{most_steps, most_depth, most_facts, most_terms, most_blanks, monomials, count_monomials}
+use Rattle.e_line.specs.Limits.{most_steps, most_depth, most_facts, most_monomials_of_facts, most_blanks, monomials, count_monomials}
 use Rattle.e_book.specs.Blocks.{made_in}
 use Rattle.e_names.specs.TitledStatements.{TitledStatement, theorem_of}
 use Rattle.e_names.specs.Applies.{count_blanks}
@@ -111,13 +111,13 @@ step_cite known d i b o h p few most =
     let place : ltb most_facts (i.facts + 1) ≡ false = le-ltb _ _ most in
     rw (by_number_again i.in_scope b o h p, room, place) refl
 
-pub step_hence : (known : List TitledStatement) (d : TheoremParser) (i : Inside) (l : Lit) → InOrder i.in_scope → PlainLit i.in_scope l → i.lines + 1 ≤ most_steps → i.facts + 1 ≤ most_facts → i.terms + monomials l.atom ≤ most_terms
+pub step_hence : (known : List TitledStatement) (d : TheoremParser) (i : Inside) (l : Lit) → InOrder i.in_scope → PlainLit i.in_scope l → i.lines + 1 ≤ most_steps → i.facts + 1 ≤ most_facts → i.terms + monomials l.atom ≤ most_monomials_of_facts
     → step known (proving d i) (hence_raw_line i.in_scope l) ≡ Ok (proving d (written (after_step i (Inferred l None) 1) (monomials l.atom)))
 unfolding step after_line with_step with_terms
 step_hence known d i l o p few most short =
     let room : ltb most_steps (i.lines + 1) ≡ false = le-ltb _ _ few in
     let place : ltb most_facts (i.facts + 1) ≡ false = le-ltb _ _ most in
-    let more : ltb most_terms (i.terms + count_raw_monomials (raw_of i.in_scope l ∷ [])) ≡ false = le-ltb _ _ (omega (arith, short, count_again i.in_scope l)) in
+    let more : ltb most_monomials_of_facts (i.terms + count_raw_monomials (raw_of i.in_scope l ∷ [])) ≡ false = le-ltb _ _ (omega (arith, short, count_again i.in_scope l)) in
     rw (lit_number_again i.in_scope l o p.within p.good, room, place, few_again i.in_scope l p.good, more) (ap (λ (n : ℕ). Ok (proving d (written (after_step i (Inferred l None) 1) n))) (count_again i.in_scope l))
 
 pub step_let : (known : List TitledStatement) (d : TheoremParser) (i : Inside) (construction : Construction) (names : List (List ℕ)) → InOrder i.in_scope → GoodLet i.in_scope construction names → few_objects (with_new_names i.in_scope (sorts_made construction) names) ≡ Ok tt
@@ -132,14 +132,14 @@ step_let known d i construction names o h fit few most =
 
 pub step_apply : (known : List TitledStatement) (d : TheoremParser) (i : Inside) (theorem : ℕ) (args : List (Option Obj)) (names : List (List ℕ)) → InOrder i.in_scope → GoodApply known i.in_scope theorem args names
     → few_objects (with_new_names i.in_scope (theorem_of known theorem).made names) ≡ Ok tt → i.lines + 1 ≤ most_steps → i.facts + length (theorem_of known theorem).shown ≤ most_facts
-    → i.terms + count_monomials (theorem_of known theorem).shown ≤ most_terms → count_blanks args ≤ most_blanks
+    → i.terms + count_monomials (theorem_of known theorem).shown ≤ most_monomials_of_facts → count_blanks args ≤ most_blanks
     → step known (proving d i) (apply_raw_line known i.in_scope theorem args names) ≡ Ok (proving d (applied_after i (theorem_of known theorem) theorem args names))
 unfolding step after_line after_apply with_use with_step
 step_apply known d i theorem args names o g fit few most short written =
     let t = theorem_of known theorem in
     let room : ltb most_steps (i.lines + 1) ≡ false = le-ltb _ _ few in
     let place : ltb most_facts (i.facts + length t.shown) ≡ false = le-ltb _ _ most in
-    let more : ltb most_terms (i.terms + count_monomials t.shown) ≡ false = le-ltb _ _ short in
+    let more : ltb most_monomials_of_facts (i.terms + count_monomials t.shown) ≡ false = le-ltb _ _ short in
     let blanks : ltb most_blanks (count_blanks args) ≡ false = le-ltb _ _ written in
     rw (apply_number_again known i.in_scope theorem args names o g, fit, room, place, more, blanks) refl
 
@@ -162,20 +162,20 @@ step_claim known d i shown o p few shallow most =
 
 pub step_superpose : (known : List TitledStatement) (d : TheoremParser) (i : Inside) (superposition : Superpose) (names : List (List ℕ)) (shown : List Lit) → GoodSuperpose i.in_scope superposition names shown → few_objects (with_new_names i.in_scope superposing.sorts_copied names) ≡ Ok tt
     → i.lines + 1 ≤ most_steps → length i.blocks + 2 ≤ most_depth
-    → i.facts + length (superposing.gives_of_superposition superposition (scope_of_names i.in_scope)) ≤ most_facts → i.terms + count_monomials (superposing.gives_of_superposition superposition (scope_of_names i.in_scope)) ≤ most_terms
+    → i.facts + length (superposing.gives_of_superposition superposition (scope_of_names i.in_scope)) ≤ most_facts → i.terms + count_monomials (superposing.gives_of_superposition superposition (scope_of_names i.in_scope)) ≤ most_monomials_of_facts
     → step known (proving d i) (superpose_raw_line i.in_scope superposition names shown)
     ≡ Ok (proving d (copied i superposition names shown))
 unfolding step after_line after_superpose
 step_superpose known d i superposition names shown g fit few shallow most short =
     let given = superposing.gives_of_superposition superposition (scope_of_names i.in_scope) in
-    let more : ltb most_terms (i.terms + count_monomials given) ≡ false = le-ltb _ _ short in
+    let more : ltb most_monomials_of_facts (i.terms + count_monomials given) ≡ false = le-ltb _ _ short in
     rw (superpose_number_again i.in_scope superposition names shown g, fit, deeper_again d i (kind.Superpose superposition names shown) (length given) few shallow most, all_few_again i.in_scope shown g.plain.good, more) refl
 
-pub step_cases : (known : List TitledStatement) (d : TheoremParser) (i : Inside) (l : Lit) → InOrder i.in_scope → PlainLit i.in_scope l → i.lines + 1 ≤ most_steps → length i.blocks + 2 ≤ most_depth → i.facts + 1 ≤ most_facts → i.terms + monomials l.atom ≤ most_terms
+pub step_cases : (known : List TitledStatement) (d : TheoremParser) (i : Inside) (l : Lit) → InOrder i.in_scope → PlainLit i.in_scope l → i.lines + 1 ≤ most_steps → length i.blocks + 2 ≤ most_depth → i.facts + 1 ≤ most_facts → i.terms + monomials l.atom ≤ most_monomials_of_facts
     → step known (proving d i) (cases_raw_line i.in_scope l) ≡ Ok (proving d (written (deep i (kind.First l) 1) (monomials l.atom)))
 unfolding step after_line after_cases with_terms
 step_cases known d i l o p few shallow most short =
-    let more : ltb most_terms (i.terms + count_raw_monomials (raw_of i.in_scope l ∷ [])) ≡ false = le-ltb _ _ (omega (arith, short, count_again i.in_scope l)) in
+    let more : ltb most_monomials_of_facts (i.terms + count_raw_monomials (raw_of i.in_scope l ∷ [])) ≡ false = le-ltb _ _ (omega (arith, short, count_again i.in_scope l)) in
     rw (lit_number_again i.in_scope l o p.within p.good, deeper_again d i (kind.First l) 1 few shallow most, few_again i.in_scope l p.good, more)
     (ap (λ (n : ℕ). Ok (proving d (written (deep i (kind.First l) 1) n))) (count_again i.in_scope l))
 
@@ -220,22 +220,22 @@ step_contradiction known d i few =
 abbrev pub Closes : List PlainStep → CloseLine → Script → Type 0
 Closes steps close inner = all_before steps (script_of_close close) ≡ inner
 
-resumed_again : (d : TheoremParser) (i last : Inside) (o : BlockKind) (s : PlainStep) (shown : List Lit) → i.facts + length shown ≤ most_facts → i.terms + count_monomials shown ≤ most_terms
+resumed_again : (d : TheoremParser) (i last : Inside) (o : BlockKind) (s : PlainStep) (shown : List Lit) → i.facts + length shown ≤ most_facts → i.terms + count_monomials shown ≤ most_monomials_of_facts
     → after_inner_block (proving d last) (outer i o) i.blocks shown s ≡ Ok (proving d (resume i last.lines s shown))
 unfolding after_inner_block counted_from
 resumed_again d i last o s shown most short =
     let place : ltb most_facts (i.facts + length shown) ≡ false = le-ltb _ _ most in
-    let more : ltb most_terms (i.terms + count_monomials shown) ≡ false = le-ltb _ _ short in
+    let more : ltb most_monomials_of_facts (i.terms + count_monomials shown) ≡ false = le-ltb _ _ short in
     rw (place, more) refl
 
-pub claim_closed : (d : TheoremParser) (i last : Inside) (shown : List Lit) (steps : List PlainStep) (close : CloseLine) (inner : Script) → Closes steps close inner → i.facts + length shown ≤ most_facts → i.terms + count_monomials shown ≤ most_terms
+pub claim_closed : (d : TheoremParser) (i last : Inside) (shown : List Lit) (steps : List PlainStep) (close : CloseLine) (inner : Script) → Closes steps close inner → i.facts + length shown ≤ most_facts → i.terms + count_monomials shown ≤ most_monomials_of_facts
     → parser_after_close (proving d last) (outer i (kind.Claim shown) ∷ i.blocks) steps close ≡ Ok (proving d (resume i last.lines (Claimed shown inner) shown))
 unfolding parser_after_close
 claim_closed d i last shown steps close inner e most short =
     ap (λ (x : Script). after_inner_block (proving d last) (outer i (kind.Claim shown)) i.blocks shown (Claimed shown x)) e ∙ resumed_again d i last (kind.Claim shown) (Claimed shown inner) shown most short
 
 pub superpose_closed : (d : TheoremParser) (i last : Inside) (superposition : Superpose) (names : List (List ℕ)) (shown : List Lit) (steps : List PlainStep) (close : CloseLine) (inner : Script) → Closes steps close inner
-    → i.facts + length shown ≤ most_facts → i.terms + count_monomials shown ≤ most_terms
+    → i.facts + length shown ≤ most_facts → i.terms + count_monomials shown ≤ most_monomials_of_facts
     → parser_after_close (proving d last) (outer i (kind.Superpose superposition names shown) ∷ i.blocks) steps close ≡ Ok (proving d (resume i last.lines (Copied superposition names shown [] inner) shown))
 unfolding parser_after_close
 superpose_closed d i last superposition names shown steps close inner e most short =

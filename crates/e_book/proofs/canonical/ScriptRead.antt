@@ -31,7 +31,7 @@ use Rattle.e_book.specs.declared.blocks.BlockKind.TheVariants as kind
 use Rattle.e_book.specs.declared.steps.CloseLine.{CloseLine}
 use Rattle.e_book.specs.declared.steps.CloseLine.TheVariants as closes
 use Rattle.e_book.specs.declared.parser.TheoremParser.{TheoremParser}
-use Rattle.e_line.specs.Limits.{most_steps, most_depth, most_facts, most_terms, most_blanks, monomials, count_monomials}
+use Rattle.e_line.specs.Limits.{most_steps, most_depth, most_facts, most_monomials_of_facts, most_blanks, monomials, count_monomials}
 use Rattle.e_book.specs.Blocks.{made_in}
 use Rattle.e_names.specs.TitledStatements.{TitledStatement, stated_by, theorem_of}
 use Rattle.e_names.specs.Scope.{scope_of_names}
@@ -162,7 +162,7 @@ hence_ready known d i l rest given goal r =
       theorems = r.theorems;
       blanks = r.blanks;
       facts = (and_parts (leb (i.facts + 1) most_facts) (few_facts (stated_by known) (i.facts + 1) s rest) r.facts).1;
-      terms = (and_parts (leb n most_terms) (few_terms (stated_by known) n s rest) r.terms).1;
+      terms = (and_parts (leb n most_monomials_of_facts) (few_terms (stated_by known) n s rest) r.terms).1;
     }
 
 hence_taken : (known : List TitledStatement) (d : TheoremParser) (i : Inside) (l : Lit) (rest : Script) (given : List Lit) (goal : Goal) → Ready known d i (Hence l None rest) given goal → Taken known d (inferred i l) rest → Taken known d i (Hence l None rest)
@@ -173,7 +173,7 @@ hence_taken known d i l rest given goal r t =
     let fit = (and_parts (all_in_scope s l) (list_all (line_fits (stated_by known)) (placed_steps (stated_by known) rest rest s (with_fact given l) goal)) r.fitting).0 in
     let good = (and_parts (is_well_formed l) (has_well_formed_literals rest) r.good).0 in
     let most = leb-true _ _ (and_parts (leb (i.facts + 1) most_facts) (few_facts (stated_by known) (i.facts + 1) s rest) r.facts).0 in
-    let short = leb-true _ _ (and_parts (leb n most_terms) (few_terms (stated_by known) n s rest) r.terms).0 in
+    let short = leb-true _ _ (and_parts (leb n most_monomials_of_facts) (few_terms (stated_by known) n s rest) r.terms).0 in
     record {
       last = t.last;
       lines = omega (arith, t.lines);
@@ -253,7 +253,7 @@ pub record ApplyParts (known : List TitledStatement) (d : TheoremParser) (i : In
   pub named : AreNames names
   pub few : few_objects (applied_after i (theorem_of known theorem) theorem args names).in_scope ≡ Ok tt
   pub facts : i.facts + length (theorem_of known theorem).shown ≤ most_facts
-  pub terms : i.terms + count_monomials (theorem_of known theorem).shown ≤ most_terms
+  pub terms : i.terms + count_monomials (theorem_of known theorem).shown ≤ most_monomials_of_facts
   pub blanks : count_blanks args ≤ most_blanks
   pub next : Ready known d (applied_after i (theorem_of known theorem) theorem args names) rest (with_facts given (gives_of_use (theorem_of known theorem) (written_args args) (scope_of_names i.in_scope))) goal
 
@@ -274,7 +274,7 @@ apply_parts known d i theorem args names rest given goal r =
     let e = and_parts (ltb theorem (length before)) (is_pattern t s args) f.0 in
     let h = and_parts (is_named_by_title known theorem) (names_theorems known rest) r.theorems in
     let k = and_parts (leb n most_facts) (few_facts before n (with_sorts s t.made) rest) r.facts in
-    let j = and_parts (leb m most_terms) (few_terms before m (with_sorts s t.made) rest) r.terms in
+    let j = and_parts (leb m most_monomials_of_facts) (few_terms before m (with_sorts s t.made) rest) r.terms in
     let b = and_parts (leb (count_blanks args) most_blanks) (few_blanks rest) r.blanks in
     record {
       good = record { title = h.0; entries = e.1; free = r.new_names.0; count = r.new_names.1 };
@@ -336,7 +336,7 @@ pub record ClaimParts (known : List TitledStatement) (i : Inside) (shown : List 
   pub facts : i.facts + length shown ≤ most_facts
   pub facts_rest : few_facts (stated_by known) (i.facts + length shown) (scope_of_names i.in_scope) rest ≡ true
   pub terms_inner : few_terms (stated_by known) i.terms (scope_of_names i.in_scope) inner ≡ true
-  pub terms : i.terms + count_monomials shown ≤ most_terms
+  pub terms : i.terms + count_monomials shown ≤ most_monomials_of_facts
   pub terms_rest : few_terms (stated_by known) (i.terms + count_monomials shown) (scope_of_names i.in_scope) rest ≡ true
 
 pub claim_parts : (known : List TitledStatement) (d : TheoremParser) (i : Inside) (shown : List Lit) (inner rest : Script) (given : List Lit) (goal : Goal) → Ready known d i (Claim shown inner rest) given goal → ClaimParts known i shown inner rest given goal
@@ -357,8 +357,8 @@ claim_parts known d i shown inner rest given goal r =
     let bl = and_parts (few_blanks inner) (few_blanks rest) r.blanks in
     let n = and_parts (few_facts (stated_by known) i.facts s inner) (leb facts most_facts && few_facts (stated_by known) facts s rest) r.facts in
     let nn = and_parts (leb facts most_facts) (few_facts (stated_by known) facts s rest) n.1 in
-    let m = and_parts (few_terms (stated_by known) i.terms s inner) (leb terms most_terms && few_terms (stated_by known) terms s rest) r.terms in
-    let mm = and_parts (leb terms most_terms) (few_terms (stated_by known) terms s rest) m.1 in
+    let m = and_parts (few_terms (stated_by known) i.terms s inner) (leb terms most_monomials_of_facts && few_terms (stated_by known) terms s rest) r.terms in
+    let mm = and_parts (leb terms most_monomials_of_facts) (few_terms (stated_by known) terms s rest) m.1 in
     record {
       some = ltb-true 0 (length shown) p.0;
       plain_inner = pp.0;
@@ -464,9 +464,9 @@ pub record CopyParts (known : List TitledStatement) (i : Inside) (superposition 
   pub facts_inner : few_facts (stated_by known) (copied i superposition names shown).facts (scope_of_names (with_new_names i.in_scope superposing.sorts_copied names)) inner ≡ true
   pub facts : i.facts + length shown ≤ most_facts
   pub facts_rest : few_facts (stated_by known) (i.facts + length shown) (scope_of_names i.in_scope) rest ≡ true
-  pub terms_first : (copied i superposition names shown).terms ≤ most_terms
+  pub terms_first : (copied i superposition names shown).terms ≤ most_monomials_of_facts
   pub terms_inner : few_terms (stated_by known) (copied i superposition names shown).terms (scope_of_names (with_new_names i.in_scope superposing.sorts_copied names)) inner ≡ true
-  pub terms : i.terms + count_monomials shown ≤ most_terms
+  pub terms : i.terms + count_monomials shown ≤ most_monomials_of_facts
   pub terms_rest : few_terms (stated_by known) (i.terms + count_monomials shown) (scope_of_names i.in_scope) rest ≡ true
 
 pub copy_parts : (known : List TitledStatement) (d : TheoremParser) (i : Inside) (superposition : Superpose) (names : List (List ℕ)) (shown : List Lit) (inner rest : Script) (given : List Lit) (goal : Goal) → Ready known d i (Superposed superposition names shown [] inner rest) given goal
@@ -497,9 +497,9 @@ copy_parts known d i superposition names shown inner rest given goal r =
     let a = and_parts (leb n most_facts) (few_facts (stated_by known) n t inner && (leb facts most_facts && few_facts (stated_by known) facts s rest)) r.facts in
     let aa = and_parts (few_facts (stated_by known) n t inner) (leb facts most_facts && few_facts (stated_by known) facts s rest) a.1 in
     let ab = and_parts (leb facts most_facts) (few_facts (stated_by known) facts s rest) aa.1 in
-    let b = and_parts (leb m most_terms) (few_terms (stated_by known) m t inner && (leb terms most_terms && few_terms (stated_by known) terms s rest)) r.terms in
-    let ba = and_parts (few_terms (stated_by known) m t inner) (leb terms most_terms && few_terms (stated_by known) terms s rest) b.1 in
-    let bb = and_parts (leb terms most_terms) (few_terms (stated_by known) terms s rest) ba.1 in
+    let b = and_parts (leb m most_monomials_of_facts) (few_terms (stated_by known) m t inner && (leb terms most_monomials_of_facts && few_terms (stated_by known) terms s rest)) r.terms in
+    let ba = and_parts (few_terms (stated_by known) m t inner) (leb terms most_monomials_of_facts && few_terms (stated_by known) terms s rest) b.1 in
+    let bb = and_parts (leb terms most_monomials_of_facts) (few_terms (stated_by known) terms s rest) ba.1 in
     record {
       good = record { order = r.order; fits = fs.0; free = r.new_names.0; named = list_names names p.0; count = r.new_names.1; plain = record { within = fs.1; good = g.0 }; some = ltb-true 0 (length shown) q.0 };
       few = r.new_names.2;
@@ -604,7 +604,7 @@ pub record CasesParts (known : List TitledStatement) (i : Inside) (l : Lit) (one
   pub facts : i.facts + 1 ≤ most_facts
   pub facts_first : few_facts (stated_by known) (i.facts + 1) (scope_of_names i.in_scope) one ≡ true
   pub facts_second : few_facts (stated_by known) (i.facts + 1) (scope_of_names i.in_scope) two ≡ true
-  pub terms : i.terms + monomials l.atom ≤ most_terms
+  pub terms : i.terms + monomials l.atom ≤ most_monomials_of_facts
   pub terms_first : few_terms (stated_by known) (i.terms + monomials l.atom) (scope_of_names i.in_scope) one ≡ true
   pub terms_second : few_terms (stated_by known) (i.terms + monomials l.atom) (scope_of_names i.in_scope) two ≡ true
 
@@ -625,7 +625,7 @@ cases_parts known d i l one two given goal r =
     let bl = and_parts (few_blanks one) (few_blanks two) r.blanks in
     let a = and_parts (leb n most_facts) (few_facts (stated_by known) n s one && few_facts (stated_by known) n s two) r.facts in
     let aa = and_parts (few_facts (stated_by known) n s one) (few_facts (stated_by known) n s two) a.1 in
-    let b = and_parts (leb m most_terms) (few_terms (stated_by known) m s one && few_terms (stated_by known) m s two) r.terms in
+    let b = and_parts (leb m most_monomials_of_facts) (few_terms (stated_by known) m s one && few_terms (stated_by known) m s two) r.terms in
     let bb = and_parts (few_terms (stated_by known) m s one) (few_terms (stated_by known) m s two) b.1 in
     record {
       plain_first = p.0;

@@ -43,7 +43,7 @@ use Rattle.e_deriv.specs.Goal.{Goal, are_for, goal_with}
 use Rattle.e_deriv.specs.PlacedSteps.{PlacedStep, placed_steps, theorem_at}
 use Rattle.e_deriv.specs.Steps.{are_over, is_citation}
 use Rattle.e_deriv.specs.Fitting.{LitsFit}
-use Rattle.e_line.specs.Limits.{most_terms, monomials, count_monomials}
+use Rattle.e_line.specs.Limits.{most_monomials_of_facts, monomials, count_monomials}
 use Rattle.e_names.specs.Fits.{is_diagram_lit}
 use Rattle.e_book.specs.Fits.{has_well_formed_literals, few_terms}
 use Rattle.e_book.proofs.fit_theorems.FittingScripts.{line_fits}
@@ -158,7 +158,7 @@ moved_count image (l ∷ ls) =
 
 -- ---- lines
 
-facts_fit : (s : Scope) (facts : List Lit) (n : ℕ) → GoodFacts s facts n → n ≤ most_terms → are_limited_facts s facts ≡ true
+facts_fit : (s : Scope) (facts : List Lit) (n : ℕ) → GoodFacts s facts n → n ≤ most_monomials_of_facts → are_limited_facts s facts ≡ true
 facts_fit s facts n g le =
     let few : leb (count_terms facts) 1100 ≡ true = le-leb _ _ (omega (arith, g.few, le)) in
     rw (g.good, few) refl
@@ -181,8 +181,8 @@ both_parts bs [] ys h k = k
 both_parts bs (x ∷ xs) ys h k = (h.0, λ f. let r = h.1 f in (r.0, both_parts bs xs ys r.1 k))
 
 -- a test of a number, and another
-room : (n : ℕ) (b : Bool) → (leb n most_terms && b) ≡ true → (n ≤ most_terms) × (b ≡ true)
-room n b h = let p = and_parts (leb n most_terms) b h in (leb-true n most_terms p.0, p.1)
+room : (n : ℕ) (b : Bool) → (leb n most_monomials_of_facts && b) ≡ true → (n ≤ most_monomials_of_facts) × (b ≡ true)
+room n b h = let p = and_parts (leb n most_monomials_of_facts) b h in (leb-true n most_monomials_of_facts p.0, p.1)
 
 -- what a line gives that uses an earlier theorem
 good_gifts : (bs : List StatementView) (k : ℕ) (s : Scope) (args : List Obj) (facts : List Lit) (n : ℕ) → list_all is_statement bs ≡ true → ltb k (length bs) ≡ true → are_arguments (theorem_at bs k) s args ≡ true → GoodFacts s facts n
@@ -198,7 +198,7 @@ good_gifts bs k s args facts n states lt fit g =
 -- Where the forms of the lines fit, the literals do, whatever the blanks are filled with. The forms are those of the script with
 -- other fillings and other facts, which do not matter to them.
 pub lines_good : (bs : List StatementView) → list_all is_statement bs ≡ true → (before : Scope) (sorts : List Sort) (shown : List Lit) → GoodGoal before sorts shown → (script g f : Script) (s : Scope) (other facts : List Lit) (n : ℕ)
-    → GoodFacts s facts n → Within before s → n ≤ most_terms → few_terms bs n s script ≡ true → has_well_formed_literals script ≡ true
+    → GoodFacts s facts n → Within before s → n ≤ most_monomials_of_facts → few_terms bs n s script ≡ true → has_well_formed_literals script ≡ true
     → list_all (line_fits bs) (placed_steps bs script g s other (goal_for before sorts shown)) ≡ true → LitsFit bs (placed_steps bs script f s facts (goal_for before sorts shown))
 unfolding placed_steps has_well_formed_literals few_terms
 lines_good bs states before sorts shown goal (Cite by rest) g f s other facts n good w le few h fit =
@@ -259,7 +259,7 @@ lines_good bs states before sorts shown goal (Claim claimed inner rest) g f s ot
     let q = parted (line_fits bs) inside after p.1 in
     let l = and_parts (list_all is_well_formed claimed) (has_well_formed_literals inner && has_well_formed_literals rest) h in
     let k = and_parts (has_well_formed_literals inner) (has_well_formed_literals rest) l.1 in
-    let r = and_parts (few_terms bs n s inner) (leb m most_terms && few_terms bs m s rest) few in
+    let r = and_parts (few_terms bs n s inner) (leb m most_monomials_of_facts && few_terms bs m s rest) few in
     let v = room m (few_terms bs m s rest) r.1 in
     let next = all_joined s facts claimed n good (two_good s claimed p.0 l.0) in
     let own : GoodGoal s [] claimed = record { within = p.0; good = l.0 } in (
@@ -283,8 +283,8 @@ lines_good bs states before sorts shown goal (Superposed superposition names cop
     let q = parted (line_fits bs) inside after p.1 in
     let l = and_parts (list_all is_well_formed copied) (has_well_formed_literals inner && has_well_formed_literals rest) h in
     let k = and_parts (has_well_formed_literals inner) (has_well_formed_literals rest) l.1 in
-    let a = room i (few_terms bs i t inner && (leb m most_terms && few_terms bs m s rest)) few in
-    let r = and_parts (few_terms bs i t inner) (leb m most_terms && few_terms bs m s rest) a.1 in
+    let a = room i (few_terms bs i t inner && (leb m most_monomials_of_facts && few_terms bs m s rest)) few in
+    let r = and_parts (few_terms bs i t inner) (leb m most_monomials_of_facts && few_terms bs m s rest) a.1 in
     let v = room m (few_terms bs m s rest) r.1 in
     let larger : Within s t = grows s superposing.sorts_copied in
     let start : GoodFacts t facts n = record { good = good_more s t larger facts good.good; few = good.few } in

@@ -29,7 +29,7 @@ use Rattle.e_deriv.specs.PlacedSteps.{PlacedStep, placed_steps, theorem_at}
 use Rattle.e_deriv.specs.Steps.{is_citation}
 use Rattle.e_deriv.specs.Fitting.{fits_with_blanks}
 use Rattle.e_deriv.specs.Naming.{with_new_names}
-use Rattle.e_line.specs.Limits.{most_depth, most_facts, most_terms, most_blanks, monomials, count_monomials}
+use Rattle.e_line.specs.Limits.{most_depth, most_facts, most_monomials_of_facts, most_blanks, monomials, count_monomials}
 use Rattle.e_names.specs.Scope.{scope_of_names, fresh}
 use Rattle.e_names.specs.Applies.{count_blanks}
 use Rattle.e_book.specs.LineLimits.{few_objects}
@@ -100,7 +100,7 @@ pub record CopyFits (at : Spot) (superposition : Superpose) (names : List (List 
   pub count : length names ≡ length superposing.sorts_copied
   pub objects : few_objects (with_new_names at.names superposing.sorts_copied names) ≡ Ok tt
   pub facts : (with_copies at superposition names).facts ≤ most_facts
-  pub terms : (with_copies at superposition names).terms ≤ most_terms
+  pub terms : (with_copies at superposition names).terms ≤ most_monomials_of_facts
 
 -- a use of an earlier theorem: it has one, objects or blanks for its declared objects, a new free name for each made one, and is
 -- within the limits
@@ -111,7 +111,7 @@ pub record UseFits (at : Spot) (theorem : ℕ) (args : List (Option Obj)) (names
   pub count : length names ≡ length (theorem_at at.before theorem).made
   pub objects : few_objects (with_use at theorem names).names ≡ Ok tt
   pub facts : (with_use at theorem names).facts ≤ most_facts
-  pub terms : (with_use at theorem names).terms ≤ most_terms
+  pub terms : (with_use at theorem names).terms ≤ most_monomials_of_facts
   pub blanks : count_blanks args ≤ most_blanks
 
 -- a split: its literal is in scope, well formed and within the limits
@@ -119,7 +119,7 @@ pub record SplitFits (at : Spot) (lit : Lit) : Type 0 where
   pub over : all_in_scope (scope_at at) lit ≡ true
   pub good : is_well_formed lit ≡ true
   pub facts : (with_lit at lit).facts ≤ most_facts
-  pub terms : (with_lit at lit).terms ≤ most_terms
+  pub terms : (with_lit at lit).terms ≤ most_monomials_of_facts
 
 -- ---- tests that hold together
 
@@ -145,7 +145,7 @@ fits_cited at sorts level by rest cited plain le r = record {
 }
 
 pub fits_inferred : (at : Spot) (sorts : List Sort) (level : ℕ) (lit : Lit) (rest : Script) → all_in_scope (scope_at at) lit ≡ true → is_well_formed lit ≡ true → at.facts + 1 ≤ most_facts
-    → at.terms + monomials lit.atom ≤ most_terms → ScriptFits (with_lit at lit) sorts level rest → ScriptFits at sorts level (Hence lit None rest)
+    → at.terms + monomials lit.atom ≤ most_monomials_of_facts → ScriptFits (with_lit at lit) sorts level rest → ScriptFits at sorts level (Hence lit None rest)
 unfolding placed_steps NewNamesFit has_well_formed_literals few_facts few_terms few_blanks depth
 fits_inferred at sorts level lit rest over good le lt r = record {
   forms = λ f known goal m. and_from _ _ over (r.forms (rest_of f) (with_fact known lit) goal m);
@@ -195,7 +195,7 @@ fits_applied at sorts level theorem args names certs rest u r =
     }
 
 pub fits_claimed : (at : Spot) (sorts : List Sort) (level : ℕ) (shown : List Lit) (inner rest : Script) → ShownFit at shown → ScriptFits at [] (level + 1) inner
-    → at.facts + length shown ≤ most_facts → at.terms + count_monomials shown ≤ most_terms → ScriptFits (spot_with_facts at shown) sorts level rest → ScriptFits at sorts level (Claim shown inner rest)
+    → at.facts + length shown ≤ most_facts → at.terms + count_monomials shown ≤ most_monomials_of_facts → ScriptFits (spot_with_facts at shown) sorts level rest → ScriptFits at sorts level (Claim shown inner rest)
 unfolding placed_steps NewNamesFit has_well_formed_literals few_facts few_terms few_blanks depth
 fits_claimed at sorts level shown inner rest s i le lt r = record {
   forms = λ f known goal m. and_from _ _ s.over (all_both (line_fits at.before) (placed_steps at.before inner (inner_of f) (scope_at at) known (goal_of shown)) _ (i.forms (inner_of f) known (goal_of shown) refl) (r.forms (rest_of f) (with_facts known shown) goal m));
@@ -208,7 +208,7 @@ fits_claimed at sorts level shown inner rest s i le lt r = record {
 }
 
 pub fits_copied : (at : Spot) (sorts : List Sort) (level : ℕ) (superposition : Superpose) (names : List (List ℕ)) (shown : List Lit) (certs : List Cert) (inner rest : Script) → CopyFits at superposition names
-    → ShownFit at shown → ScriptFits (with_copies at superposition names) [] (level + 1) inner → at.facts + length shown ≤ most_facts → at.terms + count_monomials shown ≤ most_terms
+    → ShownFit at shown → ScriptFits (with_copies at superposition names) [] (level + 1) inner → at.facts + length shown ≤ most_facts → at.terms + count_monomials shown ≤ most_monomials_of_facts
     → ScriptFits (spot_with_facts at shown) sorts level rest → ScriptFits at sorts level (Superposed superposition names shown certs inner rest)
 unfolding placed_steps NewNamesFit has_well_formed_literals few_facts few_terms few_blanks depth
 fits_copied at sorts level superposition names shown certs inner rest c s i le lt r =

@@ -5,7 +5,7 @@ use Rattle.e_deriv.specs.declared.names.Names.{Names}
 use Rattle.e_line.specs.declared.fault.FaultKind.{FaultKind}
 use Rattle.e_line.specs.declared.fault.What.TheVariants as limits
 use Rattle.e_line.specs.declared.literal.RawLit.{RawLit}
-use Rattle.e_line.specs.Limits.{most_steps, most_depth, most_facts, most_terms, monomials, count_monomials, within}
+use Rattle.e_line.specs.Limits.{most_steps, most_depth, most_facts, most_monomials_of_facts, monomials, count_monomials, within}
 use Rattle.e_line.specs.LineLimits.{count_raw_monomials, check_literal_limits}
 use Rattle.e_line.specs.Reading.{◌>>=◌}
 use Rattle.e_names.specs.Scope.{lit_in}
@@ -37,7 +37,7 @@ begun_with_copies d what after given raws =
 one_count : (ns : Names) (r : RawLit) (l : Lit) → lit_in ns r ≡ Ok l → count_raw_monomials (r ∷ []) ≡ count_monomials (l ∷ [])
 one_count ns r l e = omega (arith, lit_count ns r l e)
 
-terms_alike : (n m k : ℕ) → m ≡ k → (within (n + m) most_terms limits.Terms >>= λ few. read_ok (n + m)) ≡ (within (n + k) most_terms limits.Terms >>= λ few. read_ok (n + k))
+terms_alike : (n m k : ℕ) → m ≡ k → (within (n + m) most_monomials_of_facts limits.Terms >>= λ few. read_ok (n + m)) ≡ (within (n + k) most_monomials_of_facts limits.Terms >>= λ few. read_ok (n + k))
 terms_alike n m k e = rw e refl
 
 with_lit : (d : TheoremParser) (r : RawLit) (x : Result Lit FaultKind) → lit_in d.in_scope r ≡ x
@@ -57,18 +57,18 @@ begun_with_lit d r = with_lit d r (lit_in d.in_scope r) refl
 
 -- ---- how many monomials are facts inside
 
-sum_inside : (d : TheoremParser) (given : List Lit) (raws : List RawLit) (n : ℕ) → terms_inside d given raws ≡ Ok n → (n ≡ d.terms + count_monomials given) × (n ≤ most_terms)
+sum_inside : (d : TheoremParser) (given : List Lit) (raws : List RawLit) (n : ℕ) → terms_inside d given raws ≡ Ok n → (n ≡ d.terms + count_monomials given) × (n ≤ most_monomials_of_facts)
 unfolding terms_inside
 sum_inside d given raws n e =
     let total = d.terms + count_monomials given in
     let room = bind_ok (room_inside d (length given)) (λ u. check_literal_limits raws >>= λ s. terms_after d.terms given) n e in
     let few = bind_ok (check_literal_limits raws) (λ s. terms_after d.terms given) n room.2 in
-    let sum = bind_ok (within total most_terms limits.Terms) (λ few. read_ok total) n few.2 in
+    let sum = bind_ok (within total most_monomials_of_facts limits.Terms) (λ few. read_ok total) n few.2 in
     let is : n ≡ total = sym (ok_is total n sum.2) in
-    (is, omega (arith, is, within_ok total most_terms limits.Terms sum.0 sum.1))
+    (is, omega (arith, is, within_ok total most_monomials_of_facts limits.Terms sum.0 sum.1))
 
-pub few_inside : (d : TheoremParser) (given : List Lit) (raws : List RawLit) (n : ℕ) → terms_inside d given raws ≡ Ok n → n ≤ most_terms
+pub few_inside : (d : TheoremParser) (given : List Lit) (raws : List RawLit) (n : ℕ) → terms_inside d given raws ≡ Ok n → n ≤ most_monomials_of_facts
 few_inside d given raws n e = (sum_inside d given raws n e).1
 
-pub split_few : (d : TheoremParser) (l : Lit) (raws : List RawLit) (n : ℕ) → terms_inside d (l ∷ []) raws ≡ Ok n → d.terms + monomials l.atom ≤ most_terms
+pub split_few : (d : TheoremParser) (l : Lit) (raws : List RawLit) (n : ℕ) → terms_inside d (l ∷ []) raws ≡ Ok n → d.terms + monomials l.atom ≤ most_monomials_of_facts
 split_few d l raws n e = let s = sum_inside d (l ∷ []) raws n e in omega (arith, s.0, s.1)

@@ -12,7 +12,7 @@ use Rattle.e_book.specs.declared.blocks.BlockKind.TheVariants as kind
 use Rattle.e_line.specs.declared.raw_line.RawLine.{RawLine}
 use Rattle.e_book.specs.declared.parser.TheoremParser.{TheoremParser}
 use Rattle.e_names.specs.TitledStatements.{TitledStatement}
-use Rattle.e_line.specs.Limits.{most_steps, most_facts, most_terms, count_monomials}
+use Rattle.e_line.specs.Limits.{most_steps, most_facts, most_monomials_of_facts, count_monomials}
 use Rattle.e_names.specs.Scope.{scope_of_names}
 use Rattle.e_book.specs.Blocks.{is_claim, has_claim, made_in}
 use Rattle.e_book.specs.LineLimits.{FewNamed}
@@ -98,7 +98,7 @@ block_limits known r h os ss f ns lines depth facts terms c e d a =
 
 -- the block with one more step, within the limits
 pub step_block : (known : List TitledStatement) (d : TheoremParser) (s : PlainStep) (ns : Names) (facts terms : ℕ) → BlockOf known d → lines_of_step s ≡ 1 → Counted ns facts terms (context_in known (head_of d) d.blocks (d.steps ++ s ∷ []))
-    → FewNamed ns → d.lines + 1 ≤ most_steps → facts ≤ most_facts → terms ≤ most_terms → BlockTied known (head_of d) d.blocks (d.steps ++ s ∷ []) ns (d.lines + 1) facts terms
+    → FewNamed ns → d.lines + 1 ≤ most_steps → facts ≤ most_facts → terms ≤ most_monomials_of_facts → BlockTied known (head_of d) d.blocks (d.steps ++ s ∷ []) ns (d.lines + 1) facts terms
 step_block known d s ns facts terms t one c few short k m = record {
   counted = c;
   few = few;

@@ -21,7 +21,7 @@ use Rattle.e_book.specs.declared.parser.TheoremParser.{TheoremParser}
 use Rattle.e_book.specs.declared.parser.Section.TheVariants as places
 use Rattle.e_line.specs.Reading.{◌>>=◌}
 use Rattle.e_names.specs.TitledStatements.{TitledStatement}
-use Rattle.e_line.specs.Limits.{most_steps, most_depth, most_facts, most_terms, most_blanks, within, monomials, count_monomials}
+use Rattle.e_line.specs.Limits.{most_steps, most_depth, most_facts, most_monomials_of_facts, most_blanks, within, monomials, count_monomials}
 use Rattle.e_book.specs.Blocks.{made_in}
 use Rattle.e_names.specs.Scope.{scope_of_names, qed_in}
 use Rattle.e_book.specs.LineLimits.{FewNamed}
@@ -74,7 +74,7 @@ resumed_alike known d k o os shown s f silent at names counted few blocks deep l
     (λ a. pass_le known last n (length os + 1) most_depth limits.Depth (fact_tests [] facts terms 0) deep
     (test_in known after z n facts most_facts limits.Facts (literal_tests [] terms 0)
     (λ b. pass_literals known (after >>= z) n [] terms 0 refl refl
-    (test_within known (read_ok terms) y z n terms most_terms limits.Terms (blank_tests 0)
+    (test_within known (read_ok terms) y z n terms most_monomials_of_facts limits.Terms (blank_tests 0)
     (λ w. pass_le known (read_ok e) n 0 most_blanks limits.Blanks [] (omega arith)
     (let block : BlockTied known h os (o.steps ++ s ∷ []) o.in_scope k facts terms = record {
       counted = c;
@@ -90,7 +90,7 @@ resumed_alike known d k o os shown s f silent at names counted few blocks deep l
 
 -- the first block of a split
 first_alike : (known : List TitledStatement) (d : TheoremParser) (k : ℕ) (o : OpenBlock) (os : List OpenBlock) (lit : Lit) (inner : Script) (f : RawLine) → Silent f → FewNamed d.names
-    → Counted o.in_scope o.facts o.terms (context_in known (head_of d) os o.steps) → FewNamed o.in_scope → o.facts + 1 ≤ most_facts → o.terms + monomials lit.atom ≤ most_terms
+    → Counted o.in_scope o.facts o.terms (context_in known (head_of d) os o.steps) → FewNamed o.in_scope → o.facts + 1 ≤ most_facts → o.terms + monomials lit.atom ≤ most_monomials_of_facts
     → BlocksTied known (head_of d) os → length os + 2 ≤ most_depth → k ≡ size inner + (count_lines o.steps + (1 + 0) + lines_around (around_of os))
     → Alike known
     (within k most_steps limits.Steps >>= λ few. closed_inside (record d { lines = k }) o os inner (λ c. read_ok d) (kind.First lit))
@@ -129,7 +129,7 @@ first_alike known d k o os lit inner f silent names counted few room sums blocks
 
 -- a block inside another, where closing the block around it is alike
 inside_alike : (known : List TitledStatement) (d : TheoremParser) (k : ℕ) (o : OpenBlock) (os : List OpenBlock) (inner : Script) (again : CloseLine → Result TheoremParser FaultKind) (after : Script → Open) (f : RawLine) (op : BlockKind) → Silent f → d.section ≡ places.Proving → FewNamed d.names
-    → Counted o.in_scope o.facts o.terms (context_in known (head_of d) os o.steps) → FewNamed o.in_scope → o.facts + begun_with op ≤ most_facts → o.terms + begun_terms op ≤ most_terms
+    → Counted o.in_scope o.facts o.terms (context_in known (head_of d) os o.steps) → FewNamed o.in_scope → o.facts + begun_with op ≤ most_facts → o.terms + begun_terms op ≤ most_monomials_of_facts
     → BlocksTied known (head_of d) os → length os + 2 ≤ most_depth → k ≡ size inner + (count_lines o.steps + (1 + lines_first (opener_of op)) + lines_around (around_of os))
     → ((c : CloseLine) → k ≡ size (all_before o.steps (script_of_close c)) + lines_around (around_of os) → Alike known (within k most_steps limits.Steps >>= λ few. again c) (then_limits known f (after (script_of_close c))))
     → Alike known (within k most_steps limits.Steps >>= λ few. closed_inside (record d { lines = k }) o os inner again op) (then_limits known f (after_inner_close (head_of d) (around_of os) o.steps inner after (opener_of op)))

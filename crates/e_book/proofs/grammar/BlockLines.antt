@@ -29,7 +29,7 @@ use Rattle.e_book.specs.declared.parser.TheoremParser.{TheoremParser}
 use Rattle.e_book.specs.declared.parser.Section.TheVariants as places
 use Rattle.e_line.specs.Reading.{◌>>=◌}
 use Rattle.e_names.specs.TitledStatements.{TitledStatement, place_in, theorem_of}
-use Rattle.e_line.specs.Limits.{most_steps, most_depth, most_facts, most_terms, most_blanks, within, monomials, count_monomials}
+use Rattle.e_line.specs.Limits.{most_steps, most_depth, most_facts, most_monomials_of_facts, most_blanks, within, monomials, count_monomials}
 use Rattle.e_line.specs.Literals.{is_diagram_raw}
 use Rattle.e_names.specs.Scope.{scope_of_names, right_count, object_as, fresh, lit_in, lits_in, by_in, let_in}
 use Rattle.e_names.specs.Superposes.{superpose_in}
@@ -80,19 +80,19 @@ step_then known x s g r n raws depth m b deep h =
     (test_in known y r n (x.facts + g) most_facts limits.Facts (literal_tests raws m b) (λ c. h a c)))
 
 -- the limits of literals that become facts
-pub terms_alike : (known : List TitledStatement) (y : TheoremParser) (raws : List RawLit) (n : Open) → (y.terms + count_raw_monomials raws ≤ most_terms → Alike known (read_ok (record y { terms = y.terms + count_raw_monomials raws })) (read_ok n))
+pub terms_alike : (known : List TitledStatement) (y : TheoremParser) (raws : List RawLit) (n : Open) → (y.terms + count_raw_monomials raws ≤ most_monomials_of_facts → Alike known (read_ok (record y { terms = y.terms + count_raw_monomials raws })) (read_ok n))
     → Alike known (with_terms y raws) (kept (literal_tests raws (y.terms + count_raw_monomials raws) 0) n)
 unfolding with_terms
 terms_alike known y raws n h =
     let sum = y.terms + count_raw_monomials raws in
     let then : ℕ → Result TheoremParser FaultKind = λ k. read_ok (record y { terms = k }) in
     test_monos known (terms_after_raw y.terms raws >>= then) n raws sum 0
-    (test_in known (read_ok sum) then n sum most_terms limits.Terms (blank_tests 0)
+    (test_in known (read_ok sum) then n sum most_monomials_of_facts limits.Terms (blank_tests 0)
     (λ w. pass_le known (then sum) n 0 most_blanks limits.Blanks [] (omega arith) (h w)))
 
 -- the parser with one more step is what the lines have said
 step_ends : (known : List TitledStatement) (d : TheoremParser) (s : PlainStep) (ns : Names) (facts terms : ℕ) → BlockOf known d → d.section ≡ places.Proving → FewNamed d.names → lines_of_step s ≡ 1
-    → Counted ns facts terms (context_in known (head_of d) d.blocks (d.steps ++ s ∷ [])) → FewNamed ns → d.lines + 1 ≤ most_steps → facts ≤ most_facts → terms ≤ most_terms
+    → Counted ns facts terms (context_in known (head_of d) d.blocks (d.steps ++ s ∷ [])) → FewNamed ns → d.lines + 1 ≤ most_steps → facts ≤ most_facts → terms ≤ most_monomials_of_facts
     → Alike known (read_ok (record d { in_scope = ns; lines = d.lines + 1; steps = d.steps ++ s ∷ []; facts = facts; terms = terms })) (read_ok (Proving (head_of d) (around_of d.blocks) (d.steps ++ s ∷ [])))
 step_ends known d s ns facts terms t at names one c few short k m =
     let e : TheoremParser = record d { in_scope = ns; lines = d.lines + 1; steps = d.steps ++ s ∷ []; facts = facts; terms = terms } in
@@ -251,7 +251,7 @@ use_alike known d raw theorem args t at few blanks =
     (test_objects known next n [] after (d.lines + 1) (length d.blocks + 1) k m (count_blanks args)
     (λ objects. step_then known x s (length shown) then n [] (length d.blocks + 1) m (count_blanks args) t.shallow
     (λ a w. pass_literals known (then y) n [] m (count_blanks args) refl refl
-    (test_in known (read_ok m) (last y) n m most_terms limits.Terms (blank_tests (count_blanks args))
+    (test_in known (read_ok m) (last y) n m most_monomials_of_facts limits.Terms (blank_tests (count_blanks args))
     (λ z. test known (read_ok (record y { terms = m })) n (count_blanks args) most_blanks limits.Blanks []
     (λ u. step_ends known d s after k m t at few refl c objects a w z)))))))
 
@@ -286,8 +286,8 @@ inner_limits known d r op f ns facts terms t none c a =
 
 -- the parser with an inner block is what the lines have said
 inner_ends : (known : List TitledStatement) (d : TheoremParser) (op : BlockKind) (ns : Names) (facts terms : ℕ) → BlockOf known d → d.section ≡ places.Proving → FewNamed d.names → lines_first (opener_of op) ≡ 0
-    → d.facts + begun_with op ≤ most_facts → d.terms + begun_terms op ≤ most_terms
-    → Counted ns facts terms (context_in known (head_of d) (outer_of d op ∷ d.blocks) []) → FewNamed ns → d.lines + 1 ≤ most_steps → length d.blocks + 2 ≤ most_depth → facts ≤ most_facts → terms ≤ most_terms
+    → d.facts + begun_with op ≤ most_facts → d.terms + begun_terms op ≤ most_monomials_of_facts
+    → Counted ns facts terms (context_in known (head_of d) (outer_of d op ∷ d.blocks) []) → FewNamed ns → d.lines + 1 ≤ most_steps → length d.blocks + 2 ≤ most_depth → facts ≤ most_facts → terms ≤ most_monomials_of_facts
     → Alike known (read_ok (record d { lines = d.lines + 1; blocks = outer_of d op ∷ d.blocks; steps = []; in_scope = ns; facts = facts; terms = terms })) (read_ok (Proving (head_of d) (around_of (outer_of d op ∷ d.blocks)) []))
 inner_ends known d op ns facts terms t at names none room sums c few short deep k m =
     let e : TheoremParser = record d { lines = d.lines + 1; blocks = outer_of d op ∷ d.blocks; steps = []; in_scope = ns; facts = facts; terms = terms } in
@@ -348,7 +348,7 @@ copies_alike known d raw superposition shown t at few =
     (test_objects known next n raw.shown after (d.lines + 1) (length d.blocks + 2) k m 0
     (λ objects. inner_then known d op (length given) then n raw.shown m 0
     (λ a deep w. test_monos known (terms_after y.terms given >>= λ n. last y n) n raw.shown m 0
-    (test_in known (read_ok m) (last y) n m most_terms limits.Terms (blank_tests 0)
+    (test_in known (read_ok m) (last y) n m most_monomials_of_facts limits.Terms (blank_tests 0)
     (λ z. pass_le known (last y m) n 0 most_blanks limits.Blanks [] (omega arith)
     (inner_ends known d op after k m t at few refl (omega (arith, t.few_facts)) (omega (arith, t.few_terms)) c objects a deep w z))))))
 

@@ -12,7 +12,7 @@ use Rattle.e_line.specs.declared.raw_line.RawLine.{RawLine}
 use Rattle.e_book.specs.declared.parser.TheoremParser.{TheoremParser}
 use Rattle.e_line.specs.Reading.{◌>>=◌}
 use Rattle.e_names.specs.TitledStatements.{TitledStatement}
-use Rattle.e_line.specs.Limits.{most_of, most_steps, most_depth, most_facts, most_terms, most_blanks, within}
+use Rattle.e_line.specs.Limits.{most_of, most_steps, most_depth, most_facts, most_monomials_of_facts, most_blanks, within}
 use Rattle.e_line.specs.LineLimits.{have_few_monomials, have_low_coefficients, or_limit, check_literal_limits}
 use Rattle.e_book.specs.LineLimits.{few_objects, FewNamed}
 use Rattle.e_book.specs.Open.{Open}
@@ -30,7 +30,7 @@ abbrev pub blank_tests : ℕ → Tests
 blank_tests b = (leb b most_blanks, limits.Blanks) ∷ []
 
 abbrev pub term_tests : (m b : ℕ) → Tests
-term_tests m b = (leb m most_terms, limits.Terms) ∷ blank_tests b
+term_tests m b = (leb m most_monomials_of_facts, limits.Terms) ∷ blank_tests b
 
 abbrev pub literal_tests : List RawLit → (m b : ℕ) → Tests
 literal_tests raws m b = (have_few_monomials raws, limits.Monomials) ∷ (have_low_coefficients raws, limits.Coefficient) ∷ term_tests m b
@@ -145,17 +145,17 @@ pass_literals known r n raws m b short small h =
     (pass known r n (have_low_coefficients raws) limits.Coefficient (term_tests m b) small h)
 
 -- the last two
-pub pass_terms : (known : List TitledStatement) (r : Result TheoremParser FaultKind) (n : Open) (m b : ℕ) → m ≤ most_terms → b ≤ most_blanks → Alike known r (read_ok n) → Alike known r (kept (term_tests m b) n)
+pub pass_terms : (known : List TitledStatement) (r : Result TheoremParser FaultKind) (n : Open) (m b : ℕ) → m ≤ most_monomials_of_facts → b ≤ most_blanks → Alike known r (read_ok n) → Alike known r (kept (term_tests m b) n)
 pass_terms known r n m b few blanks h =
-    pass_le known r n m most_terms limits.Terms (blank_tests b) few (pass_le known r n b most_blanks limits.Blanks [] blanks h)
+    pass_le known r n m most_monomials_of_facts limits.Terms (blank_tests b) few (pass_le known r n b most_blanks limits.Blanks [] blanks h)
 
 -- those after the limit of facts, on a line without literals of magnitudes
-pub pass_rest : (known : List TitledStatement) (r : Result TheoremParser FaultKind) (n : Open) (raws : List RawLit) (m b : ℕ) → have_few_monomials raws ≡ true → have_low_coefficients raws ≡ true → m ≤ most_terms → b ≤ most_blanks → Alike known r (read_ok n)
+pub pass_rest : (known : List TitledStatement) (r : Result TheoremParser FaultKind) (n : Open) (raws : List RawLit) (m b : ℕ) → have_few_monomials raws ≡ true → have_low_coefficients raws ≡ true → m ≤ most_monomials_of_facts → b ≤ most_blanks → Alike known r (read_ok n)
     → Alike known r (kept (literal_tests raws m b) n)
 pass_rest known r n raws m b short small few blanks h = pass_literals known r n raws m b short small (pass_terms known r n m b few blanks h)
 
 -- those after the limits of objects, on a line that nothing can be wrong with
-pub pass_later : (known : List TitledStatement) (r : Result TheoremParser FaultKind) (n : Open) (s d k m : ℕ) → s ≤ most_steps → d ≤ most_depth → k ≤ most_facts → m ≤ most_terms → Alike known r (read_ok n) → Alike known r (kept (step_tests [] s d k m 0) n)
+pub pass_later : (known : List TitledStatement) (r : Result TheoremParser FaultKind) (n : Open) (s d k m : ℕ) → s ≤ most_steps → d ≤ most_depth → k ≤ most_facts → m ≤ most_monomials_of_facts → Alike known r (read_ok n) → Alike known r (kept (step_tests [] s d k m 0) n)
 pass_later known r n s d k m steps depth facts terms h =
     pass_le known r n s most_steps limits.Steps (depth_tests [] d k m 0) steps
     (pass_le known r n d most_depth limits.Depth (fact_tests [] k m 0) depth
@@ -163,7 +163,7 @@ pass_later known r n s d k m steps depth facts terms h =
     (pass_rest known r n [] m 0 refl refl terms (omega arith) h)))
 
 -- all of them
-pub pass_all : (known : List TitledStatement) (r : Result TheoremParser FaultKind) (n : Open) (ns : Names) (s d k m : ℕ) → FewNamed ns → s ≤ most_steps → d ≤ most_depth → k ≤ most_facts → m ≤ most_terms → Alike known r (read_ok n)
+pub pass_all : (known : List TitledStatement) (r : Result TheoremParser FaultKind) (n : Open) (ns : Names) (s d k m : ℕ) → FewNamed ns → s ≤ most_steps → d ≤ most_depth → k ≤ most_facts → m ≤ most_monomials_of_facts → Alike known r (read_ok n)
     → Alike known r (kept (all_tests [] ns s d k m 0) n)
 pass_all known r n ns s d k m few steps depth facts terms h = pass_objects known r n [] ns s d k m 0 few (pass_later known r n s d k m steps depth facts terms h)
 

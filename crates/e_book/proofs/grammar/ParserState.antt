@@ -12,7 +12,7 @@ use Rattle.e_book.specs.declared.parser.TheoremParser.{TheoremParser}
 use Rattle.e_book.specs.declared.parser.Section.{Section}
 use Rattle.e_book.specs.declared.parser.Section.TheVariants as places
 use Rattle.e_names.specs.TitledStatements.{TitledStatement}
-use Rattle.e_line.specs.Limits.{most_steps, most_depth, most_facts, most_terms, count_monomials}
+use Rattle.e_line.specs.Limits.{most_steps, most_depth, most_facts, most_monomials_of_facts, count_monomials}
 use Rattle.e_book.specs.LineLimits.{FewNamed}
 use Rattle.e_book.specs.Steps.{FitsOuter}
 use Rattle.e_book.specs.ParserViews.{statement_of_parser, entry_of_parser, script_of_close}
@@ -71,7 +71,7 @@ pub record BlockTied (known : List TitledStatement) (h : Head) (os : List OpenBl
   pub counted : Counted ns k m (context_in known h os ss)
   pub few : FewNamed ns
   pub few_facts : k ≤ most_facts
-  pub few_terms : m ≤ most_terms
+  pub few_terms : m ≤ most_monomials_of_facts
   pub lines : n ≡ count_lines ss + lines_around (around_of os)
   pub short : n ≤ most_steps
   pub blocks : BlocksTied known h os
@@ -88,7 +88,7 @@ pub record Unproved (given : List Lit) (ss : List PlainStep) (os : List OpenBloc
   pub facts : k ≡ length given
   pub terms : m ≡ count_monomials given
   pub few_facts : k ≤ most_facts
-  pub few_terms : m ≤ most_terms
+  pub few_terms : m ≤ most_monomials_of_facts
 
 abbrev pub UnprovedOf : TheoremParser → Type 0
 UnprovedOf d = Unproved d.given d.steps d.blocks d.lines d.facts d.terms

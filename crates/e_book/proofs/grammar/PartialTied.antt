@@ -13,7 +13,7 @@ use Rattle.e_line.specs.declared.raw_line.RawLine.{RawLine}
 use Rattle.e_line.specs.declared.raw_line.RawLine.TheVariants as rawlines
 use Rattle.e_line.specs.declared.items.RawItem.{RawItem}
 use Rattle.e_line.specs.declared.items.ListHead.{ListHead}
-use Rattle.e_line.specs.declared.items.ListHead.TheVariants as listings
+use Rattle.e_line.specs.declared.items.ListHead.TheVariants as list_heads
 use Rattle.e_line.specs.declared.items.BookLine.{BookLine}
 use Rattle.e_line.specs.declared.items.BookLine.TheVariants.{Plain, Define, Listed}
 use Rattle.e_names.specs.declared.known.Known.{Known}
@@ -42,7 +42,7 @@ use Rattle.e_line.specs.Faults.{at_line}
 use Rattle.e_book.specs.Book.{is_last}
 use Rattle.e_book.specs.ParserViews.{statement_of_parser, entry_of_parser}
 use Rattle.e_book.specs.inner.Machine as machine
-use Rattle.e_book.specs.inner.Machine.{names_at_place, head_names, line_written_out, partial_item, begins_theorem, begins_definition, is_showing, defines_on, with_parser, goes_on, lists, line_step, notion_of_parser, item_of_partial}
+use Rattle.e_book.specs.inner.Machine.{names_at_place, head_names, line_written_out, partial_item, begins_theorem, begins_definition, is_showing, defines_on, with_parser, goes_on, goes_on_with_items, line_step, notion_of_parser, item_of_partial}
 use Rattle.e_line.proofs.base.Bound.{bind_ok, ok_is, read_ok}
 use Rattle.e_book.proofs.grammar.LimitTests.{by_test, then_limits}
 use Rattle.e_book.proofs.grammar.ParserState.{around_of, head_of, open_there, open_of, BlockOf, UnprovedOf, Stands, Body, Tied, Alike}
@@ -297,10 +297,10 @@ copied (Ok x) (Err k) f = refl
 copied (Err j) q f = refl
 
 ready_proving : (known : List TitledStatement) (d : TheoremParser) (args new : List (List ℕ)) → BlockOf known d
-    → SameFault (placed_in d.in_scope args >>= λ superposition. fresh d.in_scope [] new) (next known (Proving (head_of d) (around_of d.blocks) d.steps) (list_raw_line (listings.Superpose args new) []))
+    → SameFault (placed_in d.in_scope args >>= λ superposition. fresh d.in_scope [] new) (next known (Proving (head_of d) (around_of d.blocks) d.steps) (list_raw_line (list_heads.Superpose args new) []))
 unfolding superpose_in
 ready_proving known d args new b =
-    subst (λ (ns : Names). SameFault (placed_in d.in_scope args >>= λ superposition. fresh d.in_scope [] new) (goes_on_there known ns (head_of d) (around_of d.blocks) d.steps (list_raw_line (listings.Superpose args new) []))) b.counted.names
+    subst (λ (ns : Names). SameFault (placed_in d.in_scope args >>= λ superposition. fresh d.in_scope [] new) (goes_on_there known ns (head_of d) (around_of d.blocks) d.steps (list_raw_line (list_heads.Superpose args new) []))) b.counted.names
     (copied (placed_in d.in_scope args) (fresh d.in_scope [] new) (λ p. Proving (head_of d) (record { steps = d.steps; opener = BySuperposition p.0 new p.1 } ∷ around_of d.blocks) []))
 
 abbrev given_none : TheoremParser → Open
@@ -308,38 +308,38 @@ given_none d = Stating (record (head_of d) { statement = record (statement_of_pa
 
 ready_at : (known : List TitledStatement) (p : Section) (d : TheoremParser) (line : ListHead) → Body known p d
     → SameFault (right_count (line_may_come p (list_raw_line line [])) >>= λ right. head_names d.in_scope line) (next known (open_there d p) (list_raw_line line []))
-ready_at known places.Declaring d listings.Given b = placed true (none_made (statement_of_parser d)) (given_none d) (may_give places.Declaring d [] tt b.0)
-ready_at known places.Giving d listings.Given b = placed true (none_made (statement_of_parser d)) (given_none d) (may_give places.Giving d [] tt b.0)
-ready_at known places.Making d listings.Given b = placed false (none_made (statement_of_parser d)) (given_none d) (may_give places.Making d [] tt b.0)
-ready_at known places.Showing d listings.Given b = placed false (none_made (statement_of_parser d)) (given_none d) (may_give places.Showing d [] tt b.0)
-ready_at known places.Proving d listings.Given b = refl
-ready_at known places.Splitting d listings.Given b = refl
-ready_at known places.Closed d listings.Given b = refl
-ready_at known places.Done d listings.Given b = refl
-ready_at known places.Declaring d listings.Show b = tt
-ready_at known places.Giving d listings.Show b = tt
-ready_at known places.Making d listings.Show b = tt
-ready_at known places.Showing d listings.Show b = tt
-ready_at known places.Proving d listings.Show b = refl
-ready_at known places.Splitting d listings.Show b = refl
-ready_at known places.Closed d listings.Show b = refl
-ready_at known places.Done d listings.Show b = refl
-ready_at known places.Declaring d listings.Claim b = refl
-ready_at known places.Giving d listings.Claim b = refl
-ready_at known places.Making d listings.Claim b = refl
-ready_at known places.Showing d listings.Claim b = refl
-ready_at known places.Proving d listings.Claim b = tt
-ready_at known places.Splitting d listings.Claim b = refl
-ready_at known places.Closed d listings.Claim b = refl
-ready_at known places.Done d listings.Claim b = refl
-ready_at known places.Declaring d (listings.Superpose args new) b = refl
-ready_at known places.Giving d (listings.Superpose args new) b = refl
-ready_at known places.Making d (listings.Superpose args new) b = refl
-ready_at known places.Showing d (listings.Superpose args new) b = refl
-ready_at known places.Proving d (listings.Superpose args new) b = ready_proving known d args new b
-ready_at known places.Splitting d (listings.Superpose args new) b = refl
-ready_at known places.Closed d (listings.Superpose args new) b = refl
-ready_at known places.Done d (listings.Superpose args new) b = refl
+ready_at known places.Declaring d list_heads.Given b = placed true (none_made (statement_of_parser d)) (given_none d) (may_give places.Declaring d [] tt b.0)
+ready_at known places.Giving d list_heads.Given b = placed true (none_made (statement_of_parser d)) (given_none d) (may_give places.Giving d [] tt b.0)
+ready_at known places.Making d list_heads.Given b = placed false (none_made (statement_of_parser d)) (given_none d) (may_give places.Making d [] tt b.0)
+ready_at known places.Showing d list_heads.Given b = placed false (none_made (statement_of_parser d)) (given_none d) (may_give places.Showing d [] tt b.0)
+ready_at known places.Proving d list_heads.Given b = refl
+ready_at known places.Splitting d list_heads.Given b = refl
+ready_at known places.Closed d list_heads.Given b = refl
+ready_at known places.Done d list_heads.Given b = refl
+ready_at known places.Declaring d list_heads.Show b = tt
+ready_at known places.Giving d list_heads.Show b = tt
+ready_at known places.Making d list_heads.Show b = tt
+ready_at known places.Showing d list_heads.Show b = tt
+ready_at known places.Proving d list_heads.Show b = refl
+ready_at known places.Splitting d list_heads.Show b = refl
+ready_at known places.Closed d list_heads.Show b = refl
+ready_at known places.Done d list_heads.Show b = refl
+ready_at known places.Declaring d list_heads.Claim b = refl
+ready_at known places.Giving d list_heads.Claim b = refl
+ready_at known places.Making d list_heads.Claim b = refl
+ready_at known places.Showing d list_heads.Claim b = refl
+ready_at known places.Proving d list_heads.Claim b = tt
+ready_at known places.Splitting d list_heads.Claim b = refl
+ready_at known places.Closed d list_heads.Claim b = refl
+ready_at known places.Done d list_heads.Claim b = refl
+ready_at known places.Declaring d (list_heads.Superpose args new) b = refl
+ready_at known places.Giving d (list_heads.Superpose args new) b = refl
+ready_at known places.Making d (list_heads.Superpose args new) b = refl
+ready_at known places.Showing d (list_heads.Superpose args new) b = refl
+ready_at known places.Proving d (list_heads.Superpose args new) b = ready_proving known d args new b
+ready_at known places.Splitting d (list_heads.Superpose args new) b = refl
+ready_at known places.Closed d (list_heads.Superpose args new) b = refl
+ready_at known places.Done d (list_heads.Superpose args new) b = refl
 
 -- nothing more is said at these places
 abbrev IsOver : Section → Type 0
@@ -349,18 +349,18 @@ IsOver places.Done = Unit {0}
 IsOver p = ⊥
 
 over : (p : Section) (line : ListHead) → IsOver p → line_may_come p (list_raw_line line []) ≡ true → ⊥
-over places.Splitting listings.Given o may = absurd cc
-over places.Splitting listings.Show o may = absurd cc
-over places.Splitting listings.Claim o may = absurd cc
-over places.Splitting (listings.Superpose args new) o may = absurd cc
-over places.Closed listings.Given o may = absurd cc
-over places.Closed listings.Show o may = absurd cc
-over places.Closed listings.Claim o may = absurd cc
-over places.Closed (listings.Superpose args new) o may = absurd cc
-over places.Done listings.Given o may = absurd cc
-over places.Done listings.Show o may = absurd cc
-over places.Done listings.Claim o may = absurd cc
-over places.Done (listings.Superpose args new) o may = absurd cc
+over places.Splitting list_heads.Given o may = absurd cc
+over places.Splitting list_heads.Show o may = absurd cc
+over places.Splitting list_heads.Claim o may = absurd cc
+over places.Splitting (list_heads.Superpose args new) o may = absurd cc
+over places.Closed list_heads.Given o may = absurd cc
+over places.Closed list_heads.Show o may = absurd cc
+over places.Closed list_heads.Claim o may = absurd cc
+over places.Closed (list_heads.Superpose args new) o may = absurd cc
+over places.Done list_heads.Given o may = absurd cc
+over places.Done list_heads.Show o may = absurd cc
+over places.Done list_heads.Claim o may = absurd cc
+over places.Done (list_heads.Superpose args new) o may = absurd cc
 over p line o may = o
 
 -- where such a line may come, the names are those before the line
@@ -411,10 +411,10 @@ was_out known o line is w e =
     record { meanings = p.0; read = p.1; are = ok_is (out line ns p.0) w p.2 }
 
 has : (line : ListHead) (raws : List RawLit) → 0 < length raws → HasItems (list_raw_line line raws)
-has listings.Given raws h = h
-has listings.Show raws h = h
-has listings.Claim raws h = tt
-has (listings.Superpose args new) raws h = tt
+has list_heads.Given raws h = h
+has list_heads.Show raws h = h
+has list_heads.Claim raws h = tt
+has (list_heads.Superpose args new) raws h = tt
 
 -- it has a literal where one has to be
 out_has : (known : Known) (o : Open) (line : ListHead) (is : List RawItem) (w : RawLine × ℕ) → are_notions known.notions ≡ true → 0 < length is → written_out known o line is ≡ Ok w → HasItems w.0
@@ -424,10 +424,10 @@ out_has known o line is w all some e =
     subst (λ (y : RawLine × ℕ). HasItems y.0) x.are (has line (map (raw_of ns) x.meanings.0) (items_some known.notions ns is x.meanings all some x.read))
 
 shown : (line : ListHead) (raws : List RawLit) → is_show line ≡ true → list_raw_line line raws ≡ rawlines.Show raws
-shown listings.Show raws s = refl
-shown listings.Given raws s = absurd cc
-shown listings.Claim raws s = absurd cc
-shown (listings.Superpose args new) raws s = absurd cc
+shown list_heads.Show raws s = refl
+shown list_heads.Given raws s = absurd cc
+shown list_heads.Claim raws s = absurd cc
+shown (list_heads.Superpose args new) raws s = absurd cc
 
 out_shows : (known : Known) (o : Open) (line : ListHead) (is : List RawItem) (w : RawLine × ℕ) → is_show line ≡ true → written_out known o line is ≡ Ok w → (raws : List RawLit) × (w.0 ≡ rawlines.Show raws)
 out_shows known o line is w s e =
@@ -518,10 +518,10 @@ listed_stating known c line is false show all some st t few body = refl
 
 -- after the last line of a definition
 not_ready : (known : Known) (c : Held) (line : ListHead) (is : List RawItem) → c.parser.section ≡ places.Done → take_out known c line is ≡ Err Malformed
-not_ready known c listings.Given is at = rw at refl
-not_ready known c listings.Show is at = rw at refl
-not_ready known c listings.Claim is at = rw at refl
-not_ready known c (listings.Superpose args new) is at = rw at refl
+not_ready known c list_heads.Given is at = rw at refl
+not_ready known c list_heads.Show is at = rw at refl
+not_ready known c list_heads.Claim is at = rw at refl
+not_ready known c (list_heads.Superpose args new) is at = rw at refl
 
 listed_done : (known : Known) (c : Held) (line : ListHead) (is : List RawItem) (s : Bool) → c.parser.section ≡ places.Done → AlikePartial known (right_count s >>= λ right. take_out known c line is) (Err Malformed)
 listed_done known c line is false at = refl
@@ -551,8 +551,8 @@ listed_by false known c line is t all some tied =
     listed_on known c (open_of c.parser) line is (InTheorem (open_of c.parser) c.expanded) all some (subst (λ (b : Bool). TiedBy known.theorems b c.parser) (sym t) tied) (ap (λ (b : Bool). said_by b c.parser c.expanded) t)
     (λ h. absurd (let no : true ≡ false = sym h ∙ t in cc)) (written_alike known c.parser line is tied)
 
-listed_alike : (known : Known) (c : Held) (line : ListHead) (is : List RawItem) → are_notions known.notions ≡ true → 0 < length is → TiedPartial known c → AlikePartial known (lists known c line is) (after_listed_line known (said_of c) line is)
-unfolding lists
+listed_alike : (known : Known) (c : Held) (line : ListHead) (is : List RawItem) → are_notions known.notions ≡ true → 0 < length is → TiedPartial known c → AlikePartial known (goes_on_with_items known c line is) (after_listed_line known (said_of c) line is)
+unfolding goes_on_with_items
 listed_alike known c line is all some tied = listed_by c.defines known c line is refl all some tied
 
 -- ---- each line

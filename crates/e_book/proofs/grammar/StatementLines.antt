@@ -20,7 +20,7 @@ use Rattle.e_book.specs.declared.parser.Section.{Section}
 use Rattle.e_book.specs.declared.parser.Section.TheVariants as places
 use Rattle.e_line.specs.Reading.{◌>>=◌}
 use Rattle.e_names.specs.TitledStatements.{TitledStatement}
-use Rattle.e_line.specs.Limits.{most_of, most_steps, most_depth, most_facts, most_terms, what_of, within, count_monomials}
+use Rattle.e_line.specs.Limits.{most_of, most_steps, most_depth, most_facts, most_monomials_of_facts, what_of, within, count_monomials}
 use Rattle.e_names.specs.Scope.{fresh, lit_in, lits_in}
 use Rattle.e_line.specs.LineLimits.{count_raw_monomials, check_literal_limits}
 use Rattle.e_book.specs.LineLimits.{FewNamed}
@@ -149,7 +149,7 @@ new_alike known ns sorts.Circle new r n s d k m few h =
 -- the given literals are within the limits
 record FewGiven (d : TheoremParser) : Type 0 where
   facts : length d.given ≤ most_facts
-  terms : count_monomials d.given ≤ most_terms
+  terms : count_monomials d.given ≤ most_monomials_of_facts
 
 few_given : (d : TheoremParser) → UnprovedOf d → FewGiven d
 few_given d u = record { facts = omega (arith, u.facts, u.few_facts); terms = omega (arith, u.terms, u.few_terms) }

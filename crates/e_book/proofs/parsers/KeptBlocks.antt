@@ -31,7 +31,7 @@ use Rattle.e_book.specs.declared.parser.Section.{Section}
 use Rattle.e_book.specs.declared.parser.Section.TheVariants.{Proving, Splitting, Closed}
 use Rattle.e_book.specs.declared.parser.TheoremParser.{TheoremParser}
 use Rattle.e_line.specs.Reading.{◌>>=◌}
-use Rattle.e_line.specs.Limits.{most_steps, most_depth, most_facts, most_terms, most_blanks, within, monomials, count_monomials}
+use Rattle.e_line.specs.Limits.{most_steps, most_depth, most_facts, most_monomials_of_facts, most_blanks, within, monomials, count_monomials}
 use Rattle.e_names.specs.TitledStatements.{TitledStatement, stated_by, theorem_of}
 use Rattle.e_book.specs.Blocks.{is_claim, has_claim, made_in}
 use Rattle.e_names.specs.Scope.{scope_of_names, lit_in, lits_in, by_in, let_in, qed_in}
@@ -278,7 +278,7 @@ keeps_else known d e g at h =
 
 record Resumed (d e : TheoremParser) (o : OpenBlock) (os : List OpenBlock) (shown : List Lit) (s : PlainStep) : Type 0 where
   facts : o.facts + length shown ≤ most_facts
-  terms : o.terms + count_monomials shown ≤ most_terms
+  terms : o.terms + count_monomials shown ≤ most_monomials_of_facts
   is : record d { facts = o.facts + length shown; terms = o.terms + count_monomials shown; steps = o.steps ++ s ∷ []; in_scope = o.in_scope; blocks = os } ≡ e
 
 goes_on : (d e : TheoremParser) (o : OpenBlock) (os : List OpenBlock) (shown : List Lit) (s : PlainStep) → after_inner_block d o os shown s ≡ Ok e → Resumed d e o os shown s

@@ -15,7 +15,7 @@ use Rattle.e_book.specs.declared.blocks.OpenBlock.{OpenBlock}
 use Rattle.e_book.specs.declared.parser.Section.{Section}
 use Rattle.e_book.specs.declared.parser.Section.TheVariants.{Declaring, Giving, Making, Showing, Proving, Splitting, Closed, Done}
 use Rattle.e_book.specs.declared.parser.TheoremParser.{TheoremParser}
-use Rattle.e_line.specs.Limits.{most_steps, most_facts, most_terms, count_monomials}
+use Rattle.e_line.specs.Limits.{most_steps, most_facts, most_monomials_of_facts, count_monomials}
 use Rattle.e_names.specs.TitledStatements.{TitledStatement, is_known, stated_by}
 use Rattle.e_names.specs.Scope.{scope_of_names}
 use Rattle.e_book.specs.LineLimits.{FewNamed}
@@ -35,7 +35,7 @@ pub record Head (known : List TitledStatement) (title : List ℕ) (ns : Names) (
   pub good_given : list_all is_well_formed gs ≡ true
   pub good_shown : list_all is_well_formed ls ≡ true
   pub few_given : length gs ≤ most_facts
-  pub few_terms : count_monomials gs ≤ most_terms
+  pub few_terms : count_monomials gs ≤ most_monomials_of_facts
 
 abbrev pub HeadOf : List TitledStatement → TheoremParser → Type 0
 HeadOf known d = Head known d.title d.names d.declared d.given d.made d.shown

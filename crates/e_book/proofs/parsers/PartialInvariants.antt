@@ -22,7 +22,7 @@ use Rattle.e_line.specs.declared.raw_line.RawLine.{RawLine}
 use Rattle.e_line.specs.declared.raw_line.RawLine.TheVariants as rawlines
 use Rattle.e_line.specs.declared.items.RawItem.{RawItem}
 use Rattle.e_line.specs.declared.items.ListHead.{ListHead}
-use Rattle.e_line.specs.declared.items.ListHead.TheVariants as listings
+use Rattle.e_line.specs.declared.items.ListHead.TheVariants as list_heads
 use Rattle.e_line.specs.declared.items.BookLine.{BookLine}
 use Rattle.e_line.specs.declared.items.BookLine.TheVariants.{Plain, Define, Listed}
 use Rattle.e_names.specs.declared.known.Known.{Known}
@@ -46,7 +46,7 @@ use Rattle.e_names.specs.Meanings.{items_in}
 use Rattle.e_book.specs.Grammar.{Rest, is_skipped, put_at}
 use Rattle.e_book.specs.Definitions.{BookItem, OfTheorem, OfNotion, Answer, has_notion_title, IsWellFormedItem}
 use Rattle.e_book.specs.inner.Machine as machine
-use Rattle.e_book.specs.inner.Machine.{names_there, is_ready, line_written_out, partial_item, begins_theorem, begins_definition, is_showing, defines_on, with_parser, goes_on, lists, line_step, notion_of_parser, item_of_partial, item_from, is_done}
+use Rattle.e_book.specs.inner.Machine.{names_there, is_ready, line_written_out, partial_item, begins_theorem, begins_definition, is_showing, defines_on, with_parser, goes_on, goes_on_with_items, line_step, notion_of_parser, item_of_partial, item_from, is_done}
 use Rattle.e_line.proofs.base.Bound.{bind_ok, ok_is, read_ok, each_length}
 use Rattle.e_names.proofs.titles.FreshTitles.{neither, was_free}
 use Rattle.e_book.proofs.parsers.ParserFits.{HeadOf, Body, Good}
@@ -60,7 +60,7 @@ use Rattle.e_names.proofs.read_lines.LiteralsOfRawLines.{Said, form_said}
 use Rattle.e_line.proofs.read_lines.SumsOfLiterals.{LitsSaid}
 use Rattle.e_line.proofs.read_lines.ItemsOfWords.{ItemsSaid}
 use Rattle.e_names.proofs.read_lines.ItemsWritten.{items_said, items_some}
-use Rattle.e_line.proofs.read_lines.LinesByWord.{ListingSaid, LineSaid, line_read_as}
+use Rattle.e_line.proofs.read_lines.LinesByWord.{ListHeadSaid, LineSaid, line_read_as}
 
 -- ---- what is known
 
@@ -205,7 +205,7 @@ plain_kept known c e f g s h = plain_by c.defines known c e f refl g s h
 -- ---- a line with items
 
 -- what spelling would say of the line as it is written out
-out_said : (known : Known) (d : TheoremParser) (line : ListHead) (is : List RawItem) (w : RawLine × ℕ) → are_notions known.notions ≡ true → ListingSaid line → 0 < length is → ItemsSaid is → line_written_out known.notions d line is ≡ Ok w → Said w.0
+out_said : (known : Known) (d : TheoremParser) (line : ListHead) (is : List RawItem) (w : RawLine × ℕ) → are_notions known.notions ≡ true → ListHeadSaid line → 0 < length is → ItemsSaid is → line_written_out known.notions d line is ≡ Ok w → Said w.0
 out_said known d line is w all head some said e =
     let ns = names_there d in
     let out : List Lit × ℕ → RawLine × ℕ = λ p. (list_raw_line line (map (raw_of ns) p.0), p.1) in
@@ -214,14 +214,14 @@ out_said known d line is w all head some said e =
     subst (λ (x : RawLine × ℕ). Said x.0) (ok_is (out p.0) w p.2)
     (raw_line_of line (map (raw_of ns) p.0.0) head (items_some known.notions ns is p.0 all some p.1) (items_said known.notions ns 0 is p.0 all said p.1))
   where
-    raw_line_of : (line : ListHead) (raws : List RawLit) → ListingSaid line → 0 < length raws → LitsSaid raws → Said (list_raw_line line raws)
-    raw_line_of listings.Given raws h n s = s
-    raw_line_of listings.Show raws h n s = (n, s)
-    raw_line_of listings.Claim raws h n s = (n, s)
-    raw_line_of (listings.Superpose args new) raws h n s = (h.0, h.1, n, s)
+    raw_line_of : (line : ListHead) (raws : List RawLit) → ListHeadSaid line → 0 < length raws → LitsSaid raws → Said (list_raw_line line raws)
+    raw_line_of list_heads.Given raws h n s = s
+    raw_line_of list_heads.Show raws h n s = (n, s)
+    raw_line_of list_heads.Claim raws h n s = (n, s)
+    raw_line_of (list_heads.Superpose args new) raws h n s = (h.0, h.1, n, s)
 
-listed_kept : (known : Known) (c e : PartialItem) (line : ListHead) (is : List RawItem) → are_notions known.notions ≡ true → GoodPartial known c → ListingSaid line → 0 < length is → ItemsSaid is → lists known c line is ≡ Ok e → GoodPartial known e
-unfolding lists
+listed_kept : (known : Known) (c e : PartialItem) (line : ListHead) (is : List RawItem) → are_notions known.notions ≡ true → GoodPartial known c → ListHeadSaid line → 0 < length is → ItemsSaid is → goes_on_with_items known c line is ≡ Ok e → GoodPartial known e
+unfolding goes_on_with_items
 listed_kept known c e line is all g head some said h =
     let add : (RawLine × ℕ) → PartialItem → Result PartialItem FaultKind = λ w x. within (x.expanded + w.1) most_expanded limits.Expanded >>= λ few. read_ok (record x { expanded = x.expanded + w.1 }) in
     let r = bind_ok (right_count (not c.defines || is_show line)) (λ right. line_written_out known.notions c.parser line is >>= λ w. goes_on known c w.0 >>= λ x. add w x) e h in

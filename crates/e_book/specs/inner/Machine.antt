@@ -14,7 +14,7 @@ use Rattle.e_line.specs.declared.raw_line.RawLine.{RawLine}
 use Rattle.e_line.specs.declared.raw_line.RawLine.TheVariants as rawlines
 use Rattle.e_line.specs.declared.items.RawItem.{RawItem}
 use Rattle.e_line.specs.declared.items.ListHead.{ListHead}
-use Rattle.e_line.specs.declared.items.ListHead.TheVariants as listings
+use Rattle.e_line.specs.declared.items.ListHead.TheVariants as list_heads
 use Rattle.e_line.specs.declared.items.BookLine.{BookLine}
 use Rattle.e_line.specs.declared.items.BookLine.TheVariants.{Plain, Define, Listed}
 use Rattle.e_book.specs.declared.item.Item.{Item}
@@ -54,7 +54,7 @@ names_there d = names_at_place d.section d.names d.in_scope
 
 -- the names before the literals, from left to right
 abbrev pub head_names : Names → ListHead → Result (Unit {0}) FaultKind
-head_names ns (listings.Superpose args new) = placed_in ns args >>= λ superposition. fresh ns [] new
+head_names ns (list_heads.Superpose args new) = placed_in ns args >>= λ superposition. fresh ns [] new
 head_names ns line = Ok tt
 
 -- a line that takes literals may come here
@@ -117,8 +117,9 @@ goes_on known c f =
     (steps.step known.theorems c.parser f >>= λ d. Ok (with_parser c d))
 
 -- it is taken as it is written out, and then the limit of what items mean
-unfoldable pub lists : Known → PartialItem → ListHead → List RawItem → Result PartialItem FaultKind
-lists known c line is = do
+unfoldable pub goes_on_with_items : Known → PartialItem → ListHead → List RawItem
+    → Result PartialItem FaultKind
+goes_on_with_items known c line is = do
   right ← right_count (not c.defines || is_show line)
   w ← line_written_out known.notions c.parser line is
   e ← goes_on known c w.0
@@ -128,7 +129,7 @@ lists known c line is = do
 unfoldable pub step : Known → PartialItem → BookLine → Result PartialItem FaultKind
 step known c (Plain f) = goes_on known c f
 step known c (Define t) = Err Malformed
-step known c (Listed line is) = lists known c line is
+step known c (Listed line is) = goes_on_with_items known c line is
 
 -- it is within the limits between two lines
 pub record FitsPartial (known : Known) (c : PartialItem) : Type 0 where

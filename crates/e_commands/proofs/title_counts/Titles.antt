@@ -16,7 +16,7 @@ use Rattle.e_line.specs.declared.raw_line.RawLine.TheVariants as rawlines
 use Rattle.e_line.specs.declared.fault.What.TheVariants as limits
 use Rattle.e_line.specs.declared.items.RawItem.{RawItem}
 use Rattle.e_line.specs.declared.items.ListHead.{ListHead}
-use Rattle.e_line.specs.declared.items.ListHead.TheVariants as listings
+use Rattle.e_line.specs.declared.items.ListHead.TheVariants as list_heads
 use Rattle.e_line.specs.declared.items.BookLine.{BookLine}
 use Rattle.e_line.specs.declared.items.BookLine.TheVariants.{Plain, Define, Listed}
 use Rattle.e_names.specs.declared.known.Known.{Known}
@@ -187,15 +187,15 @@ line_none w ws l is e =
     let b4 = bytes_eq w (codes "superpose") && has_item (drop 13 ws) in
     let r4 : Result BookLine FaultKind = cond b4 placed r5 in
     let b3 = bytes_eq w (codes "claim") && has_item ws in
-    let r3 : Result BookLine FaultKind = cond b3 (line_with_items listings.Claim ws) r4 in
+    let r3 : Result BookLine FaultKind = cond b3 (line_with_items list_heads.Claim ws) r4 in
     let b2 = bytes_eq w (codes "show") && has_item ws in
-    let r2 : Result BookLine FaultKind = cond b2 (line_with_items listings.Show ws) r3 in
+    let r2 : Result BookLine FaultKind = cond b2 (line_with_items list_heads.Show ws) r3 in
     let b1 = bytes_eq w (codes "given") && has_item ws in
-    let r1 : Result BookLine FaultKind = cond b1 (line_with_items listings.Given ws) r2 in
+    let r1 : Result BookLine FaultKind = cond b1 (line_with_items list_heads.Given ws) r2 in
     either P (bytes_eq w (codes "define")) (define_of ws) r1 l e (define_none ws l) (λ e1.
-    either P b1 (line_with_items listings.Given ws) r2 l e1 (listed_none listings.Given ws l) (λ e2.
-    either P b2 (line_with_items listings.Show ws) r3 l e2 (listed_none listings.Show ws l) (λ e3.
-    either P b3 (line_with_items listings.Claim ws) r4 l e3 (listed_none listings.Claim ws l) (λ e4.
+    either P b1 (line_with_items list_heads.Given ws) r2 l e1 (listed_none list_heads.Given ws l) (λ e2.
+    either P b2 (line_with_items list_heads.Show ws) r3 l e2 (listed_none list_heads.Show ws l) (λ e3.
+    either P b3 (line_with_items list_heads.Claim ws) r4 l e3 (listed_none list_heads.Claim ws l) (λ e4.
     either P b4 placed r5 l e4
     (λ k. let a = bind_ok (placing_of (take 13 ws)) (λ line. line_with_items line (drop 13 ws)) l k in listed_none a.0 (drop 13 ws) l a.2)
     (plain_none w ws l is)))))

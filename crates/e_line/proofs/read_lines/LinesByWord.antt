@@ -9,12 +9,11 @@ use Rattle.e_line.specs.declared.fault.FaultKind.{FaultKind}
 use Rattle.e_line.specs.declared.items.RawItem.{RawItem}
 use Rattle.e_line.specs.declared.items.RawItem.TheVariants.{Literal, As}
 use Rattle.e_line.specs.declared.items.ListHead.{ListHead}
-use Rattle.e_line.specs.declared.items.ListHead.TheVariants as listings
+use Rattle.e_line.specs.declared.items.ListHead.TheVariants as list_heads
 use Rattle.e_line.specs.declared.items.BookLine.{BookLine}
 use Rattle.e_line.specs.declared.items.BookLine.TheVariants.{Plain, Define, Listed}
 use Rattle.e_line.specs.Reading.{◌>>=◌, or_malformed, each, first_title, no_word_left, names_of}
 use Rattle.e_line.specs.Literals.{is_semicolon, lit_of}
-use Rattle.e_line.specs.declared.lets.Slot.TheVariants as slots
 use Rattle.e_line.specs.Lets.{are_words_of, new_words, argument_words}
 use Rattle.e_line.specs.Superposes.{superpose_pieces}
 use Rattle.e_line.specs.RawLines.{raw_line_named, raw_line_of}
@@ -23,18 +22,18 @@ use Rattle.e_line.specs.Items.{is_as, as_of, item_of, items_of, has_item, define
 use Rattle.e_line.proofs.base.Bound.{bind_ok, ok_is, read_ok, each_length}
 use Rattle.e_line.proofs.base.Choices.{either, passed, of_reading}
 use Rattle.e_line.proofs.read_lines.SumsOfLiterals.{lit_said}
-use Rattle.e_line.proofs.read_lines.TitlesOfWords.{title_said, names_said, words_count}
+use Rattle.e_line.proofs.read_lines.TitlesOfWords.{title_said, names_said, new_count}
 use Rattle.e_line.proofs.read_lines.ItemsOfWords.{ItemSaid, ItemsSaid}
 
 -- the new names of a superposition are two names
-abbrev pub ListingSaid : ListHead → Type 0
-ListingSaid (listings.Superpose args new) = AreNames new × (length new ≡ 2)
-ListingSaid line = Unit {0}
+abbrev pub ListHeadSaid : ListHead → Type 0
+ListHeadSaid (list_heads.Superpose args new) = AreNames new × (length new ≡ 2)
+ListHeadSaid line = Unit {0}
 
 abbrev pub LineSaid : List (List ℕ) → BookLine → Type 0
 LineSaid words (Plain f) = raw_line_of words ≡ Ok f
 LineSaid words (Define t) = is_title t ≡ true
-LineSaid words (Listed line is) = ListingSaid line × (0 < length is) × ItemsSaid is
+LineSaid words (Listed line is) = ListHeadSaid line × (0 < length is) × ItemsSaid is
 
 -- ---- items
 
@@ -63,7 +62,7 @@ items_said ws is e =
 
 -- ---- lines
 
-listed_said : (words : List (List ℕ)) (line : ListHead) (ws : List (List ℕ)) (l : BookLine) → ListingSaid line → line_with_items line ws ≡ Ok l → LineSaid words l
+listed_said : (words : List (List ℕ)) (line : ListHead) (ws : List (List ℕ)) (l : BookLine) → ListHeadSaid line → line_with_items line ws ≡ Ok l → LineSaid words l
 unfolding line_with_items
 listed_said words line ws l h e = of_reading (LineSaid words) (items_of ws) (λ is. Listed line is) l (λ is k. (h, (items_said ws is k).0, (items_said ws is k).1)) e
 
@@ -73,15 +72,15 @@ define_said words ws l e =
     let t = bind_ok (first_title ws) (λ t. no_word_left t.1 >>= λ none. read_ok (Define t.0)) l e in
     of_reading (LineSaid words) (no_word_left t.0.1) (λ none. Define t.0.0) l (λ none k. title_said ws t.0 t.1) t.2
 
-placing_said : (head : List (List ℕ)) (line : ListHead) → placing_of head ≡ Ok line → ListingSaid line
+placing_said : (head : List (List ℕ)) (line : ListHead) → placing_of head ≡ Ok line → ListHeadSaid line
 unfolding placing_of
 placing_said head line e =
     let news = new_words superpose_pieces head in
     let arguments = argument_words superpose_pieces head in
-    let b = passed (are_words_of superpose_pieces head) (names_of news >>= λ new. names_of arguments >>= λ args. read_ok (listings.Superpose args new)) line e in
-    let n = bind_ok (names_of news) (λ new. names_of arguments >>= λ args. read_ok (listings.Superpose args new)) line b.1 in
-    let count : length n.0 ≡ 2 = each_length (λ w. or_malformed (name_of w)) news n.0 n.1 ∙ words_count slots.New superpose_pieces head b.0 in
-    of_reading ListingSaid (names_of arguments) (λ args. listings.Superpose args n.0) line (λ args k. (names_said news n.0 n.1, count)) n.2
+    let b = passed (are_words_of superpose_pieces head) (names_of news >>= λ new. names_of arguments >>= λ args. read_ok (list_heads.Superpose args new)) line e in
+    let n = bind_ok (names_of news) (λ new. names_of arguments >>= λ args. read_ok (list_heads.Superpose args new)) line b.1 in
+    let count : length n.0 ≡ 2 = each_length (λ w. or_malformed (name_of w)) news n.0 n.1 ∙ new_count superpose_pieces head b.0 in
+    of_reading ListHeadSaid (names_of arguments) (λ args. list_heads.Superpose args n.0) line (λ args k. (names_said news n.0 n.1, count)) n.2
 
 plain_said : (w : List ℕ) (ws : List (List ℕ)) (l : BookLine) → (raw_line_named w ws >>= λ f. read_ok (Plain f)) ≡ Ok l → LineSaid (w ∷ ws) l
 unfolding raw_line_of
@@ -96,15 +95,15 @@ named_said w ws l e =
     let b4 = bytes_eq w (codes "superpose") && has_item (drop 13 ws) in
     let r4 : Result BookLine FaultKind = cond b4 placed r5 in
     let b3 = bytes_eq w (codes "claim") && has_item ws in
-    let r3 : Result BookLine FaultKind = cond b3 (line_with_items listings.Claim ws) r4 in
+    let r3 : Result BookLine FaultKind = cond b3 (line_with_items list_heads.Claim ws) r4 in
     let b2 = bytes_eq w (codes "show") && has_item ws in
-    let r2 : Result BookLine FaultKind = cond b2 (line_with_items listings.Show ws) r3 in
+    let r2 : Result BookLine FaultKind = cond b2 (line_with_items list_heads.Show ws) r3 in
     let b1 = bytes_eq w (codes "given") && has_item ws in
-    let r1 : Result BookLine FaultKind = cond b1 (line_with_items listings.Given ws) r2 in
+    let r1 : Result BookLine FaultKind = cond b1 (line_with_items list_heads.Given ws) r2 in
     either P (bytes_eq w (codes "define")) (define_of ws) r1 l e (define_said (w ∷ ws) ws l) (λ e1.
-    either P b1 (line_with_items listings.Given ws) r2 l e1 (listed_said (w ∷ ws) listings.Given ws l tt) (λ e2.
-    either P b2 (line_with_items listings.Show ws) r3 l e2 (listed_said (w ∷ ws) listings.Show ws l tt) (λ e3.
-    either P b3 (line_with_items listings.Claim ws) r4 l e3 (listed_said (w ∷ ws) listings.Claim ws l tt) (λ e4.
+    either P b1 (line_with_items list_heads.Given ws) r2 l e1 (listed_said (w ∷ ws) list_heads.Given ws l tt) (λ e2.
+    either P b2 (line_with_items list_heads.Show ws) r3 l e2 (listed_said (w ∷ ws) list_heads.Show ws l tt) (λ e3.
+    either P b3 (line_with_items list_heads.Claim ws) r4 l e3 (listed_said (w ∷ ws) list_heads.Claim ws l tt) (λ e4.
     either P b4 placed r5 l e4
     (λ k. let a = bind_ok (placing_of (take 13 ws)) (λ line. line_with_items line (drop 13 ws)) l k in listed_said (w ∷ ws) a.0 (drop 13 ws) l (placing_said (take 13 ws) a.0 a.1) a.2)
     (plain_said w ws l)))))

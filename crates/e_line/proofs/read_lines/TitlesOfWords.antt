@@ -5,7 +5,8 @@ use Rattle.e_text.specs.Names.{is_name, is_title, name_of, title_of}
 use Rattle.e_construct.specs.Lines.{Piece}
 use Rattle.e_line.specs.Reading.{◌>>=◌, or_malformed, first_word, first_title, names_of}
 use Rattle.e_line.specs.declared.lets.Slot.{Slot}
-use Rattle.e_line.specs.Lets.{is_word_of, are_words_of, is_slot, words_in_slots}
+use Rattle.e_line.specs.declared.lets.Slot.TheVariants as slots
+use Rattle.e_line.specs.Lets.{is_word_of, are_words_of, is_slot, words_in_slots, new_words}
 use Rattle.e_line.specs.Names.{AreNames}
 use Rattle.e_line.proofs.base.Bound.{bind_ok, ok_is, read_ok}
 
@@ -45,9 +46,13 @@ place_taken : (b : Bool) (w : List ℕ) (ws : List (List ℕ)) (n : ℕ) → len
 place_taken true w ws n e = omega (arith, e)
 place_taken false w ws n e = omega (arith, e)
 
-pub words_count : (slot : Slot) (ps : List Piece) (ws : List (List ℕ)) → are_words_of ps ws ≡ true → length (words_in_slots slot ps ws) ≡ slots_of slot ps
+words_count : (slot : Slot) (ps : List Piece) (ws : List (List ℕ)) → are_words_of ps ws ≡ true → length (words_in_slots slot ps ws) ≡ slots_of slot ps
 words_count slot [] [] h = refl
 words_count slot [] (w ∷ ws) h = absurd cc
 words_count slot (p ∷ ps) [] h = absurd cc
 words_count slot (p ∷ ps) (w ∷ ws) h =
     place_taken (is_slot slot p) w (words_in_slots slot ps ws) (slots_of slot ps) (words_count slot ps ws (and_parts (is_word_of p w) (are_words_of ps ws) h).1)
+
+-- the words in the slots of the new objects
+pub new_count : (ps : List Piece) (ws : List (List ℕ)) → are_words_of ps ws ≡ true → length (new_words ps ws) ≡ slots_of slots.New ps
+new_count ps ws h = words_count slots.New ps ws h

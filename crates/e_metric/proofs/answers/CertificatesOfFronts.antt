@@ -27,7 +27,7 @@ use Rattle.e_clause.specs.declared.cert.Sums.{Sums}
 use Rattle.e_clause.specs.declared.cert.Sums.TheVariants.{One, Two}
 use Rattle.e_clause.specs.Assignment.{terms_of_lits, terms_of_wanted}
 use Rattle.e_clause.specs.System.{pos_row, top_row, least_row}
-use Rattle.e_clause.specs.Sum.{Place, is_step_term, fact_row, row_at, says_differ, unless_not, row_named, weighed_rows, is_limited_sum, refutes}
+use Rattle.e_clause.specs.Sum.{RowScope, is_step_term, fact_row, row_at, says_differ, unless_not, row_named, weighed_rows, is_limited_sum, refutes}
 use Rattle.e_clause.specs.MetricCertificate.{differing_row, above_row, below_row, both_refute, sums_refute}
 use Rattle.e_metric.specs.declared.kind_system.KindSystem.TheVariants.{Absurd}
 use Rattle.e_metric.specs.SolvedSystems.{IsKindSystem}
@@ -79,10 +79,10 @@ module _ (facts more : List Lit) (wanted : Option Lit) where
       by (Some l) e m = ap (λ (o : Option Lit). F (option_and_then row_of_lit o)) (front_at facts more k l e) ∙ m
 
   module _ (above below : Option Row) where
-    abbrev alone : Place
+    abbrev alone : RowScope
     alone = record { facts = facts; wanted = None; above = above; below = below }
 
-    abbrev beside_terms : Place
+    abbrev beside_terms : RowScope
     beside_terms = record { facts = facts ++ more; wanted = wanted; above = above; below = below }
 
     step_term : (t : Term) → is_step_term alone t ≡ true → is_step_term beside_terms t ≡ true
@@ -161,8 +161,8 @@ module _ (facts more : List Lit) (wanted : Option Lit) where
           → option_map_or (λ r. both_refute (facts ++ more) wanted r first second) (differing_row (facts ++ more) wanted differs) false ≡ true
       by None e k = absurd (true≢false (sym k))
       by (Some r) e k =
-          (let above_alone : Place = record { facts = facts; wanted = None; above = Some (above_row r); below = None } in
-          let below_alone : Place = record { facts = facts; wanted = None; above = None; below = Some (below_row r) } in
+          (let above_alone : RowScope = record { facts = facts; wanted = None; above = Some (above_row r); below = None } in
+          let below_alone : RowScope = record { facts = facts; wanted = None; above = None; below = Some (below_row r) } in
           ap (λ (o : Option Row). option_map_or (λ q. both_refute (facts ++ more) wanted q first second) o false) (same_differing differs r e)
           ∙ and_from (refutes (beside_terms (Some (above_row r)) None) first) (refutes (beside_terms None (Some (below_row r))) second)
           (sum_wider (Some (above_row r)) None first (and_left (refutes above_alone first) (refutes below_alone second) k))

@@ -23,7 +23,7 @@ use Rattle.e_literal.proofs.Booleans.{and_left, all_hold}
 use Rattle.e_clause.specs.declared.cert.RowName.{RowName}
 use Rattle.e_clause.specs.declared.cert.RowName.TheVariants.{Least}
 use Rattle.e_clause.specs.System.{least_row}
-use Rattle.e_clause.specs.Sum.{Place, is_step_term, row_named, weighed_rows, is_nonzero_bounded, is_limited_sum, refutes}
+use Rattle.e_clause.specs.Sum.{RowScope, is_step_term, row_named, weighed_rows, is_nonzero_bounded, is_limited_sum, refutes}
 use Rattle.e_simplex.specs.Answer.{each_weighed, MayTake, AreMultipliers, TakesMore, Refutes}
 use Rattle.e_metric.specs.inner.Certificate.{named_multipliers, leasts}
 use Rattle.e_metric.proofs.terms.FirstTerms.{Once, has_same}
@@ -62,17 +62,17 @@ abbrev pub least_rows : (Term → ℤ) → List Term → List Weighed
 least_rows left [] = []
 least_rows left (t ∷ ts) = cond (int_lt (left (canonical t)) (pos 0)) (one_least left t ∷ least_rows left ts) (least_rows left ts)
 
-abbrev pub AllStepTerms : Place → List Term → Type 0
+abbrev pub AllStepTerms : RowScope → List Term → Type 0
 AllStepTerms p [] = Unit {0}
 AllStepTerms p (t ∷ ts) = (is_step_term p t ≡ true) × AllStepTerms p ts
 
-named_one : (p : Place) (m : ℤ) (n : RowName) (xs : List (ℤ × RowName)) (r : Row) (ws : List Weighed) → row_named p n ≡ Some r → weighed_rows p xs ≡ Some ws
+named_one : (p : RowScope) (m : ℤ) (n : RowName) (xs : List (ℤ × RowName)) (r : Row) (ws : List Weighed) → row_named p n ≡ Some r → weighed_rows p xs ≡ Some ws
     → weighed_rows p ((m, n) ∷ xs) ≡ Some (record { multiplier = m; row = r } ∷ ws)
 named_one p m n xs r ws e h =
     ap (λ (o : Option Row). option_and_then (λ x. option_map (λ rs. record { multiplier = m; row = x } ∷ rs) (weighed_rows p xs)) o) e
     ∙ ap (λ (o : Option (List Weighed)). option_map (λ rs. record { multiplier = m; row = r } ∷ rs) o) h
 
-least_named : (p : Place) (left : Term → ℤ) (ts : List Term) → AllStepTerms p ts → weighed_rows p (leasts left ts) ≡ Some (least_rows left ts)
+least_named : (p : RowScope) (left : Term → ℤ) (ts : List Term) → AllStepTerms p ts → weighed_rows p (leasts left ts) ≡ Some (least_rows left ts)
 least_named p left [] h = refl
 least_named p left (t ∷ ts) h = by (int_lt (left (canonical t)) (pos 0)) (least_named p left ts h.1)
   where
@@ -171,12 +171,12 @@ kept_rows (r ∷ rs) (m ∷ ms) = cond (int_eq m (pos 0)) (kept_rows rs ms) (rec
 kept_rows _ _ = []
 
 -- where a multiplier is not 0 the name means the row
-abbrev pub NamedWhere : Place → List RowName → List Row → List ℤ → Type 0
+abbrev pub NamedWhere : RowScope → List RowName → List Row → List ℤ → Type 0
 NamedWhere p (n ∷ ns) (r ∷ rs) (m ∷ ms) = ((m ≢ pos 0) → row_named p n ≡ Some r) × NamedWhere p ns rs ms
 NamedWhere p [] [] [] = Unit {0}
 NamedWhere p _ _ _ = ⊥
 
-kept_named : (p : Place) (ns : List RowName) (rs : List Row) (ms : List ℤ) → NamedWhere p ns rs ms → weighed_rows p (named_multipliers ns ms) ≡ Some (kept_rows rs ms)
+kept_named : (p : RowScope) (ns : List RowName) (rs : List Row) (ms : List ℤ) → NamedWhere p ns rs ms → weighed_rows p (named_multipliers ns ms) ≡ Some (kept_rows rs ms)
 kept_named p [] [] [] h = refl
 kept_named p [] [] (m ∷ ms) h = absurd h
 kept_named p [] (r ∷ rs) ms h = absurd h
@@ -259,7 +259,7 @@ kept_good (n ∷ ns) (m ∷ ms) h = by (int_eq m (pos 0)) refl (kept_good ns ms 
 
 -- ---- both together
 
-weighed_append : (p : Place) (xs ys : List (ℤ × RowName)) (ws vs : List Weighed) → weighed_rows p xs ≡ Some ws → weighed_rows p ys ≡ Some vs → weighed_rows p (xs ++ ys) ≡ Some (ws ++ vs)
+weighed_append : (p : RowScope) (xs ys : List (ℤ × RowName)) (ws vs : List Weighed) → weighed_rows p xs ≡ Some ws → weighed_rows p ys ≡ Some vs → weighed_rows p (xs ++ ys) ≡ Some (ws ++ vs)
 weighed_append p [] ys ws vs h k = k ∙ ap (λ (us : List Weighed). Some (us ++ vs)) (let e : [] ≡ ws = cc in e)
 weighed_append p (x ∷ xs) ys ws vs h k = by (row_named p x.1) (weighed_rows p xs) refl refl h (λ us e. weighed_append p xs ys us vs e k)
   where
@@ -277,7 +277,7 @@ total_append [] vs u = omega (arith, sums)
 total_append (w ∷ ws) vs u = omega (arith, sums, total_append ws vs u)
 
 -- what a sum is made of: names for rows with multipliers that refute them, and the terms of the rows, each once
-pub record IsMade (p : Place) (names : List RowName) (rows : List Row) (ms : List ℤ) (left : Term → ℤ) (terms : List Term) : Type 0 where
+pub record IsMade (p : RowScope) (names : List RowName) (rows : List Row) (ms : List ℤ) (left : Term → ℤ) (terms : List Term) : Type 0 where
   pub refutes : Refutes rows ms
   pub named : NamedWhere p names rows ms
   pub as_many : length names ≡ length rows
@@ -287,7 +287,7 @@ pub record IsMade (p : Place) (names : List RowName) (rows : List Row) (ms : Lis
   pub steps : AllStepTerms p terms
   pub covers : (u : Term) → (is_normal u && has_term terms u) ≡ false → total (each_weighed rows ms) u ≡ pos 0
 
-pub sum_refutes : (p : Place) (names : List RowName) (rows : List Row) (ms : List ℤ) (left : Term → ℤ) (terms : List Term) → IsMade p names rows ms left terms → refutes p (named_multipliers names ms ++ leasts left terms) ≡ true
+pub sum_refutes : (p : RowScope) (names : List RowName) (rows : List Row) (ms : List ℤ) (left : Term → ℤ) (terms : List Term) → IsMade p names rows ms left terms → refutes p (named_multipliers names ms ++ leasts left terms) ≡ true
 sum_refutes p names rows ms left terms h =
     and_from (is_limited_sum (named_multipliers names ms ++ leasts left terms)) (option_map_or is_absurd (weighed_rows p (named_multipliers names ms ++ leasts left terms)) false) size
     (ap (λ (o : Option (List Weighed)). option_map_or is_absurd o false) (weighed_append p (named_multipliers names ms) (leasts left terms) (kept_rows rows ms) (least_rows left terms) (kept_named p names rows ms h.named) (least_named p left terms h.steps))

@@ -23,7 +23,7 @@ use Rattle.e_clause.specs.declared.cert.RowName.TheVariants.{Goal, Above, Below}
 use Rattle.e_clause.specs.declared.cert.Sums.TheVariants.{Two as TwoSums}
 use Rattle.e_clause.specs.System.{NamedRow, system}
 use Rattle.e_clause.specs.Assignment.{terms_of_lits, terms_of_wanted, terms_of_step}
-use Rattle.e_clause.specs.Sum.{Place, is_step_term, unless_not, says_differ, refutes}
+use Rattle.e_clause.specs.Sum.{RowScope, is_step_term, unless_not, says_differ, refutes}
 use Rattle.e_clause.specs.MetricCertificate.{differing_row, above_row, below_row, both_refute, sums_refute}
 use Rattle.e_clause.proofs.Named.{Each, IsNamed, system_named, HasNot, Misses, system_misses}
 use Rattle.e_clause.proofs.Solved.{terms_of_system, system_among, first_among}
@@ -177,7 +177,7 @@ unless r m h n = by r.sense refl h
     by More e k = ap (λ x. cond (says_differ x) None (Some r)) e
     by Not e k = absurd (n k)
 
-named_taken : (p : Place) (ns : List NamedRow) (ms : List ℤ) → Each (IsNamed p) ns → AreMultipliers (map row_of ns) ms → NamedWhere p (map name_of ns) (map row_of ns) ms
+named_taken : (p : RowScope) (ns : List NamedRow) (ms : List ℤ) → Each (IsNamed p) ns → AreMultipliers (map row_of ns) ms → NamedWhere p (map name_of ns) (map row_of ns) ms
 named_taken p [] [] h t = tt
 named_taken p [] (m ∷ ms) h t = absurd t
 named_taken p (n ∷ ns) [] h t = absurd t
@@ -205,7 +205,7 @@ each_at P [] k m h e = absurd e
 each_at P (n ∷ ns) zero m h e = subst P e h.0
 each_at P (n ∷ ns) (suc k) m h e = each_at P ns k m h.1 e
 
-named_above : (p : Place) (ns : List NamedRow) (ms : List ℤ) (k : ℕ) (q : NamedRow) → Each (IsNamed p) ns → RowAt ns k q → p.above ≡ Some (above_row q.row) → AreMultipliers (as_more (map row_of ns) k) ms
+named_above : (p : RowScope) (ns : List NamedRow) (ms : List ℤ) (k : ℕ) (q : NamedRow) → Each (IsNamed p) ns → RowAt ns k q → p.above ≡ Some (above_row q.row) → AreMultipliers (as_more (map row_of ns) k) ms
     → NamedWhere p (set (map name_of ns) k Above) (as_more (map row_of ns) k) ms
 named_above p [] ms k q h e a t = absurd e
 named_above p (n ∷ ns) [] zero q h e a t = absurd t
@@ -213,7 +213,7 @@ named_above p (n ∷ ns) [] (suc k) q h e a t = absurd t
 named_above p (n ∷ ns) (m ∷ ms) zero q h e a t = (λ z. a ∙ ap (λ (x : NamedRow). Some (above_row x.row)) (sym e), named_taken p ns ms h.1 t.1)
 named_above p (n ∷ ns) (m ∷ ms) (suc k) q h e a t = (λ z. h.0.by_name ∙ unless n.row m t.0 z, named_above p ns ms k q h.1 e a t.1)
 
-named_below : (p : Place) (ns : List NamedRow) (ms : List ℤ) (k : ℕ) (q : NamedRow) → Each (IsNamed p) ns → RowAt ns k q → p.below ≡ Some (below_row q.row) → AreMultipliers (as_less (map row_of ns) k) ms
+named_below : (p : RowScope) (ns : List NamedRow) (ms : List ℤ) (k : ℕ) (q : NamedRow) → Each (IsNamed p) ns → RowAt ns k q → p.below ≡ Some (below_row q.row) → AreMultipliers (as_less (map row_of ns) k) ms
     → NamedWhere p (set (map name_of ns) k Below) (as_less (map row_of ns) k) ms
 named_below p [] ms k q h e a t = absurd e
 named_below p (n ∷ ns) [] zero q h e a t = absurd t
@@ -273,11 +273,11 @@ module _ (which : Kind) (facts : List Lit) (wanted : Option Lit) where
       by true true e f = absurd (true≢false (sym (and_from (is_normal u) (has_term summed u) e
           (ap (λ ts. has_term ts u) summed_is ∙ first_has [] (written ++ Right ∷ []) u (has_right u f) refl)) ∙ h))
 
-  all_steps : (p : Place) (ts : List Term) → ((t : Term) → is_among ts t ≡ true → is_step_term p t ≡ true) → AllStepTerms p ts
+  all_steps : (p : RowScope) (ts : List Term) → ((t : Term) → is_among ts t ≡ true → is_step_term p t ≡ true) → AllStepTerms p ts
   all_steps p [] h = tt
   all_steps p (t ∷ ts) h = (h t (among_first t ts), all_steps p ts (λ u k. h u (among_rest t ts u k)))
 
-  steps : (p : Place) → p.facts ≡ facts → p.wanted ≡ wanted → AllStepTerms p summed
+  steps : (p : RowScope) → p.facts ≡ facts → p.wanted ≡ wanted → AllStepTerms p summed
   steps p e f = all_steps p summed (λ t k. by t (among_either written (Right ∷ []) t (first_among [] (written ++ Right ∷ []) t (ap (λ ts. is_among ts t) (sym summed_is) ∙ k))))
     where
       at_place : (t : Term) → is_among (terms_of_step facts wanted) t ≡ true → is_step_term p t ≡ true
@@ -296,7 +296,7 @@ module _ (which : Kind) (facts : List Lit) (wanted : Option Lit) where
     covered : (u : Term) → (is_normal u && has_term summed u) ≡ false → NoneHas u (map row_of ns)
     covered u h = none_rows u ns (each_reordered ns (system which facts wanted) order (HasNot u) (system_misses which facts wanted u (misses u h)))
 
-    all_named : (p : Place) → p.facts ≡ facts → p.wanted ≡ wanted → Each (IsNamed p) ns
+    all_named : (p : RowScope) → p.facts ≡ facts → p.wanted ≡ wanted → Each (IsNamed p) ns
     all_named p e f = each_reordered ns (system which facts wanted) order (IsNamed p) (subst (λ (x : List Lit × Option Lit). Each (IsNamed p) (system which x.0 x.1)) (ap₂ {A = List Lit} {B = Option Lit} (λ x y. (x, y)) e f) (system_named p which))
 
     abbrev rows : List Row
@@ -305,7 +305,7 @@ module _ (which : Kind) (facts : List Lit) (wanted : Option Lit) where
     alike : Alike (views_of_rows (rows_given pairs)) rows
     alike = rows_alike ns pairs are
 
-    abbrev place : Option Row → Option Row → Place
+    abbrev place : Option Row → Option Row → RowScope
     place above below = record { facts = facts; wanted = wanted; above = above; below = below }
 
     length_names : length (map name_of ns) ≡ length rows

@@ -26,7 +26,6 @@ use Rattle.e_line.specs.declared.raw_line.RawLine.TheVariants as rawlines
 use Rattle.e_line.specs.Reading.{◌>>=◌, or_malformed, first_title, cut_at, names_of, not_empty, some_names, names_after}
 use Rattle.e_line.specs.Literals.{lit_of, is_diagram_raw, is_semicolon, lits_of}
 use Rattle.e_line.specs.Superposes.{superpose_pieces, raw_superpose_of, superpose_of}
-use Rattle.e_line.specs.declared.lets.Slot.TheVariants as slots
 use Rattle.e_line.specs.Lets.{are_words_of, new_words, argument_words, shapes_of, let_named, let_of}
 use Rattle.e_line.specs.declared.applies.RawApply.{RawApply}
 use Rattle.e_line.specs.Applies.{arguments_of, apply_of}
@@ -38,7 +37,7 @@ use Rattle.e_line.proofs.base.Bound.{bind_ok, ok_is, read_ok, each_length}
 use Rattle.e_line.proofs.base.Choices.{passed}
 use Rattle.e_line.proofs.read_lines.RawLinesByWord.{OfEachForm, form_by_word}
 use Rattle.e_line.proofs.read_lines.SumsOfLiterals.{AtomSaid, LitsSaid, lit_said, lits_said, diagram_said}
-use Rattle.e_line.proofs.read_lines.TitlesOfWords.{words_count, names_said, title_said}
+use Rattle.e_line.proofs.read_lines.TitlesOfWords.{new_count, names_said, title_said}
 
 -- ---- forms
 
@@ -116,7 +115,7 @@ head_said head rest s e =
     let n = bind_ok (names_of news) (λ new. names_of arguments >>= λ args. lits_of rest >>= λ ls. read_ok (made new args ls)) s b.1 in
     let a = bind_ok (names_of arguments) (λ args. lits_of rest >>= λ ls. read_ok (made n.0 args ls)) s n.2 in
     let l = bind_ok (lits_of rest) (λ ls. read_ok (made n.0 a.0 ls)) s a.2 in
-    let count : length n.0 ≡ 2 = each_length (λ w. or_malformed (name_of w)) news n.0 n.1 ∙ words_count slots.New superpose_pieces head b.0 in
+    let count : length n.0 ≡ 2 = each_length (λ w. or_malformed (name_of w)) news n.0 n.1 ∙ new_count superpose_pieces head b.0 in
     let shown = some_lits_said rest l.0 l.1 in
     subst (λ (x : RawSuperpose). Said (rawlines.Superpose x)) (ok_is (made n.0 a.0 l.0) s l.2) (names_said news n.0 n.1, count, shown.0, shown.1)
 

@@ -19,7 +19,7 @@ use Rattle.e_clause.specs.declared.cert.RowName.{RowName}
 use Rattle.e_clause.specs.declared.cert.RowName.TheVariants.{Fact, Goal, Pos, Top, Right as RightRow, Least, Above, Below, FactAt}
 use Rattle.e_clause.specs.declared.cert.Sums.{Sums}
 use Rattle.e_clause.specs.declared.cert.Sums.TheVariants.{One, Two}
-use Rattle.e_clause.specs.Sum.{Place, fact_row, row_at, says_differ, unless_not, pos_of, top_of, row_named, weighed_rows, is_nonzero_bounded, is_limited_sum, refutes}
+use Rattle.e_clause.specs.Sum.{RowScope, fact_row, row_at, says_differ, unless_not, pos_of, top_of, row_named, weighed_rows, is_nonzero_bounded, is_limited_sum, refutes}
 use Rattle.e_clause.specs.MetricCertificate.{differing_of, differing_row, above_row, below_row, both_refute, sums_refute}
 use Rattle.e_clause.proofs.Refuted.{option_split, found}
 use Rattle.e_places.specs.Numbered.{place_of_same, have_opposite_rows, has_opposite_row, name_with_place, turns, sum_with_places, opposite_side, sides_swapped, two_placed, sums_with_places}
@@ -110,10 +110,10 @@ module _ (facts : List Lit) (swap : Bool) where
   same_size xs = ap₂ {A = ℕ} {B = Bool} (λ n b. nat_le 1 n && (nat_le n 4096 && b)) (same_length xs) (all_good xs)
 
   module _ (wanted : Option Lit) (above below above' below' : Option Row) where
-    abbrev old : Place
+    abbrev old : RowScope
     old = record { facts = facts; wanted = wanted; above = above; below = below }
 
-    abbrev new : Place
+    abbrev new : RowScope
     new = record { facts = facts; wanted = wanted; above = above'; below = below' }
 
     -- the name has a row alike
@@ -249,8 +249,8 @@ placed_refute facts wanted (Two differs first second) h =
     by : (b : Bool) (r s : Row) → differing_row facts wanted (name_with_place facts differs) ≡ Some s → AreAlike b r s → both_refute facts wanted r first second ≡ true
         → sums_refute facts wanted (two_placed b (name_with_place facts differs) (sum_with_places facts first) (sum_with_places facts second)) ≡ true
     by false r s e h both =
-        let high : Place = record { facts = facts; wanted = wanted; above = Some (above_row r); below = None } in
-        let low : Place = record { facts = facts; wanted = wanted; above = None; below = Some (below_row r) } in
+        let high : RowScope = record { facts = facts; wanted = wanted; above = Some (above_row r); below = None } in
+        let low : RowScope = record { facts = facts; wanted = wanted; above = None; below = Some (below_row r) } in
         let one = refutes_on facts false wanted (Some (above_row r)) None (Some (above_row s)) None
         (λ x k. (above_row s, refl, subst (λ y. AreAlike false y (above_row s)) (same_Some (above_row r) x k) (above_alike r s h))) (λ x k. absurd (none-some x k))
         first (and_left (refutes high first) (refutes low second) both) in
@@ -262,8 +262,8 @@ placed_refute facts wanted (Two differs first second) h =
         (subst (λ xs. refutes (record { facts = facts; wanted = wanted; above = Some (above_row s); below = None }) xs ≡ true) (not_sided (sum_with_places facts first)) one)
         (subst (λ xs. refutes (record { facts = facts; wanted = wanted; above = None; below = Some (below_row s) }) xs ≡ true) (not_sided (sum_with_places facts second)) two)
     by true r s e h both =
-        let high : Place = record { facts = facts; wanted = wanted; above = Some (above_row r); below = None } in
-        let low : Place = record { facts = facts; wanted = wanted; above = None; below = Some (below_row r) } in
+        let high : RowScope = record { facts = facts; wanted = wanted; above = Some (above_row r); below = None } in
+        let low : RowScope = record { facts = facts; wanted = wanted; above = None; below = Some (below_row r) } in
         let one = refutes_on facts true wanted None (Some (below_row r)) (Some (above_row s)) None
         (λ x k. absurd (none-some x k)) (λ x k. (above_row s, refl, subst (λ y. AreAlike false y (above_row s)) (same_Some (below_row r) x k) (turned_below r s h)))
         second (and_right (refutes high first) (refutes low second) both) in

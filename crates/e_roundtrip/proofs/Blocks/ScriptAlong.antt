@@ -29,7 +29,7 @@ use Rattle.e_deriv.specs.Steps.{is_citation}
 use Rattle.e_book.specs.declared.blocks.BlockKind.TheVariants as kind
 use Rattle.e_book.specs.declared.steps.CloseLine.TheVariants as closes
 use Rattle.e_book.specs.declared.parser.TheoremParser.{TheoremParser}
-use Rattle.e_line.specs.Limits.{most_facts, most_terms, monomials}
+use Rattle.e_line.specs.Limits.{most_facts, most_monomials_of_facts, monomials}
 use Rattle.e_book.specs.Blocks.{made_in}
 use Rattle.e_names.specs.TitledStatements.{TitledStatement, stated_by, theorem_of}
 use Rattle.e_names.specs.Scope.{scope_of_names}
@@ -126,7 +126,7 @@ hence_along known d i l c rest given goal s t =
     let good = (and_parts (is_well_formed l) (has_well_formed_literals (bare_script rest)) r.good).0 in
     let plain : PlainLit i.in_scope l = record { within = one.fitting; good = good } in
     let most = leb-true _ _ (and_parts (leb (i.facts + 1) most_facts) (few_facts before (i.facts + 1) sc (bare_script rest)) r.facts).0 in
-    let short = leb-true _ _ (and_parts (leb n most_terms) (few_terms before n sc (bare_script rest)) r.terms).0 in
+    let short = leb-true _ _ (and_parts (leb n most_monomials_of_facts) (few_terms before n sc (bare_script rest)) r.terms).0 in
     record {
       last = t.last;
       lines = omega (arith, t.lines);

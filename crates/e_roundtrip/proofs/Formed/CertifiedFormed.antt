@@ -23,7 +23,7 @@ use Rattle.e_clause.specs.declared.cert.Against.{Against}
 use Rattle.e_clause.specs.declared.cert.Against.TheVariants as against
 use Rattle.e_clause.specs.Instance.{Inst}
 use Rattle.e_clause.specs.RuleKinds.{is_transfer}
-use Rattle.e_clause.specs.Sum.{Place, is_limited_sum, refutes}
+use Rattle.e_clause.specs.Sum.{RowScope, is_limited_sum, refutes}
 use Rattle.e_clause.specs.MetricCertificate.{differing_row, both_refute, above_row, below_row, sums_refute, row_name_in, sum_in, are_sums_in}
 use Rattle.e_clause.specs.PartCertificate.{part_certifies, part_in}
 use Rattle.e_clause.specs.TransferCertificate.{parts_certify, instance_certifies, transfer_certifies, are_args_in, transfer_in}
@@ -45,7 +45,7 @@ use Rattle.e_roundtrip.proofs.Formed.PlacedScripts.{OneCertified, first_of, both
 
 -- ---- sums
 
-sized : (p : Place) (xs : List (ℤ × RowName)) → refutes p xs ≡ true → is_limited_sum xs ≡ true
+sized : (p : RowScope) (xs : List (ℤ × RowName)) → refutes p xs ≡ true → is_limited_sum xs ≡ true
 sized p xs h = (and_parts (is_limited_sum xs) _ h).0
 
 sum_is : (s : Scope) (xs : List (ℤ × RowName)) → sum_in s xs ≡ true → is_writable_sum xs ≡ true → is_limited_sum xs ≡ true → sum_formed s xs ≡ true
@@ -71,8 +71,8 @@ sums_are s facts wanted (Two differs above below) w g h =
     let b = and_parts (is_writable_name differs) (is_writable_sum above && is_writable_sum below) g in
     let bb = and_parts (is_writable_sum above) (is_writable_sum below) b.1 in
     let r = found (λ (r : Row). both_refute facts wanted r above below) (differing_row facts wanted differs) h in
-    let p : Place = record { facts = facts; wanted = wanted; above = Some (above_row r.0); below = None } in
-    let q : Place = record { facts = facts; wanted = wanted; above = None; below = Some (below_row r.0) } in
+    let p : RowScope = record { facts = facts; wanted = wanted; above = Some (above_row r.0); below = None } in
+    let q : RowScope = record { facts = facts; wanted = wanted; above = None; below = Some (below_row r.0) } in
     let c = and_parts (refutes p above) (refutes q below) r.2 in
     and_from (difference_formed s differs) (sum_formed s above && sum_formed s below)
     (and_from (names_difference differs) (row_name_in s differs && is_writable_name differs) (difference facts wanted differs r.0 r.1) (and_from (row_name_in s differs) (is_writable_name differs) a.0 b.0))

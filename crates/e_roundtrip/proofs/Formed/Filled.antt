@@ -14,7 +14,7 @@ use Rattle.e_deriv.specs.Naming.{with_new_names}
 use Rattle.e_deriv.specs.Script.{Script, Cite, Hence, Make, Apply, Claim, Superposed, Qed, Contradiction, Cases, size, depth}
 use Rattle.e_deriv.specs.PlacedSteps.{theorem_at}
 use Rattle.e_deriv.specs.Parts.{rest_of, inner_of, args_of, filled_in, filled_by}
-use Rattle.e_line.specs.Limits.{most_facts, most_terms, most_blanks, monomials, count_monomials}
+use Rattle.e_line.specs.Limits.{most_facts, most_monomials_of_facts, most_blanks, monomials, count_monomials}
 use Rattle.e_names.specs.Applies.{count_blanks}
 use Rattle.e_names.specs.TitledStatements.{TitledStatement}
 use Rattle.e_book.specs.Fits.{NewNamesFit, few_facts, few_terms, few_blanks}
@@ -85,24 +85,24 @@ unfolding few_terms filled_by
 filled_terms before n sc (Cite by rest) f = filled_terms before n sc rest (rest_of f)
 filled_terms before n sc (Hence lit cert rest) f =
     let more = n + monomials lit.atom in
-    then_same (leb more most_terms) _ _ (filled_terms before more sc rest (rest_of f))
+    then_same (leb more most_monomials_of_facts) _ _ (filled_terms before more sc rest (rest_of f))
 filled_terms before n sc (Make construction names certs rest) f = filled_terms before n (with_sorts sc (sorts_made construction)) rest (rest_of f)
 filled_terms before n sc (Apply theorem args names certs rest) f =
     let more = n + count_monomials (theorem_at before theorem).shown in
-    then_same (leb more most_terms) _ _ (filled_terms before more (with_sorts sc (theorem_at before theorem).made) rest (rest_of f))
+    then_same (leb more most_monomials_of_facts) _ _ (filled_terms before more (with_sorts sc (theorem_at before theorem).made) rest (rest_of f))
 filled_terms before n sc (Claim shown inner rest) f =
     let more = n + count_monomials shown in
-    both_same _ _ _ _ (filled_terms before n sc inner (inner_of f)) (then_same (leb more most_terms) _ _ (filled_terms before more sc rest (rest_of f)))
+    both_same _ _ _ _ (filled_terms before n sc inner (inner_of f)) (then_same (leb more most_monomials_of_facts) _ _ (filled_terms before more sc rest (rest_of f)))
 filled_terms before n sc (Superposed superposition names shown certs inner rest) f =
     let given = n + count_monomials (superposing.gives_of_superposition superposition sc) in
     let more = n + count_monomials shown in
-    then_same (leb given most_terms) _ _
-    (both_same _ _ _ _ (filled_terms before given (with_sorts sc superposing.sorts_copied) inner (inner_of f)) (then_same (leb more most_terms) _ _ (filled_terms before more sc rest (rest_of f))))
+    then_same (leb given most_monomials_of_facts) _ _
+    (both_same _ _ _ _ (filled_terms before given (with_sorts sc superposing.sorts_copied) inner (inner_of f)) (then_same (leb more most_monomials_of_facts) _ _ (filled_terms before more sc rest (rest_of f))))
 filled_terms before n sc (Qed objects certs) f = refl
 filled_terms before n sc (Contradiction against) f = refl
 filled_terms before n sc (Cases lit first second) f =
     let more = n + monomials lit.atom in
-    then_same (leb more most_terms) _ _ (both_same _ _ _ _ (filled_terms before more sc first (inner_of f)) (filled_terms before more sc second (rest_of f)))
+    then_same (leb more most_monomials_of_facts) _ _ (both_same _ _ _ _ (filled_terms before more sc first (inner_of f)) (filled_terms before more sc second (rest_of f)))
 
 -- ---- names
 

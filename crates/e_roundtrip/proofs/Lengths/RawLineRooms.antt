@@ -21,7 +21,7 @@ use Rattle.e_construct.specs.Shapes.{shape_row}
 use Rattle.e_construct.specs.Construct.{row_of_construction, sorts_of, made_by_row, gives_of_avoided, gives_of_construction}
 use Rattle.e_construct.specs.Lines.{Piece, New, Argument, Word, pieces}
 use Rattle.e_deriv.specs.declared.names.Names.{Names}
-use Rattle.e_line.specs.Limits.{most_facts, most_terms, count_monomials}
+use Rattle.e_line.specs.Limits.{most_facts, most_monomials_of_facts, count_monomials}
 use Rattle.e_line.specs.Superposes.{superpose_pieces}
 use Rattle.e_names.specs.TitledStatements.{TitledStatement, title_at}
 use Rattle.e_line.specs.Canonical.{filled_pieces, avoid_words, argument_word, made_words, lit_words, lits_words, line_of}
@@ -214,7 +214,7 @@ short_apply known ns theorem args names o t h few less =
 -- ---- lists of literals
 
 -- a claim
-pub short_claim : (ns : Names) (ls : List Lit) → InOrder ns → list_all is_well_formed ls ≡ true → length ls ≤ most_facts → count_monomials ls ≤ most_terms → IsShortLine (line_of (claim_raw_line ns ls))
+pub short_claim : (ns : Names) (ls : List Lit) → InOrder ns → list_all is_well_formed ls ≡ true → length ls ≤ most_facts → count_monomials ls ≤ most_monomials_of_facts → IsShortLine (line_of (claim_raw_line ns ls))
 short_claim ns ls o g few less =
     let n = 67 * length ls + 66 * count_monomials ls in
     room_line (5 + 1 + n) _ (omega (arith, few, less)) (room_word 5 n (codes "claim") (lits_words (map (raw_of ns) ls)) refl (room_lits ns ls o g))
@@ -230,7 +230,7 @@ words_of_placed ns superposition o = (point _, (point _, (point _, (line _, (poi
     line i = short_at ns.lines i o.line_names
 
 -- a superposition
-pub short_superpose : (ns : Names) (superposition : Superpose) (names : List (List ℕ)) (ls : List Lit) → InOrder ns → AreNames names → list_all is_well_formed ls ≡ true → length ls ≤ most_facts → count_monomials ls ≤ most_terms
+pub short_superpose : (ns : Names) (superposition : Superpose) (names : List (List ℕ)) (ls : List Lit) → InOrder ns → AreNames names → list_all is_well_formed ls ≡ true → length ls ≤ most_facts → count_monomials ls ≤ most_monomials_of_facts
     → IsShortLine (line_of (superpose_raw_line ns superposition names ls))
 short_superpose ns superposition names ls o h g few less =
     let n = 67 * length ls + 66 * count_monomials ls in

@@ -23,7 +23,7 @@ use Rattle.e_construct.specs.Superposing as superposing
 use Rattle.e_deriv.specs.Script.{Script, Cite, Hence, Make, Apply, Claim, Superposed, Qed, Contradiction, Cases, bare_script, depth}
 use Rattle.e_deriv.specs.Goal.{Goal, goal_of}
 use Rattle.e_deriv.specs.PlacedSteps.{theorem_at}
-use Rattle.e_line.specs.Limits.{most_facts, most_terms, most_blanks, monomials, count_monomials}
+use Rattle.e_line.specs.Limits.{most_facts, most_monomials_of_facts, most_blanks, monomials, count_monomials}
 use Rattle.e_names.specs.Applies.{count_blanks}
 use Rattle.e_names.specs.Fits.{is_diagram_atom, is_diagram_lit}
 use Rattle.e_book.specs.Fits.{has_well_formed_literals, few_facts, few_terms, few_blanks}
@@ -209,9 +209,9 @@ terms_left before (Hence lit cert rest) kept s facts goal m n y z le h =
     let many = n + monomials lit.atom in
     let few = m + monomials (lit_among_kept kept lit).atom in
     let e = lit_monos kept lit in
-    let p = and_parts (leb many most_terms) (few_terms before many z (bare_script rest)) h in
+    let p = and_parts (leb many most_monomials_of_facts) (few_terms before many z (bare_script rest)) h in
     either (λ x. few_terms before m y (bare_script x)) (is_kept before (Hence lit cert rest) s facts (wants before rest s (with_fact facts lit) goal)) _ _
-    (and_from _ _ (still_few few many most_terms (omega (arith, le, e)) p.0) (terms_left before rest kept s (with_fact facts lit) goal few many y z (omega (arith, le, e)) p.1))
+    (and_from _ _ (still_few few many most_monomials_of_facts (omega (arith, le, e)) p.0) (terms_left before rest kept s (with_fact facts lit) goal few many y z (omega (arith, le, e)) p.1))
     (terms_left before rest kept s (with_fact facts lit) goal m many y z (omega (arith, le)) p.1)
 terms_left before (Make construction names certs rest) kept s facts goal m n y z le h =
     let after = with_facts facts (gives_of_construction construction s) in
@@ -226,19 +226,19 @@ terms_left before (Apply theorem args names certs rest) kept s facts goal m n y 
     let wide = with_sorts s t.made in
     let many = n + count_monomials t.shown in
     let few = m + count_monomials t.shown in
-    let p = and_parts (leb many most_terms) (few_terms before many (with_sorts z t.made) (bare_script rest)) h in
+    let p = and_parts (leb many most_monomials_of_facts) (few_terms before many (with_sorts z t.made) (bare_script rest)) h in
     either (λ x. few_terms before m y (bare_script x)) (is_kept before here s facts (wants before rest wide after goal)) _ _
-    (and_from _ _ (still_few few many most_terms (omega (arith, le)) p.0) (terms_left before rest (kept ++ next_objects s t.made) wide after goal few many (with_sorts y t.made) (with_sorts z t.made) (omega (arith, le)) p.1))
+    (and_from _ _ (still_few few many most_monomials_of_facts (omega (arith, le)) p.0) (terms_left before rest (kept ++ next_objects s t.made) wide after goal few many (with_sorts y t.made) (with_sorts z t.made) (omega (arith, le)) p.1))
     (terms_left before rest kept wide after goal m many y (with_sorts z t.made) (omega (arith, le)) p.1)
 terms_left before (Claim shown inner rest) kept s facts goal m n y z le h =
     let many = n + count_monomials shown in
     let few = m + count_monomials (map (lit_among_kept kept) shown) in
     let e = lits_monos kept shown in
-    let p = and_parts (few_terms before n z (bare_script inner)) (leb many most_terms && few_terms before many z (bare_script rest)) h in
-    let q = and_parts (leb many most_terms) (few_terms before many z (bare_script rest)) p.1 in
+    let p = and_parts (few_terms before n z (bare_script inner)) (leb many most_monomials_of_facts && few_terms before many z (bare_script rest)) h in
+    let q = and_parts (leb many most_monomials_of_facts) (few_terms before many z (bare_script rest)) p.1 in
     either (λ x. few_terms before m y (bare_script x)) (is_kept before (Claim shown inner rest) s facts (wants before rest s (with_facts facts shown) goal)) _ _
     (and_from _ _ (terms_left before inner kept s facts (goal_of shown) m n y z le p.0)
-    (and_from _ _ (still_few few many most_terms (omega (arith, le, e)) q.0) (terms_left before rest kept s (with_facts facts shown) goal few many y z (omega (arith, le, e)) q.1)))
+    (and_from _ _ (still_few few many most_monomials_of_facts (omega (arith, le, e)) q.0) (terms_left before rest kept s (with_facts facts shown) goal few many y z (omega (arith, le, e)) q.1)))
     (terms_left before rest kept s (with_facts facts shown) goal m many y z (omega (arith, le)) q.1)
 terms_left before (Superposed superposition names shown certs inner rest) kept s facts goal m n y z le h =
     let kind = with_facts facts (superposing.gives_of_superposition superposition s) in
@@ -248,14 +248,14 @@ terms_left before (Superposed superposition names shown certs inner rest) kept s
     let many = n + count_monomials shown in
     let few = m + count_monomials (map (lit_among_kept kept) shown) in
     let e = lits_monos kept shown in
-    let o = and_parts (leb given most_terms) (few_terms before given (with_sorts z superposing.sorts_copied) (bare_script inner) && (leb many most_terms && few_terms before many z (bare_script rest))) h in
-    let p = and_parts (few_terms before given (with_sorts z superposing.sorts_copied) (bare_script inner)) (leb many most_terms && few_terms before many z (bare_script rest)) o.1 in
-    let q = and_parts (leb many most_terms) (few_terms before many z (bare_script rest)) p.1 in
+    let o = and_parts (leb given most_monomials_of_facts) (few_terms before given (with_sorts z superposing.sorts_copied) (bare_script inner) && (leb many most_monomials_of_facts && few_terms before many z (bare_script rest))) h in
+    let p = and_parts (few_terms before given (with_sorts z superposing.sorts_copied) (bare_script inner)) (leb many most_monomials_of_facts && few_terms before many z (bare_script rest)) o.1 in
+    let q = and_parts (leb many most_monomials_of_facts) (few_terms before many z (bare_script rest)) p.1 in
     either (λ x. few_terms before m y (bare_script x)) (is_kept before (Superposed superposition names shown certs inner rest) s facts (wants before rest s (with_facts facts shown) goal)) _ _
-    (and_from _ _ (still_few less given most_terms (omega (arith, le, same)) o.0)
+    (and_from _ _ (still_few less given most_monomials_of_facts (omega (arith, le, same)) o.0)
     (and_from _ _
     (terms_left before inner (kept ++ next_objects s superposing.sorts_copied) (with_sorts s superposing.sorts_copied) kind (goal_of shown) less given (with_sorts y superposing.sorts_copied) (with_sorts z superposing.sorts_copied) (omega (arith, le, same)) p.0)
-    (and_from _ _ (still_few few many most_terms (omega (arith, le, e)) q.0) (terms_left before rest kept s (with_facts facts shown) goal few many y z (omega (arith, le, e)) q.1))))
+    (and_from _ _ (still_few few many most_monomials_of_facts (omega (arith, le, e)) q.0) (terms_left before rest kept s (with_facts facts shown) goal few many y z (omega (arith, le, e)) q.1))))
     (terms_left before rest kept s (with_facts facts shown) goal m many y z (omega (arith, le)) q.1)
 terms_left before (Qed objects certs) kept s facts goal m n y z le h = refl
 terms_left before (Contradiction against) kept s facts goal m n y z le h = refl
@@ -263,9 +263,9 @@ terms_left before (Cases lit first second) kept s facts goal m n y z le h =
     let many = n + monomials lit.atom in
     let few = m + monomials (lit_among_kept kept lit).atom in
     let e = lit_monos kept lit in
-    let p = and_parts (leb many most_terms) (few_terms before many z (bare_script first) && few_terms before many z (bare_script second)) h in
+    let p = and_parts (leb many most_monomials_of_facts) (few_terms before many z (bare_script first) && few_terms before many z (bare_script second)) h in
     let q = and_parts (few_terms before many z (bare_script first)) (few_terms before many z (bare_script second)) p.1 in
-    and_from _ _ (still_few few many most_terms (omega (arith, le, e)) p.0)
+    and_from _ _ (still_few few many most_monomials_of_facts (omega (arith, le, e)) p.0)
     (and_from _ _ (terms_left before first kept s (with_fact facts lit) goal few many y z (omega (arith, le, e)) q.0)
     (terms_left before second kept s (with_fact facts (negation lit)) goal few many y z (omega (arith, le, e)) q.1))
 

@@ -22,7 +22,7 @@ use Rattle.e_clause.specs.declared.cert.Sums.TheVariants.{One, Two}
 use Rattle.e_clause.specs.declared.cert.Version.TheVariants as version
 use Rattle.e_clause.specs.Versions.{is_name_of, is_sum_of, are_sums_of}
 use Rattle.e_clause.specs.System.{pos_row, top_row, right_row, least_row}
-use Rattle.e_clause.specs.Sum.{Place, is_step_term, fact_row, goal_row, says_differ, unless_not, row_named, weighed_rows, is_nonzero_bounded, is_limited_sum, refutes}
+use Rattle.e_clause.specs.Sum.{RowScope, is_step_term, fact_row, goal_row, says_differ, unless_not, row_named, weighed_rows, is_nonzero_bounded, is_limited_sum, refutes}
 use Rattle.e_clause.specs.MetricCertificate.{differing_of, differing_row, above_row, below_row, both_refute, sums_refute}
 use Rattle.e_trim.specs.Looked.{Wants, both, wanted_lits, first_that, parts_ends, of_term, of_row, of_sum, of_sums}
 use Rattle.e_trim.specs.Trimmed as trimmed
@@ -52,7 +52,7 @@ cover_right kept looked v w c = record { lits = λ l i. c.lits l (in_right l v.l
 -- ---- one row
 
 -- what the names of rows are read at, before and now
-pub record Placed (kept : List Obj) (looked : List Lit) (p now : Place) : Type 0 where
+pub record Placed (kept : List Obj) (looked : List Lit) (p now : RowScope) : Type 0 where
   pub stays : Stays kept p.facts now.facts looked
   pub wanted : now.wanted ≡ wanted_at kept p.wanted
   pub goal : (l : Lit) → p.wanted ≡ Some l → OverLit kept l
@@ -94,7 +94,7 @@ term_row kept sense t n o = row_moves kept sense (times n t ∷ []) (over_term k
 over_term_row : (kept : List Obj) (t : Term) (n : ℤ) → AllKept kept (objects_of_term t) → OverForm (OfSort kept Point) (Rattle.e_literal.specs.Rows.normal_summands (times n t ∷ []))
 over_term_row kept t n o = over_normal (OfSort kept Point) (times n t ∷ []) (over_term kept t o, tt)
 
-least_moves : (kept : List Obj) (looked : List Lit) (p now : Place) (t : Term) → Placed kept looked p now → Covered kept looked (of_term p.facts p.wanted t) → Moves kept (row_named p (Least t)) (row_named now (Least (term_at (kept_before kept Point) t)))
+least_moves : (kept : List Obj) (looked : List Lit) (p now : RowScope) (t : Term) → Placed kept looked p now → Covered kept looked (of_term p.facts p.wanted t) → Moves kept (row_named p (Least t)) (row_named now (Least (term_at (kept_before kept Point) t)))
 least_moves kept looked p now t pl c x e =
     let s = if_some (is_step_term p t) (Some (least_row t)) x e in
     let here = subst (λ w. stands now.facts w (term_at (kept_before kept Point) t) ≡ true) (sym pl.wanted) (term_stays kept p.facts now.facts looked p.wanted t pl.stays c s.0) in
@@ -110,7 +110,7 @@ top_row_moves kept t o = row_moves kept AtLeast (times (pos 2) Right ∷ times (
 over_top_row : (kept : List Obj) (t : Term) → AllKept kept (objects_of_term t) → OverRow kept (top_row t)
 over_top_row kept t o = over_normal (OfSort kept Point) (times (pos 2) Right ∷ times (negsuc 0) t ∷ []) (tt, (over_term kept t o, tt))
 
-top_moves : (kept : List Obj) (looked : List Lit) (p now : Place) (t : Term) → Placed kept looked p now → Covered kept looked (of_term p.facts p.wanted t) → Moves kept (row_named p (Top t)) (row_named now (Top (term_at (kept_before kept Point) t)))
+top_moves : (kept : List Obj) (looked : List Lit) (p now : RowScope) (t : Term) → Placed kept looked p now → Covered kept looked (of_term p.facts p.wanted t) → Moves kept (row_named p (Top t)) (row_named now (Top (term_at (kept_before kept Point) t)))
 top_moves kept looked p now (Ang a b d) pl c x e =
     let t = Ang a b d in
     let s = if_some (is_step_term p t) (Some (top_row t)) x e in
@@ -121,7 +121,7 @@ top_moves kept looked p now (Ang a b d) pl c x e =
     )
 top_moves kept looked p now t pl c x e = none_some x e
 
-pos_moves : (kept : List Obj) (looked : List Lit) (p now : Place) (t : Term) → Placed kept looked p now → Covered kept looked (both (wanted_lits (first_that (parts_ends t) p.facts)) (of_term p.facts p.wanted t))
+pos_moves : (kept : List Obj) (looked : List Lit) (p now : RowScope) (t : Term) → Placed kept looked p now → Covered kept looked (both (wanted_lits (first_that (parts_ends t) p.facts)) (of_term p.facts p.wanted t))
     → Moves kept (row_named p (Pos t)) (row_named now (Pos (term_at (kept_before kept Point) t)))
 pos_moves kept looked p now (Seg a b) pl c x e =
     let t = Seg a b in
@@ -139,7 +139,7 @@ pos_moves kept looked p now (Seg a b) pl c x e =
 pos_moves kept looked p now t pl c x e = none_some x e
 
 -- a row that may be used may be used still
-pub name_moves : (kept : List Obj) (looked : List Lit) (p now : Place) (name : RowName) → is_name_of version.One name ≡ true → Placed kept looked p now → Covered kept looked (of_row p.facts p.wanted name) → Moves kept (row_named p name) (row_named now (trimmed.row_name_among_kept kept name))
+pub name_moves : (kept : List Obj) (looked : List Lit) (p now : RowScope) (name : RowName) → is_name_of version.One name ≡ true → Placed kept looked p now → Covered kept looked (of_row p.facts p.wanted name) → Moves kept (row_named p name) (row_named now (trimmed.row_name_among_kept kept name))
 name_moves kept looked p now (Fact l) v pl c = unless_moves kept (fact_row p.facts l) (fact_row now.facts (lit_among_kept kept l)) (fact_moves kept p.facts now.facts looked l pl.stays (c.lits l (inl refl)) c.objects)
 name_moves kept looked p now Goal v pl c =
     unless_moves kept (goal_row p.wanted) (goal_row now.wanted) (subst (λ w. Moves kept (goal_row p.wanted) (goal_row w)) (sym pl.wanted) (goal_moves kept p.wanted pl.goal))
@@ -167,7 +167,7 @@ map_is : {X Y : Type 0} (f : X → Y) (o : Option X) (y : Y) → option_map f o 
 map_is f None y e = none_some y e
 map_is f (Some x) y e = (x, refl, some_is (f x) y e)
 
-rows_move : (kept : List Obj) (looked : List Lit) (p now : Place) (xs : List (ℤ × RowName)) → is_sum_of version.One xs ≡ true → Placed kept looked p now → Covered kept looked (of_sum p.facts p.wanted xs)
+rows_move : (kept : List Obj) (looked : List Lit) (p now : RowScope) (xs : List (ℤ × RowName)) → is_sum_of version.One xs ≡ true → Placed kept looked p now → Covered kept looked (of_sum p.facts p.wanted xs)
     → (ws : List Weighed) → weighed_rows p xs ≡ Some ws → (weighed_rows now (sum_at kept xs) ≡ Some (weigh kept ws)) × OverAll kept ws
 rows_move kept looked p now [] v pl c ws e = let is = some_is [] ws e in (ap (λ v. Some (weigh kept v)) is, subst (OverAll kept) is tt)
 rows_move kept looked p now (x ∷ xs) v pl c ws e =
@@ -200,7 +200,7 @@ map_or_is : {X : Type 0} (f : X → Bool) (o : Option X) → option_map_or f o f
 map_or_is f None e = absurd (true≢false (sym e))
 map_or_is f (Some x) e = (x, refl, e)
 
-pub refutes_still : (kept : List Obj) (looked : List Lit) (p now : Place) (xs : List (ℤ × RowName)) → is_sum_of version.One xs ≡ true → Placed kept looked p now → Covered kept looked (of_sum p.facts p.wanted xs)
+pub refutes_still : (kept : List Obj) (looked : List Lit) (p now : RowScope) (xs : List (ℤ × RowName)) → is_sum_of version.One xs ≡ true → Placed kept looked p now → Covered kept looked (of_sum p.facts p.wanted xs)
     → refutes p xs ≡ true → refutes now (sum_at kept xs) ≡ true
 refutes_still kept looked p now xs v pl c h =
     let q = and_parts (is_limited_sum xs) (option_map_or is_absurd (weighed_rows p xs) false) h in
@@ -245,7 +245,7 @@ below_moves kept r o x e =
       subst (OverRow kept) is (over_negative (OfSort kept Point) r.form o),
     )
 
-abbrev place : List Lit → Option Lit → Option Row → Option Row → Place
+abbrev place : List Lit → Option Lit → Option Row → Option Row → RowScope
 place facts wanted above below = record { facts = facts; wanted = wanted; above = above; below = below }
 
 -- ---- the sums of a certificate

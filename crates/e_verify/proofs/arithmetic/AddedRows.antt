@@ -16,7 +16,7 @@ use Rattle.e_literal.proofs.Terms.{term_eq_is}
 use Rattle.e_literal.proofs.Arith.{sums, zero_is, product_size}
 use Rattle.e_literal.proofs.Booleans.{or_not_left, or_not_right, and_left, and_right, same_bool, all_hold}
 use Rattle.e_clause.specs.declared.cert.RowName.{RowName}
-use Rattle.e_clause.specs.Sum.{Place, row_named, weighed_rows, is_nonzero_bounded, is_limited_sum, refutes}
+use Rattle.e_clause.specs.Sum.{RowScope, row_named, weighed_rows, is_nonzero_bounded, is_limited_sum, refutes}
 use Rattle.e_verify.specs.inner.Totals.{total_at}
 use Rattle.e_verify.specs.inner.Small.{is_small_row}
 use Rattle.e_verify.specs.inner.Views.{row_view}
@@ -34,7 +34,7 @@ some_strict ws = list_any (λ w. is_strict w.row.sense w.multiplier) ws
 
 -- ---- the rows that are named
 
-pub named_more : (p : Place) (xs : List (ℤ × RowName)) (x : ℤ × RowName) (r : Row) → row_named p x.1 ≡ Some r → weighed_rows p (xs ++ x ∷ []) ≡ option_map (λ ws. ws ++ weigh x.0 r ∷ []) (weighed_rows p xs)
+pub named_more : (p : RowScope) (xs : List (ℤ × RowName)) (x : ℤ × RowName) (r : Row) → row_named p x.1 ≡ Some r → weighed_rows p (xs ++ x ∷ []) ≡ option_map (λ ws. ws ++ weigh x.0 r ∷ []) (weighed_rows p xs)
 named_more p [] x r f = ap (option_and_then (λ q. Some (weigh x.0 q ∷ []))) f
 named_more p (y ∷ xs) x r f =
     ap (λ o. option_and_then (λ q. option_map (λ rs. weigh y.0 q ∷ rs) o) (row_named p y.1)) (named_more p xs x r f) ∙ by (row_named p y.1) (weighed_rows p xs)
@@ -46,7 +46,7 @@ named_more p (y ∷ xs) x r f =
     by (Some q) (Some ws) = refl
 
 -- no rows where one has no name
-pub unnamed : (p : Place) (xs : List (ℤ × RowName)) (i : ℕ) (d : ℤ × RowName) → i < length xs → row_named p (get_or xs i d).1 ≡ None → weighed_rows p xs ≡ None
+pub unnamed : (p : RowScope) (xs : List (ℤ × RowName)) (i : ℕ) (d : ℤ × RowName) → i < length xs → row_named p (get_or xs i d).1 ≡ None → weighed_rows p xs ≡ None
 unnamed p [] i d h e = absurd (omega (arith, h))
 unnamed p (x ∷ xs) zero d h e = ap (option_and_then (λ r. option_map (λ rs. weigh x.0 r ∷ rs) (weighed_rows p xs))) e
 unnamed p (x ∷ xs) (suc i) d h e =
@@ -60,7 +60,7 @@ and_false : (a b : Bool) → b ≡ false → (a && b) ≡ false
 and_false true b h = h
 and_false false b h = refl
 
-bad_signs : (p : Place) (xs : List (ℤ × RowName)) (i : ℕ) (d : ℤ × RowName) (r : Row) → i < length xs → row_named p (get_or xs i d).1 ≡ Some r → allows_multiplier r.sense (get_or xs i d).0 ≡ false
+bad_signs : (p : RowScope) (xs : List (ℤ × RowName)) (i : ℕ) (d : ℤ × RowName) (r : Row) → i < length xs → row_named p (get_or xs i d).1 ≡ Some r → allows_multiplier r.sense (get_or xs i d).0 ≡ false
     → option_map_or good_signs (weighed_rows p xs) false ≡ false
 bad_signs p [] i d r h e k = absurd (omega (arith, h))
 bad_signs p (x ∷ xs) zero d r h e k = ap (λ o. option_map_or good_signs (option_and_then (λ q. option_map (λ rs. weigh x.0 q ∷ rs) (weighed_rows p xs)) o) false) e ∙ by (weighed_rows p xs)
@@ -121,7 +121,7 @@ cancelled ws h = all_hold (λ t. int_eq (total ws t) (pos 0)) (terms_of ws) (λ 
 -- ---- rows that are added up
 
 -- the rows of these names are added up here
-pub record IsAdded (p : Place) (xs : List (ℤ × RowName)) (es : List (ℕ × ℤ)) (strict : Bool) : Type 0 where
+pub record IsAdded (p : RowScope) (xs : List (ℤ × RowName)) (es : List (ℕ × ℤ)) (strict : Bool) : Type 0 where
   pub rows : List Weighed
   pub named : weighed_rows p xs ≡ Some rows
   pub sum : (t : Term) → total_at es t ≡ total rows t
@@ -133,7 +133,7 @@ total_more : (ws : List Weighed) (w : Weighed) (t : Term) → total (ws ++ w ∷
 total_more [] w t = omega (arith, sums)
 total_more (v ∷ ws) w t = omega (arith, sums, total_more ws w t)
 
-pub one_added : (p : Place) (xs : List (ℤ × RowName)) (i : ℕ) (x : ℤ × RowName) (es after : List (ℕ × ℤ)) (strict now new : Bool) (row : CodeRow) → i < length xs → x ≡ get_or xs i x → IsAdded p (take i xs) es strict
+pub one_added : (p : RowScope) (xs : List (ℤ × RowName)) (i : ℕ) (x : ℤ × RowName) (es after : List (ℕ × ℤ)) (strict now new : Bool) (row : CodeRow) → i < length xs → x ≡ get_or xs i x → IsAdded p (take i xs) es strict
     → row_named p x.1 ≡ Some (row_view row) → ((t : Term) → total_at after t ≡ total_at es t +ℤ x.0 *ℤ coefficient (row_view row).form t) → allows_multiplier (row_view row).sense x.0 ≡ true
     → now ≡ is_strict (row_view row).sense x.0 → new ≡ (strict || now) → is_small_row row ≡ true → unsigned_abs x.0 ≤ 2 ^ 80 → IsAdded p (take (i + 1) xs) after new
 one_added p xs i x es after strict now new row h is a e f g k n small m =
@@ -150,10 +150,10 @@ one_added p xs i x es after strict now new row h is a e f g k n small m =
 
 -- ---- what the sum comes to
 
-pub not_named : (p : Place) (xs : List (ℤ × RowName)) (i : ℕ) (x : ℤ × RowName) → i < length xs → x ≡ get_or xs i x → row_named p x.1 ≡ None → refutes p xs ≡ false
+pub not_named : (p : RowScope) (xs : List (ℤ × RowName)) (i : ℕ) (x : ℤ × RowName) → i < length xs → x ≡ get_or xs i x → row_named p x.1 ≡ None → refutes p xs ≡ false
 not_named p xs i x h is e = ap (λ o. is_limited_sum xs && option_map_or is_absurd o false) (unnamed p xs i x h (ap (λ y. row_named p y.1) (sym is) ∙ e)) ∙ and_false (is_limited_sum xs) false refl
 
-pub bad_sign : (p : Place) (xs : List (ℤ × RowName)) (i : ℕ) (x : ℤ × RowName) (r : Row) → i < length xs → x ≡ get_or xs i x → row_named p x.1 ≡ Some r → allows_multiplier r.sense x.0 ≡ false → refutes p xs ≡ false
+pub bad_sign : (p : RowScope) (xs : List (ℤ × RowName)) (i : ℕ) (x : ℤ × RowName) (r : Row) → i < length xs → x ≡ get_or xs i x → row_named p x.1 ≡ Some r → allows_multiplier r.sense x.0 ≡ false → refutes p xs ≡ false
 bad_sign p xs i x r h is e k =
     and_false (is_limited_sum xs) (option_map_or is_absurd (weighed_rows p xs) false)
     (by (weighed_rows p xs) (bad_signs p xs i x r h (ap (λ y. row_named p y.1) (sym is) ∙ e) (ap (λ y. allows_multiplier r.sense y.0) (sym is) ∙ k)))
@@ -162,7 +162,7 @@ bad_sign p xs i x r h is e k =
     by None h = refl
     by (Some ws) h = and_false (cancel ws) (good_signs ws && some_strict ws) (ap (λ b. b && some_strict ws) h)
 
-pub whole : (p : Place) (xs ys : List (ℤ × RowName)) (es : List (ℕ × ℤ)) (strict none : Bool) → is_limited_sum xs ≡ true → ys ≡ xs → IsAdded p ys es strict
+pub whole : (p : RowScope) (xs ys : List (ℤ × RowName)) (es : List (ℕ × ℤ)) (strict none : Bool) → is_limited_sum xs ≡ true → ys ≡ xs → IsAdded p ys es strict
     → IsTrue none ↔ ((t : Term) → total_at es t ≡ pos 0) → (strict && none) ≡ refutes p xs
 whole p xs ys es strict none size all a z =
     and_comm strict none ∙ ap (λ b. b && strict) same ∙ ap (λ b. cancel a.rows && b) (a.has_strict ∙ sym (ap (λ b. b && some_strict a.rows) a.signs))
@@ -183,7 +183,7 @@ good_multiplier xs i x h k is =
     leb-true (unsigned_abs m) (2 ^ 80) (and_right (not (int_eq m (pos 0))) (nat_le (unsigned_abs m) (2 ^ 80))
     (ap (λ (y : ℤ × RowName). is_nonzero_bounded y.0) is ∙ all_get (λ (x : ℤ × RowName). is_nonzero_bounded x.0) xs i x (and_right (nat_le (length xs) 4096) all (and_right (nat_le 1 (length xs)) (nat_le (length xs) 4096 && all) h)) k))
 
-pub small_totals : (p : Place) (xs : List (ℤ × RowName)) (i : ℕ) (es : List (ℕ × ℤ)) (strict : Bool) (t : Term) → is_limited_sum xs ≡ true → IsAdded p (take i xs) es strict → unsigned_abs (total_at es t) < 2 ^ 127
+pub small_totals : (p : RowScope) (xs : List (ℤ × RowName)) (i : ℕ) (es : List (ℕ × ℤ)) (strict : Bool) (t : Term) → is_limited_sum xs ≡ true → IsAdded p (take i xs) es strict → unsigned_abs (total_at es t) < 2 ^ 127
 small_totals p xs i es strict t h a =
     let all = list_all (λ (x : ℤ × RowName). is_nonzero_bounded x.0) xs in
     let few = leb-true (length xs) 4096 (and_left (nat_le (length xs) 4096) all (and_right (nat_le 1 (length xs)) (nat_le (length xs) 4096 && all) h)) in

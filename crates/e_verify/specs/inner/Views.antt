@@ -3,7 +3,7 @@ use Rattle.std.specs.Prelude.{◌++◌, Bool, true, false}
 use Rattle.std.specs.Option.{option_map, option_copied}
 use Rattle.e_literal.specs.Rows.{Row, Sense, Summands, plus, minus, negative, normal_summands}
 use Rattle.e_literal.specs.Rows as senses
-use Rattle.e_clause.specs.Sum.{Place}
+use Rattle.e_clause.specs.Sum
 use Rattle.e_clause.specs.System.{pos_row, top_row, right_row, least_row}
 use Rattle.e_verify.specs.declared.rows.RowSense.{RowSense}
 use Rattle.e_verify.specs.declared.rows.RowSense.TheVariants.{Zero, AtLeast, More, Differs}
@@ -41,7 +41,7 @@ lit_row_view c =
       form = normal_summands (plus c.plus.now ++ minus c.minus.now);
     }
 
-abbrev pub row_scope_view : RowScope → Place
+abbrev pub row_scope_view : RowScope → Sum.RowScope
 row_scope_view p =
     record {
       facts = p.facts.now;

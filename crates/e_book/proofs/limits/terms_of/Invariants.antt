@@ -1,9 +1,9 @@
 use Rattle.std.proofs.Common.{◌≡◌, ◌+◌, ◌≤◌, drop}
-use Rattle.e_line.specs.Limits.{most_terms, count_monomials}
+use Rattle.e_line.specs.Limits.{most_monomials_of_facts, count_monomials}
 use Rattle.e_book.proofs.limits.terms_of.Given as goal
 
 abbrev pub invariant-loop-lit : goal.invariant-loop-lit
 invariant-loop-lit l = record {
   count : l.terms + count_monomials (drop l.lit-index l.lits) ≡ l.before + count_monomials l.lits;
-  within : l.terms ≤ most_terms;
+  within : l.terms ≤ most_monomials_of_facts;
 }
