@@ -106,7 +106,7 @@ fn copies_of_constraints(
 }
 
 /// Equal entries, with room for more.
-fn copies_with_room<T: Copy>(
+pub fn copies_with_room<T: Copy>(
     alloc: Global,
     entries: &[T],
     room: usize,
