@@ -61,7 +61,7 @@ fn terms_of_facts(alloc: Global, facts: &Facts) -> Result<Vec<Term>, AllocError>
     ensures { IfOk result
         (λ v. v.items ≡ map Same.canonical (Term.Right ∷ terms_of_lits facts.now)) }
 {
-    let mut terms = Vec::new(alloc);
+    let mut terms = Vec::with_capacity(alloc, facts.len().saturating_add(1))?;
     terms.push(Term::Right)?;
     for fact in facts.items() {
         add_atom(&mut terms, &fact.atom)?;
@@ -124,7 +124,7 @@ fn value(values: &ByKind<Values>, term: Term) -> u128
 fn with_values(alloc: Global, terms: &[Term], values: &ByKind<Values>) -> Result<Values, AllocError>
     ensures { IfOk result (λ v. v ≡ map (λ t. (t, step_value values.now t)) terms.now) }
 {
-    let mut pairs = Vec::new(alloc);
+    let mut pairs = Vec::with_capacity(alloc, terms.len())?;
     for term in terms {
         pairs.push((*term, value(values, *term)))?;
     }

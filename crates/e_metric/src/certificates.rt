@@ -68,7 +68,7 @@ fn rows_not_zero(
     ensures { IfOk result (λ v. v.items ≡ Certificate.named_multipliers
         (Certificate.renamed_at names.now renamed.entry) multipliers.now) }
 {
-    let mut sum = Vec::new(alloc);
+    let mut sum = Vec::with_capacity(alloc, 8)?;
     for (i, multiplier) in multipliers.iter().enumerate() {
         if *multiplier != 0 {
             sum.push((*multiplier, name_at(alloc, names, renamed, i)?))?;
@@ -202,7 +202,7 @@ fn add_equal(
 fn copy_of_sum(alloc: Global, sum: &Sum) -> Result<Sum, AllocError>
     ensures { IfOk result (λ s. s ≡ sum.now) }
 {
-    let mut rows = Vec::new(alloc);
+    let mut rows = Vec::with_capacity(alloc, sum.rows().len())?;
     add_equal(&mut rows, alloc, sum.rows())?;
     Ok(Sum::new(rows))
 }

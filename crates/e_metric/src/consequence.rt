@@ -56,7 +56,7 @@ pub enum Consequence {
     TooWide(u128),
 }
 
-/// The names and the rows.
+/// The names and the rows, with room for more.
 pub fn names_and_rows(
     alloc: Global,
     named: Vec<(RowName, Row)>,
@@ -64,8 +64,9 @@ pub fn names_and_rows(
     ensures names { IfOk result (λ p. p.0.items ≡ map (λ q. q.0) named.items) }
     ensures rows { IfOk result (λ p. p.1.items ≡ map (λ q. q.1) named.items) }
 {
-    let mut names = Vec::with_capacity(alloc, named.len())?;
-    let mut rows = Vec::with_capacity(alloc, named.len())?;
+    let room = named.len().saturating_mul(2);
+    let mut names = Vec::with_capacity(alloc, room)?;
+    let mut rows = Vec::with_capacity(alloc, room)?;
     for (name, row) in named {
         names.push(name)?;
         rows.push(row)?;

@@ -77,7 +77,7 @@ fn terms_of_facts(alloc: Global, which: Kind, facts: &Facts) -> Result<Vec<Term>
     ensures { IfOk result
         (λ v. v.items ≡ with_listed [] (terms_of_lits (of_kind which facts.now))) }
 {
-    let mut terms = Vec::new(alloc);
+    let mut terms = Vec::with_capacity(alloc, facts.len())?;
     add_facts(&mut terms, which, facts, 0)?;
     Ok(terms)
 }
@@ -101,6 +101,15 @@ pub fn terms_of_kind(
     Ok(terms)
 }
 
+// Equal terms, with room for more.
+fn copies_with_room(alloc: Global, terms: &[Term]) -> Result<Vec<Term>, AllocError>
+    ensures { IfOk result (λ v. v.items ≡ terms.now) }
+{
+    let mut copies = Vec::with_capacity(alloc, terms.len().saturating_add(8))?;
+    copies.extend_from_slice(terms)?;
+    Ok(copies)
+}
+
 /// The terms of a literal, if it is of the kind, that are none of these, each once.
 #[tactic(auto, using(crate::proofs::rows::GoalRows::as_long_one))]
 pub fn fresh_terms(
@@ -111,7 +120,7 @@ pub fn fresh_terms(
 ) -> Result<Vec<Term>, AllocError>
     ensures { IfOk result (λ v. v.items ≡ FurtherRows.terms_added which terms.now (lit.now ∷ [])) }
 {
-    let mut all = Vec::from_slice(alloc, terms)?;
+    let mut all = copies_with_room(alloc, terms)?;
     add_literal(&mut all, which, lit)?;
     let fresh = Vec::from_slice(alloc, &all[terms.len()..])?;
     Ok(fresh)
@@ -130,7 +139,7 @@ pub fn fresh_terms_of_facts(
     ensures { IfOk result
         (λ v. v.items ≡ FurtherRows.terms_added which terms.now (drop from facts.now)) }
 {
-    let mut all = Vec::from_slice(alloc, terms)?;
+    let mut all = copies_with_room(alloc, terms)?;
     add_facts(&mut all, which, facts, from)?;
     let fresh = Vec::from_slice(alloc, &all[terms.len()..])?;
     Ok(fresh)

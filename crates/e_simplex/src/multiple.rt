@@ -79,7 +79,7 @@ pub fn with_multiples(
         → unsigned_abs (get_or second.now j (pos 0)) < 2 ^ 65 }
     ensures { IfOk result (λ v. AddedTo (length first.now) first.now second.now t v.items) }
 {
-    let mut all = Vec::new(alloc);
+    let mut all = Vec::with_capacity(alloc, first.len())?;
     for (x, y) in first.iter().zip(second) {
         all.push(with_multiple(*x, *y, t))?;
     }

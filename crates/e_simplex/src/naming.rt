@@ -9,6 +9,7 @@ ghost use Rattle.e_simplex.specs.Naming.{place_of, IsIn, AreOnce, Continues, For
 ghost use Rattle.e_simplex.specs.Naming.{named_form, named_constraints, constraint_sense, keeps};
 
 use crate::constraints::{Constraint, ConstraintSense, Monomial};
+use crate::solved::copies_with_room;
 use e_fraction::{Row, RowSense};
 use e_literal::{Items, Term};
 use std::alloc::{AllocError, Global};
@@ -51,7 +52,7 @@ pub fn terms_with(alloc: Global, terms: &[Term], rows: &[Row]) -> Result<Vec<Ter
     ensures all { IfOk result (λ v. AllNamed v.items (views_of_rows rows.now)) }
     ensures continues { IfOk result (λ v. Continues terms.now v.items) }
 {
-    terms_and_fresh(Vec::from_slice(alloc, terms)?, rows)
+    terms_and_fresh(copies_with_room(alloc, terms, 8)?, rows)
 }
 
 /// The terms, and after them those of the rows that are not among them, in place.

@@ -106,7 +106,7 @@ fn copies_of_constraints(
 }
 
 /// Equal entries, with room for more.
-fn copies_with_room<T: Copy>(
+pub fn copies_with_room<T: Copy>(
     alloc: Global,
     entries: &[T],
     room: usize,
@@ -132,7 +132,8 @@ pub fn solve_constraints(
 }
 
 impl Table {
-    /// The table of constraints over `width` columns, with no row yet.
+    /// The table of constraints over `width` columns, with no row yet. It has room for as many rows
+    /// again, since more constraints mostly come.
     fn new(alloc: Global, constraints: Vec<Constraint>, width: usize) -> Result<Table, AllocError>
         requires { IsFit width constraints.items }
         ensures { IfOk result (IsBegunTable width constraints.items) }
@@ -140,7 +141,8 @@ impl Table {
         let fixed = fixed_numbers(alloc, &constraints, width)?;
         let columns = count_up(alloc, width)?;
         let basis = Vec::with_capacity(alloc, constraints.len())?;
-        let entries = Vec::with_capacity(alloc, constraints.len().saturating_mul(width))?;
+        let room = constraints.len().saturating_mul(2).saturating_mul(width);
+        let entries = Vec::with_capacity(alloc, room)?;
         Ok(Table {
             constraints,
             fixed,

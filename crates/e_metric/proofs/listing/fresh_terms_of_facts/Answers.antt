@@ -9,4 +9,4 @@ pub returns : goal.returns
 returns c =
     c.in_ok-fresh.ensures.items
     ∙ last_after c.args.which c.args.terms.now (drop c.args.from c.args.facts.now) c.deref.result.now
-    (c.deref.ensures.value ∙ c.in_ok-add_facts.ensures ∙ ap (λ ts. with_listed ts (terms_of_lits (of_kind c.args.which (drop c.args.from c.args.facts.now)))) c.in_ok-all.ensures.items)
+    (c.deref.ensures.value ∙ c.in_ok-add_facts.ensures ∙ ap (λ ts. with_listed ts (terms_of_lits (of_kind c.args.which (drop c.args.from c.args.facts.now)))) c.in_ok-all.ensures)

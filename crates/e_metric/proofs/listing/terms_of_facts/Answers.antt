@@ -6,4 +6,4 @@ use Rattle.e_metric.proofs.listing.terms_of_facts.Goals as goal
 
 pub returns : goal.returns
 returns c =
-    c.in_ok-add_facts.ensures ∙ ap (λ ts. with_listed ts (terms_of_lits (of_kind c.args.which c.args.facts.now))) c.new-terms.ensures.items
+    c.in_ok-add_facts.ensures ∙ ap (λ ts. with_listed ts (terms_of_lits (of_kind c.args.which c.args.facts.now))) c.in_ok-terms.ensures.items
