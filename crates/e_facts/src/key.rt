@@ -1,12 +1,17 @@
 //! The keys by which diagram literals are looked up.
 
-ghost use Rattle.std.specs.Prelude.{◌≡◌};
-ghost use Rattle.e_facts.specs.inner.Key.{key_of_lit, parts_of_atom};
+ghost use Rattle.std.specs.Prelude.{◌≡◌, ◌<◌};
+ghost use Rattle.std.specs.Hash as fed;
+ghost use Rattle.std.specs.Cmp.Rules.{hashing};
+ghost use Rattle.std.proofs.Common.{rules};
+ghost use Rattle.e_facts.specs.inner.Key as keys;
+ghost use Rattle.e_facts.specs.inner.Key.{key_of_lit, parts_of_atom, number_of_key};
 
 use e_literal::{Atom, Lit};
+use std::hash::{Hash, Hasher};
 
 /// The relation of a diagram literal.
-#[derive(Clone, Copy, PartialEq, Eq, Hash)]
+#[derive(Clone, Copy, PartialEq, Eq)]
 pub enum Relation {
     OnLine,
     OnCircle,
@@ -24,13 +29,55 @@ pub enum Relation {
 
 /// A diagram literal as a small value: its sign, its relation, and its numbers, with 0 for the
 /// third of two.
-#[derive(Clone, Copy, PartialEq, Eq, Hash)]
+#[derive(Clone, Copy, PartialEq, Eq)]
 pub struct Key {
     pub negated: bool,
     pub relation: Relation,
     pub first: u16,
     pub second: u16,
     pub third: u16,
+}
+
+/// The number of a relation.
+fn number_of_relation(relation: Relation) -> u64
+    ensures is { result ≡ keys.number_of_relation relation }
+    ensures below { result < 12 }
+{
+    match relation {
+        Relation::OnLine => 0,
+        Relation::OnCircle => 1,
+        Relation::Inside => 2,
+        Relation::Center => 3,
+        Relation::Between => 4,
+        Relation::SameSide => 5,
+        Relation::LinesMeet => 6,
+        Relation::LineMeetsCircle => 7,
+        Relation::CirclesMeet => 8,
+        Relation::PointsEqual => 9,
+        Relation::LinesEqual => 10,
+        Relation::CirclesEqual => 11,
+    }
+}
+
+/// The number of a key: it is hashed at once.
+fn number_of(key: &Key) -> u64
+    ensures { result ≡ number_of_key key.now }
+{
+    let sign = if key.negated { 0 } else { 12 };
+    let numbers = u64::from(key.first)
+        + 65_536 * u64::from(key.second)
+        + 4_294_967_296 * u64::from(key.third);
+    32 * numbers + number_of_relation(key.relation) + sign
+}
+
+impl Hash for Key {
+    ghost hash_input = { λ k. fed.u64 (number_of_key k) };
+
+    ghost respects_eq = { Prim.search (hashing, rules) };
+
+    fn hash<H: Hasher>(&self, state: &mut H) {
+        state.write_u64(number_of(self));
+    }
 }
 
 /// The key of a diagram literal; none for a metric one.

@@ -4,6 +4,7 @@ use Rattle.std.specs.Prelude.{IfSome, nat_le}
 use Rattle.std.specs.List.{list_any}
 use Rattle.std.proofs.lemmas.Bool.{and_from, or_left, or_right, cases_Bool, cases_lt}
 use Rattle.std.proofs.lemmas.List.{get_or_append_left}
+use Rattle.std.proofs.lemmas.List.Folds.{list_any-append}
 use Rattle.e_literal.specs.declared.literal.Atom.TheVariants.{MagEq}
 use Rattle.e_literal.specs.declared.literal.Lit.{Lit}
 use Rattle.e_literal.specs.declared.object.Mono.{Mono}
@@ -22,7 +23,7 @@ use Rattle.e_clause.specs.Instance.{number}
 use Rattle.e_transfer.specs.declared.models.Filling.TheVariants.{Each}
 use Rattle.e_transfer.specs.declared.numbers.Numbers.{Numbers}
 use Rattle.e_transfer.specs.Models.{value_in_list, value_when_canonical, value_by, fits_term, fits_terms, is_model}
-use Rattle.e_transfer.specs.inner.Angles.{may_be, may_be_angle, later_number, IsKnown, IsOneAngle, IsUnlisted, NeverDiffer}
+use Rattle.e_transfer.specs.inner.Angles.{angle_if, angles_of, may_be, may_be_angle, later_number, IsKnown, IsOneAngle, IsUnlisted, NeverDiffer}
 use Rattle.e_transfer.specs.inner.PartsOfChoices.{chosen_arguments}
 use Rattle.e_transfer.proofs.FreeAreas.{equal_fails}
 use Rattle.e_transfer.proofs.Instances.{chosen}
@@ -79,6 +80,23 @@ value_one x y z a b c (p ∷ ps) first vertex last none = elim (cases_Bool (term
       ap (λ d. cond d p.1 (value_in_list (Each 1) ps (canonical (Ang a b c)))) other
       ∙ value_one x y z a b c ps first vertex last (or_rest (may_be_angle x y z p.0) (list_any (λ q. may_be_angle x y z q.0) ps) none)
 ]
+
+or_none : (b : Bool) → (b || false) ≡ b
+or_none true = refl
+or_none false = refl
+
+one_angle : (x y z : Option ℕ) (t : Term) → list_any (may_be_angle x y z) (angle_if t) ≡ may_be_angle x y z t
+one_angle x y z (Ang a b c) = or_none (may_be_angle x y z (Ang a b c))
+one_angle x y z (Seg a b) = refl
+one_angle x y z (Area a b c) = refl
+one_angle x y z Right = refl
+
+-- only an angle may be one
+pub any_angle : (x y z : Option ℕ) (values : List (Term × ℕ)) → list_any (may_be_angle x y z) (angles_of values) ≡ list_any (λ p. may_be_angle x y z p.0) values
+any_angle x y z [] = refl
+any_angle x y z (p ∷ ps) =
+    list_any-append (may_be_angle x y z) (angle_if p.0) (angles_of ps) ∙ ap (λ b. b || list_any (may_be_angle x y z) (angles_of ps)) (one_angle x y z p.0)
+    ∙ ap (λ b. may_be_angle x y z p.0 || b) (any_angle x y z ps)
 
 pub never_listed : (n : Numbers) (values : List (Term × ℕ)) (t : Term) (u v w : ℕ) (x y z : Option ℕ) → t ≡ Ang u v w → IfSome x (IsKnown n u) → IfSome y (IsKnown n v)
     → IfSome z (IsKnown n w) → list_any (λ p. may_be_angle x y z p.0) values ≡ false → IsUnlisted values n t

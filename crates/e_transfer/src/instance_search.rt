@@ -178,12 +178,12 @@ fn are_unlisted(query: &Query, numbers: &Numbers, term: Term, other: Term) -> bo
     if !hints.plain_model {
         return false;
     }
-    let values = hints.values.items();
-    let one = is_unlisted(numbers, values, term);
+    let angles: &[Term] = &hints.angles;
+    let one = is_unlisted(numbers, angles, term);
     if !one {
         return false;
     }
-    is_unlisted(numbers, values, other)
+    is_unlisted(numbers, angles, other)
 }
 
 /// Whether it is seen that no need holds that says that the two terms differ, whatever numbers come

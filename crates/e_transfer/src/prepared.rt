@@ -12,7 +12,9 @@ ghost use Rattle.e_transfer.specs.Areas.{name_areas_of};
 ghost use Rattle.e_transfer.specs.Listings.{IsListing};
 ghost use Rattle.e_transfer.specs.Models.{is_model, value_by};
 ghost use Rattle.e_transfer.specs.Prepared.{IsPrepared};
+ghost use Rattle.e_transfer.specs.inner.Angles as in_angles;
 
+use crate::angles::angles_of;
 use crate::areas::areas_of;
 use crate::listing::{Listing, listing_of};
 use crate::marks::{MARKS, marks_of};
@@ -23,12 +25,13 @@ use e_metric::{Metric, MetricFacts};
 use std::alloc::{AllocError, Global};
 
 /// What is made of facts: values with which all metric ones are true, if such are known, of which
-/// models those are, the areas that the facts name, which relations they have, and with which
+/// models those are, the angles that they list, the areas that the facts name, which relations they have, and with which
 /// numbers.
 #[derive(Drop)]
 pub struct Prepared {
     pub values: Values,
     pub areas: Vec<Term>,
+    pub angles: Vec<Term>,
     /// The values are those of a model, whatever number each term has that they do not list.
     pub lists_all: bool,
     pub plain_model: bool,
@@ -53,10 +56,12 @@ fn with_values(
     values: Values,
     lists_all: bool,
     areas: Vec<Term>,
+    angles: Vec<Term>,
     listing: Listing,
 ) -> Prepared
     requires listed { lists_all ≡ true → ListsCounterexample facts.now None values }
     requires named { IsTrue (name_areas_of areas.items facts.now) }
+    requires angles { angles.items ≡ in_angles.angles_of values }
     requires numbers { IsListing facts.now listing.items }
     ensures { IsPrepared facts.now result }
 {
@@ -70,6 +75,7 @@ fn with_values(
         listing,
         values,
         areas,
+        angles,
     }
 }
 
@@ -87,10 +93,14 @@ pub fn prepare(
     let areas = areas_of(alloc, facts)?;
     let listing = listing_of(alloc, facts.items())?;
     match metric_facts.absurd(alloc, facts)? {
-        Metric::No(values) => Ok(with_values(facts, values, true, areas, listing)),
+        Metric::No(values) => {
+            let angles = angles_of(alloc, values.items())?;
+            Ok(with_values(facts, values, true, areas, angles, listing))
+        }
         Metric::Yes(_) | Metric::TooWide(_) => {
             let values = Values::new(Vec::new(alloc));
-            Ok(with_values(facts, values, false, areas, listing))
+            let angles = angles_of(alloc, values.items())?;
+            Ok(with_values(facts, values, false, areas, angles, listing))
         }
     }
 }

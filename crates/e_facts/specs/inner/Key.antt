@@ -1,6 +1,6 @@
 -- The keys by which diagram literals are looked up, and the places of metric ones with their
 -- fingerprints.
-use Rattle.std.specs.Prelude.{◌≡◌, ℕ, ◌+◌, List, [], ◌∷◌, Bool, false, Option, Some, None, ◌==◌, ◌&&◌}
+use Rattle.std.specs.Prelude.{◌≡◌, ℕ, ◌+◌, List, [], ◌∷◌, Bool, false, Option, Some, None, ◌==◌, ◌&&◌, ◌*◌, if◌then◌else◌}
 use Rattle.std.specs.Prelude.{slice_get}
 use Rattle.std.specs.Option.{option_map, option_map_or}
 use Rattle.e_literal.specs.declared.literal.Lit.{Lit}
@@ -32,6 +32,26 @@ parts_of_atom (EqL l m) = Some (relation.LinesEqual, l, m, 0)
 parts_of_atom (EqC c d) = Some (relation.CirclesEqual, c, d, 0)
 parts_of_atom (MagEq x y) = None
 parts_of_atom (MagLt x y) = None
+
+abbrev pub number_of_relation : Relation → ℕ
+number_of_relation relation.OnLine = 0
+number_of_relation relation.OnCircle = 1
+number_of_relation relation.Inside = 2
+number_of_relation relation.Center = 3
+number_of_relation relation.Between = 4
+number_of_relation relation.SameSide = 5
+number_of_relation relation.LinesMeet = 6
+number_of_relation relation.LineMeetsCircle = 7
+number_of_relation relation.CirclesMeet = 8
+number_of_relation relation.PointsEqual = 9
+number_of_relation relation.LinesEqual = 10
+number_of_relation relation.CirclesEqual = 11
+
+-- the relation, the sign and the numbers of a key as one number
+abbrev pub number_of_key : Key → ℕ
+number_of_key k =
+    32 * (k.first + 65536 * k.second + 4294967296 * k.third) + number_of_relation k.relation
+    + (if k.negated then 0 else 12)
 
 -- the key of a diagram literal, and none of a metric one
 abbrev pub key_of_lit : Lit → Option Key

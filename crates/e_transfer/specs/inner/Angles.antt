@@ -1,5 +1,6 @@
 -- Angles that no values list.
 use Rattle.std.specs.Prelude.{◌≡◌, ℕ, List, [], ◌∷◌, ◌++◌, Bool, true, false, ◌&&◌, ◌||◌, ◌==◌, Option, Some, None}
+use Rattle.std.specs.Prelude.{flat_map}
 use Rattle.e_literal.specs.declared.literal.Atom.TheVariants.{MagEq}
 use Rattle.e_literal.specs.declared.literal.Lit.{Lit}
 use Rattle.e_literal.specs.declared.object.Mono.{Mono}
@@ -24,6 +25,14 @@ abbrev pub may_be_angle : Option ℕ → Option ℕ → Option ℕ → Term → 
 may_be_angle x y z (Ang p q r) =
     may_be y q && ((may_be x p && may_be z r) || (may_be x r && may_be z p))
 may_be_angle x y z _ = false
+
+-- the angles that the values list
+abbrev pub angle_if : Term → List Term
+angle_if (Ang a b c) = Ang a b c ∷ []
+angle_if _ = []
+
+abbrev pub angles_of : List (Term × ℕ) → List Term
+angles_of values = flat_map (λ p. angle_if p.0) values
 
 -- the number of a variable, where these numbers come next
 abbrev pub later_number : Numbers → List ℕ → ℕ → ℕ

@@ -1,9 +1,7 @@
-use Rattle.std.proofs.Common.{ap, subst, List, ℕ}
+use Rattle.std.proofs.Common.{ap, ◌∙◌}
 use Rattle.std.specs.Prelude.{option_copied}
-use Rattle.e_literal.specs.declared.object.Term.{Term}
 use Rattle.e_transfer.specs.declared.models.Filling.TheVariants.{Each}
 use Rattle.e_transfer.specs.Models.{is_model, value_by}
-use Rattle.e_transfer.specs.inner.Angles.{IsUnlisted}
 use Rattle.e_transfer.proofs.ModelValues.{then}
 use Rattle.e_transfer.proofs.UnlistedAngles.{unlisted_never_differ}
 use Rattle.e_transfer.proofs.instance_search.are_unlisted.Goals as goal
@@ -15,5 +13,4 @@ returns c = λ e.
     let hints = c.in-Some.hints.now in
     let is = c.args.query.now.hinted hints (ap option_copied c.in-Some.is) in
     unlisted_never_differ facts hints.values n c.args.term c.args.other (then hints.plain_model (is_model facts (value_by (Each 1) hints.values)) is.plain c.if-not-hints.false)
-    (subst (λ (vs : List (Term × ℕ)). IsUnlisted vs n c.args.term) c.items-values.ensures (c.is_unlisted-one.ensures c.if-not-one.false))
-    (subst (λ (vs : List (Term × ℕ)). IsUnlisted vs n c.args.other) c.items-values.ensures (c.is_unlisted.ensures e))
+    (c.is_unlisted-one.ensures c.if-not-one.false hints.values (c.deref-angles.ensures.value ∙ is.angles)) (c.is_unlisted.ensures e hints.values (c.deref-angles.ensures.value ∙ is.angles))

@@ -33,6 +33,7 @@ returns c =
     record {
       marked = c.marks_of.ensures;
       listed = c.requires.numbers;
+      angles = c.requires.angles;
       named = c.requires.named;
       all = λ n. where_true c.args.lists_all (is_model facts (value_by (filling.Each n) c.args.values)) (λ e. listed_model facts c.args.values (c.requires.listed e) (filling.Each n) refl (λ t a. refl));
       plain = subst (λ vs. (not c.is_seen.result || is_model facts (value_by (filling.Each 1) vs)) ≡ true) c.items.ensures plain;
