@@ -26,7 +26,7 @@ use Rattle.e_transfer.specs.inner.BoundFacts.{known_of, known_of_atom, fits, may
 use Rattle.e_transfer.specs.inner.Angles.{may_be}
 use Rattle.e_transfer.specs.Listings.{numbers_of_atom}
 use Rattle.e_transfer.proofs.Instances.{of_instance, at_map}
-use Rattle.e_transfer.proofs.MarkedFacts.{relation_at, mark_alike, fact_of, some_at}
+use Rattle.e_transfer.proofs.MarkedFacts.{relation_at, mark_alike, fact_of, some_at, fits_elsewhere}
 use Rattle.e_transfer.proofs.Needs.{fitting}
 
 -- what is known of a variable is its number
@@ -118,11 +118,6 @@ none_may_be m facts goal r es at goal_mark relation mark neg k j known here is s
     let so : known ≡ known_of_atom r es k.atom = seen ∙ ap (λ (l : Lit). known_of_atom r es l.atom) (same_Some j k (sym there ∙ here)) in
     none_holds_with m facts goal r es at k here (omega (arith, low, is)) (λ e. unlike (one ∙ e ∙ sym of_goal))
     (sym (ap (λ n. may_be_among n known facts) turned ∙ ap (λ o. may_be_among (mark_number number (not k.neg)) o facts) so) ∙ none)
-
--- a literal that is the goal at its place fits as well elsewhere
-pub fits_elsewhere : (m : Strength) (facts : List Lit) (goal l : Lit) (b : Bool) → IsFittingLiteral m facts goal b l → IsFittingLiteral m facts goal false l
-fits_elsewhere m facts goal l true fits = inl fits
-fits_elsewhere m facts goal l false fits = fits
 
 -- then no instance whose variables are so has the goal
 pub none_elsewhere_with : (m : Strength) (scope : Scope) (facts : List Lit) (goal : Lit) (rule place at : ℕ) (r : Row) (es : List Equation) → slice_get table rule ≡ Some r

@@ -12,6 +12,7 @@ pub mod FactConditions
 pub mod Clauses
 pub mod SearchedPlaces
 pub mod RuleSearches
+pub mod ClauseMarks
 pub mod ModelValues
 pub mod MarkedFacts
 pub mod Listings

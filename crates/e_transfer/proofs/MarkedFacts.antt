@@ -13,7 +13,7 @@ use Rattle.e_literal.specs.declared.object.Scope.{Scope}
 use Rattle.e_literal.specs.declared.object.Term.{Term}
 use Rattle.e_literal.specs.declared.object.Term.TheVariants.{Area}
 use Rattle.e_literal.specs.Facts.{has, is_metric}
-use Rattle.e_literal.specs.Literal.{kind_of_atom}
+use Rattle.e_literal.specs.Literal.{negation, kind_of_atom}
 use Rattle.e_literal.specs.Rename.{term_at, mono_at, atom_at}
 use Rattle.e_literal.specs.Rows.{is_degenerate}
 use Rattle.e_literal.specs.Same.{same_neg, same_atom, same_lit}
@@ -262,17 +262,43 @@ some_at [] at less = absurd (omega (arith, less))
 some_at (l ∷ ls) zero less = (l, refl)
 some_at (l ∷ ls) (suc at) less = some_at ls at (omega (arith, less))
 
--- then no instance has the goal at another place of the clause
-pub none_elsewhere : (m : Strength) (scope : Scope) (facts : List Lit) (goal : Lit) (rule place at : ℕ) (r : Row) → slice_get table rule ≡ Some r
-    → at < length (clause_of r) → at ≢ place → NoneHolds m facts goal r at → NoneAt m scope facts goal rule place
-none_elsewhere m scope facts goal rule place at r of_table less apart none args gives =
+-- the same, by what is read of the clause: what has to be a fact, and has no mark
+pub none_marked_at : (m : Strength) (facts : List Lit) (marks : List Bool) (goal : Lit) (r : Row) (at goal_mark relation : ℕ) (neg : Bool) (k : Lit) → slice_get (clause_of r) at ≡ Some k
+    → relation ≡ relation_number k.atom → neg ≡ k.neg → mark_number relation neg ≢ goal_mark → goal_mark ≡ lit_mark goal → (m ≡ strength.Facts) ⊎ (relation < 12) → are_marked marks facts ≡ true
+    → get_or marks (mark_number relation (not neg)) false ≡ false → NoneHolds m facts goal r at
+none_marked_at m facts marks goal r at goal_mark relation neg k here is sign unlike of_goal asked all unmarked =
+    let number = relation_number k.atom in
+    let turned : mark_number number (not k.neg) ≡ mark_number relation (not neg) = ap (λ n. mark_number n (not k.neg)) (sym is) ∙ ap (λ b. mark_number relation (not b)) (sym sign) in
+    let as_asked : (m ≡ strength.Facts) ⊎ (relation_number k.atom < 12) = elim asked [
+      | inl e ↦ inl e
+      | inr low ↦ inr (omega (arith, low, is))
+    ] in
+    none_holds m facts goal r at k.neg k.atom here (λ e. unlike (ap (λ n. mark_number n neg) is ∙ ap (mark_number number) sign ∙ e ∙ sym of_goal))
+    (none_unmarked m facts marks (not k.neg) k.atom as_asked all (ap (λ n. get_or marks n false) turned ∙ unmarked))
+
+-- or a literal of sums whose negation does not suffice
+pub none_followed_at : (m : Strength) (facts : List Lit) (goal : Lit) (r : Row) (at goal_mark relation : ℕ) (neg : Bool) (k j : Lit) → slice_get (clause_of r) at ≡ Some k
+    → relation ≡ relation_number k.atom → neg ≡ k.neg → mark_number relation neg ≢ goal_mark → goal_mark ≡ lit_mark goal → slice_get (clause_of r) at ≡ Some j → NoneSuffices m facts (negation j)
+    → NoneHolds m facts goal r at
+none_followed_at m facts goal r at goal_mark relation neg k j here is sign unlike of_goal there none =
+    none_holds m facts goal r at k.neg k.atom here (λ e. unlike (ap (λ n. mark_number n neg) is ∙ ap (mark_number (relation_number k.atom)) sign ∙ e ∙ sym of_goal))
+    (subst (λ (l : Lit). NoneSuffices m facts (negation l)) (same_Some j k (sym there ∙ here)) none)
+
+-- a literal that is the goal at its place fits as well elsewhere
+pub fits_elsewhere : (m : Strength) (facts : List Lit) (goal l : Lit) (b : Bool) → IsFittingLiteral m facts goal b l → IsFittingLiteral m facts goal false l
+fits_elsewhere m facts goal l true fits = inl fits
+fits_elsewhere m facts goal l false fits = fits
+
+-- then no instance has the goal
+pub none_elsewhere : (m : Strength) (scope : Scope) (facts : List Lit) (goal : Lit) (rule place at : ℕ) (r : Row) → slice_get table rule ≡ Some r → at < length (clause_of r) → NoneHolds m facts goal r at
+    → NoneAt m scope facts goal rule place
+none_elsewhere m scope facts goal rule place at r of_table less none args gives =
     let some = some_at (clause_of r) at less in
     let l = some.0 in
     let here = some.1 in
     let of = of_instance rule args r gives.lits of_table gives.instance in
     let is : slice_get gives.lits at ≡ Some (lit_at r args l) = ap (λ (ls : List Lit). slice_get ls at) of.1 ∙ at_map (lit_at r args) (clause_of r) at l here in
-    none l here args
-    (subst (λ (b : Bool). IsFittingLiteral m facts goal b (lit_at r args l)) (unequal at place apart) (fitting m facts gives.lits goal (lit_at r args l) place at gives.here gives.suffice is))
+    none l here args (fits_elsewhere m facts goal (lit_at r args l) (eqb at place) (fitting m facts gives.lits goal (lit_at r args l) place at gives.here gives.suffice is))
 
 -- nor at this one, where its literal has not the goal's mark
 pub none_here : (m : Strength) (scope : Scope) (facts : List Lit) (goal : Lit) (rule place : ℕ) (r : Row) (neg : Bool) (a : Atom) → slice_get table rule ≡ Some r

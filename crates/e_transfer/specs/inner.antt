@@ -7,3 +7,4 @@ pub mod Plans
 pub mod SearchedPlaces
 pub mod Angles
 pub mod BoundFacts
+pub mod ClauseMarks

@@ -2,6 +2,7 @@
 //! relation or sign is no fact.
 
 ghost use Rattle.std.specs.Prelude.{◌≡◌, ◌≢◌, ℕ, ◌<◌, length, slice_get, IsTrue, Some, true, false};
+ghost use Rattle.std.specs.Prelude.{not, slice_index_or};
 ghost use Rattle.e_literal.specs.Literal.{negation};
 ghost use Rattle.e_literal.specs.declared.literal.Lit.{Lit};
 ghost use Rattle.e_clause.specs.Instance.{clause_of};
@@ -12,7 +13,7 @@ ghost use Rattle.e_transfer.specs.Marks;
 ghost use Rattle.e_transfer.specs.Marks.{are_marked, NoneHolds};
 
 use crate::clause::{clause_len, pattern_at};
-use crate::query::{Query, Strength};
+use crate::query::{Query, asks_facts};
 use e_clause::{Pattern, Row, Shape};
 use e_facts::Facts;
 use e_literal::{Atom, Lit, Mono, Term};
@@ -168,37 +169,6 @@ pub fn parts(pattern: &Pattern, negated: bool) -> (&Shape, bool)
     }
 }
 
-/// Whether a literal of this relation and sign may hold, where a metric one may also follow from
-/// the facts: it does not where it says that areas differ, or that one is less, and there are
-/// values with which the facts are true and all areas are 0.
-fn may_follow(query: &Query, neg: bool, shape: &Shape) -> bool
-    ensures { result ≡ false → Marks.NoneSuffices query.now.strength query.now.facts.now
-        (record { neg = neg; atom = atom_of shape.now }) }
-{
-    let relation = relation_of(shape);
-    if relation < OF_DIAGRAMS {
-        return query.marks[mark(relation, neg)];
-    }
-    let Some(hints) = query.hints else {
-        return true;
-    };
-    if !hints.flat_model {
-        return true;
-    }
-    !is_strict_of_areas(neg, shape)
-}
-
-/// Whether a literal of this relation and sign may hold.
-fn may_suffice(query: &Query, neg: bool, shape: &Shape) -> bool
-    ensures { result ≡ false → Marks.NoneSuffices query.now.strength query.now.facts.now
-        (record { neg = neg; atom = atom_of shape.now }) }
-{
-    match query.strength {
-        Strength::Facts => query.marks[mark(relation_of(shape), neg)],
-        Strength::Sums | Strength::NarrowSums => may_follow(query, neg, shape),
-    }
-}
-
 /// Whether a literal of this relation and sign is of diagrams, and has not the goal's mark: then
 /// what negates it has to be a fact.
 pub fn has_to_be_fact(relation: usize, neg: bool, goal_mark: usize) -> bool
@@ -207,18 +177,6 @@ pub fn has_to_be_fact(relation: usize, neg: bool, goal_mark: usize) -> bool
     ensures unlike { result ≡ true → Marks.mark_number relation neg ≢ goal_mark }
 {
     relation < OF_DIAGRAMS && mark(relation, neg) != goal_mark
-}
-
-/// Whether an instance may have at this place of the clause the goal, or a literal whose negation
-/// holds.
-fn may_hold(query: &Query, row: &Row, at: usize) -> bool
-    requires { at < length (clause_of (row_of row.now)) }
-    ensures { result ≡ false
-        → NoneHolds query.now.strength query.now.facts.now query.now.goal.now (row_of row.now) at }
-{
-    let (pattern, negated) = pattern_at(row, at);
-    let (shape, neg) = parts(pattern, negated);
-    mark(relation_of(shape), neg) == mark_of(query.goal) || may_suffice(query, !neg, shape)
 }
 
 /// The relation and the sign at a place of the clause.
@@ -254,21 +212,62 @@ pub fn may_be_goal(query: &Query, goal_mark: usize, row: &Row, place: usize) -> 
     mark_at(row, place) == goal_mark
 }
 
-/// Whether the place is the goal's, or may have the goal or a literal whose negation holds.
-fn may_be(query: &Query, row: &Row, place: usize, at: usize) -> bool
-    requires { at < length (clause_of (row_of row.now)) }
-    ensures { result ≡ false → (at ≢ place)
-        × NoneHolds query.now.strength query.now.facts.now query.now.goal.now (row_of row.now) at }
+/// Whether a fact has the relation, and the other sign.
+fn has_contrary(query: &Query, relation: usize, neg: bool) -> bool
+    requires { relation < 14 }
+    ensures { result
+        ≡ slice_index_or query.now.marks (Marks.mark_number relation (not neg)) false }
 {
-    at == place || may_hold(query, row, at)
+    query.marks[mark(relation, !neg)]
 }
 
-/// Whether at each place of the clause but this one an instance may have the goal, or a literal
-/// whose negation holds.
-pub fn may_all_hold(query: &Query, row: &Row, place: usize) -> bool
-    ensures { result ≡ false → (rule : ℕ) → slice_get table rule ≡ Some (row_of row.now)
+/// Whether the negation of a literal of sums at this place may hold: it does not where it says that
+/// areas differ, or that one is less, and there are values with which the facts are true and all
+/// areas are 0.
+fn may_follow(query: &Query, row: &Row, at: usize) -> bool
+    requires { at < length (clause_of (row_of row.now)) }
+    ensures { result ≡ false → (l : Lit) × (slice_get (clause_of (row_of row.now)) at ≡ Some l)
+        × Marks.NoneSuffices query.now.strength query.now.facts.now (negation l) }
+{
+    let Some(hints) = query.hints else {
+        return true;
+    };
+    if !hints.flat_model {
+        return true;
+    }
+    let (pattern, negated) = pattern_at(row, at);
+    let (shape, neg) = parts(pattern, negated);
+    !is_strict_of_areas(!neg, shape)
+}
+
+/// Whether an instance may have at this place of the clause the goal, which has this mark, or a
+/// literal whose negation holds.
+fn may_hold(query: &Query, goal_mark: usize, row: &Row, at: usize) -> bool
+    requires in_clause { at < length (clause_of (row_of row.now)) }
+    requires of_goal { goal_mark ≡ Marks.lit_mark query.now.goal.now }
+    ensures { result ≡ false
+        → NoneHolds query.now.strength query.now.facts.now query.now.goal.now (row_of row.now) at }
+{
+    let (relation, neg) = relation_at(row, at);
+    if mark(relation, neg) == goal_mark {
+        return true;
+    }
+    if relation < OF_DIAGRAMS {
+        return has_contrary(query, relation, neg);
+    }
+    if asks_facts(query.strength) {
+        return has_contrary(query, relation, neg);
+    }
+    may_follow(query, row, at)
+}
+
+/// Whether at each place of the clause an instance may have the goal, or a literal whose negation
+/// holds.
+pub fn may_all_hold(query: &Query, goal_mark: usize, row: &Row) -> bool
+    requires of_goal { goal_mark ≡ Marks.lit_mark query.now.goal.now }
+    ensures { result ≡ false → (rule place : ℕ) → slice_get table rule ≡ Some (row_of row.now)
         → NoneAt query.now.strength query.now.scope query.now.facts.now query.now.goal.now
         rule place }
 {
-    (0..clause_len(row)).all(|at| may_be(query, row, place, at))
+    (0..clause_len(row)).all(|at| may_hold(query, goal_mark, row, at))
 }

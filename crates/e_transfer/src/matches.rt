@@ -1,6 +1,6 @@
 //! How a goal may match a place of a clause, and what it says of the variables then.
 
-ghost use Rattle.std.specs.Prelude.{◌≡◌, ◌⊎◌, ◌++◌, map, if◌then◌else◌};
+ghost use Rattle.std.specs.Prelude.{◌≡◌, ◌≤◌, ◌⊎◌, ◌++◌, map, take, if◌then◌else◌};
 ghost use Rattle.std.specs.Prelude.{option_to_list, IfOk, OnOk, IsTrue, [], ◌∷◌};
 ghost use Rattle.e_literal.specs.Literal.{negation};
 ghost use Rattle.e_clause.specs.Views.{atom_of, lit_of_pattern, row_of};
@@ -22,25 +22,33 @@ pub type MatchList = Vec<Items<Equation>>;
 /// A term may be written in at most so many orders.
 const MOST_ORDERS: usize = 6;
 
-/// The orders in which a term may be written.
-fn orders(alloc: Global, term: Term) -> Result<Vec<Term>, AllocError>
-    ensures { IfOk result (λ v. v.items ≡ Matches.term_orders term) }
+/// The orders in which a term may be written, and how many they are: what comes after them is not
+/// meant.
+fn orders(term: Term) -> ([Term; MOST_ORDERS], usize)
+    ensures orders { take result.1 result.0 ≡ Matches.term_orders term }
+    ensures few { result.1 ≤ 6 }
 {
     match term {
-        Term::Seg(a, b) => Vec::from_slice(alloc, &[Term::Seg(a, b), Term::Seg(b, a)]),
-        Term::Ang(a, b, c) => Vec::from_slice(alloc, &[Term::Ang(a, b, c), Term::Ang(c, b, a)]),
-        Term::Area(a, b, c) => Vec::from_slice(
-            alloc,
-            &[
-                Term::Area(a, b, c),
+        Term::Seg(a, b) => {
+            let other = Term::Seg(b, a);
+            ([term, other, term, other, term, other], 2)
+        }
+        Term::Ang(a, b, c) => {
+            let other = Term::Ang(c, b, a);
+            ([term, other, term, other, term, other], 2)
+        }
+        Term::Area(a, b, c) => {
+            let orders = [
+                term,
                 Term::Area(a, c, b),
                 Term::Area(b, a, c),
                 Term::Area(b, c, a),
                 Term::Area(c, a, b),
                 Term::Area(c, b, a),
-            ],
-        ),
-        Term::Right => Vec::from_slice(alloc, &[Term::Right]),
+            ];
+            (orders, MOST_ORDERS)
+        }
+        Term::Right => ([term; MOST_ORDERS], 1),
     }
 }
 
@@ -63,7 +71,9 @@ fn add_matches(
 ) -> Result<(), AllocError>
     ensures { OnOk result (matches.new.items ≡ matches.old.items ++ matches_of_term term goal) }
 {
-    for order in &orders(alloc, goal)? {
+    let (orders, many) = orders(goal);
+    let list = &orders[..many];
+    for order in list {
         add_some(matches, equations_of_term(alloc, term, *order)?)?;
     }
     Ok(())
@@ -98,7 +108,9 @@ fn add_cancellations(
     ensures { OnOk result
         (matches.new.items ≡ matches.old.items ++ cancellations_of_terms term other) }
 {
-    for order in &orders(alloc, other)? {
+    let (orders, many) = orders(other);
+    let list = &orders[..many];
+    for order in list {
         add_some(matches, equations_of_terms(alloc, term, *order)?)?;
     }
     Ok(())

@@ -2,7 +2,7 @@
 
 ghost use Rattle.std.specs.Prelude.{◌≡◌, ◌<◌, ◌+◌, length, slice_get, IfOk, IsTrue, Some};
 ghost use Rattle.e_clause.specs.Instance.{clause_of};
-ghost use Rattle.e_clause.specs.RuleKinds.{is_transfer};
+ghost use Rattle.e_clause.specs.RuleKinds.{is_transfer, rule_count, diagram_rule_count};
 ghost use Rattle.e_clause.specs.Table.{table};
 ghost use Rattle.e_clause.specs.Views.{row_of};
 ghost use Rattle.e_transfer.specs.GivenGoals.{RuleSearchIs, NoneWithBindings};
@@ -17,7 +17,7 @@ use crate::equations::Equation;
 use crate::instance_search::InstanceSearch;
 use crate::marks::{is_equation, mark_of, may_all_hold, may_be_goal};
 use crate::matches::matches;
-use crate::order::order;
+use crate::order::{has_mark, order};
 use crate::plan::make_plan;
 use crate::query::Query;
 use crate::unify::{Binding, unify};
@@ -124,9 +124,6 @@ fn search_place(
     if !may_be_goal(query, goal_mark, row, place) {
         return Ok(Verdict::No);
     }
-    if !may_all_hold(query, row, place) {
-        return Ok(Verdict::No);
-    }
     let (pattern, negated) = pattern_at(row, place);
     let matches = matches(alloc, row, pattern, negated, query.goal)?;
     let equality = if query.hints.is_none() || is_equation(query.goal) {
@@ -169,6 +166,9 @@ fn search_rule(
         (NoneOf query.now.strength query.now.scope query.now.facts.now query.now.goal.now rule)) }
 {
     let row = rule.table_row();
+    if !may_all_hold(query, goal_mark, row) {
+        return Ok(Verdict::No);
+    }
     for place in 0..clause_len(row) {
         match search_place(alloc, query, rule, row, preferred, goal_mark, place)? {
             Verdict::No => {}
@@ -177,6 +177,26 @@ fn search_rule(
         }
     }
     Ok(Verdict::No)
+}
+
+/// The instances of the transfer clause at this place of the table that have the goal.
+fn search_clause(
+    alloc: Global,
+    query: &Query,
+    at: u8,
+    goal_mark: usize,
+) -> Result<Verdict<TransferCert>, AllocError>
+    requires in_table { diagram_rule_count + at < rule_count }
+    requires of_goal { goal_mark ≡ Marks.lit_mark query.now.goal.now }
+    requires below { goal_mark < 28 }
+    ensures { IfOk result (RuleSearchIs query.now.strength query.now.scope query.now.facts.now
+        query.now.goal.now (NoneOf query.now.strength query.now.scope query.now.facts.now
+        query.now.goal.now (diagram_rule_count + at))) }
+{
+    if !has_mark(at, goal_mark) {
+        return Ok(Verdict::No);
+    }
+    search_rule(alloc, query, Rule::transfer(at), order(at), goal_mark)
 }
 
 /// The instances of all transfer clauses that have the goal: one that gives it, or none, or one
@@ -188,7 +208,7 @@ pub fn search_rules(alloc: Global, query: &Query) -> Result<Verdict<TransferCert
 {
     let goal_mark = mark_of(query.goal);
     for at in 0..TRANSFER_RULES {
-        match search_rule(alloc, query, Rule::transfer(at), order(at), goal_mark)? {
+        match search_clause(alloc, query, at, goal_mark)? {
             Verdict::No => {}
             Verdict::Yes(cert) => return Ok(Verdict::Yes(cert)),
             Verdict::TooWide(width) => return Ok(Verdict::TooWide(width)),

@@ -4,4 +4,4 @@ use Rattle.e_transfer.specs.inner.Equations.{equations_from_terms}
 use Rattle.e_transfer.proofs.matches.add_cancellations.Given as goal
 
 abbrev pub invariant-loop-order : goal.invariant-loop-order
-invariant-loop-order l = l.matches.items ≡ l.initial.matches.items ++ flat_map (λ order. option_to_list (equations_from_terms l.term order)) (take l.order-index l.order-items)
+invariant-loop-order l = l.matches.items ≡ l.initial.matches.items ++ flat_map (λ order. option_to_list (equations_from_terms l.term order)) (take l.order-index l.list)

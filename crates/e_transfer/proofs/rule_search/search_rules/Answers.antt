@@ -1,4 +1,4 @@
-use Rattle.std.proofs.Common.{below_more, subst, ℕ}
+use Rattle.std.proofs.Common.{below_more, ◌+◌}
 use Rattle.e_transfer.specs.GivenGoals.{NoneOf}
 use Rattle.e_transfer.proofs.RuleSearches.{none_gives, search_nothing}
 use Rattle.e_transfer.proofs.rule_search.search_rules.Goals as goal
@@ -6,9 +6,9 @@ use Rattle.e_transfer.proofs.rule_search.search_rules.Goals as goal
 pub loop-at-preserved : goal.loop-at-preserved
 loop-at-preserved c =
     let s = c.args.query.now in
-    let none = search_nothing s.strength s.scope s.facts.now s.goal.now (NoneOf s.strength s.scope s.facts.now s.goal.now c.transfer.result)
-    c.in_ok-search_rule.field-0 c.in-No.is c.in_ok-search_rule.ensures in
-    below_more _ _ c.loop-at.invariant (subst (λ (r : ℕ). NoneOf s.strength s.scope s.facts.now s.goal.now r) c.transfer.ensures none)
+    below_more _ _ c.loop-at.invariant
+    (search_nothing s.strength s.scope s.facts.now s.goal.now (NoneOf s.strength s.scope s.facts.now s.goal.now (76 + c.loop-at.at))
+    c.in_ok-search_clause.field-0 c.in-No.is c.in_ok-search_clause.ensures)
 
 pub returns : goal.returns
 returns c =
