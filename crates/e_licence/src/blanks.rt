@@ -24,7 +24,7 @@ use crate::verdicts::Verdicts;
 use e_literal::{Items, Lit, Map, NOTHING, Obj, Scope, count, next_objects, with_images};
 use e_metric::{MetricFacts, StepFacts};
 use e_theorem::Statement;
-use e_transfer::{Prepared, Span, Task, Verdict, is_well_formed_in, prepare, search};
+use e_transfer::{CANDIDATES, Prepared, Span, Task, Verdict, is_well_formed_in, prepare, search};
 use std::alloc::{AllocError, Global};
 use std::mem;
 
@@ -499,5 +499,9 @@ impl<'a> Task for Blanks<'a> {
             Verdict::No => Ok(Verdict::No),
             Verdict::TooWide(width) => Ok(Verdict::TooWide(width)),
         }
+    }
+
+    fn candidates(&self, _part: &[u16], _span: Span) -> Option<[bool; CANDIDATES]> {
+        None
     }
 }

@@ -13,7 +13,7 @@ use crate::blanks::{Blanks, images};
 use crate::ready::Ready;
 use crate::verdicts::Verdicts;
 use e_literal::{Items, Lit};
-use e_transfer::{Span, Task, Verdict};
+use e_transfer::{CANDIDATES, Span, Task, Verdict};
 use std::alloc::{AllocError, Global};
 
 /// A search for choices, where some numbers are passed over.
@@ -245,5 +245,9 @@ impl<'a> Task for BlankSearch<'a> {
             return Ok(Verdict::No);
         }
         self.blanks.check(alloc, memory, part)
+    }
+
+    fn candidates(&self, _part: &[u16], _span: Span) -> Option<[bool; CANDIDATES]> {
+        None
     }
 }

@@ -17,6 +17,7 @@ pub mod ModelValues
 pub mod MarkedFacts
 pub mod Listings
 pub mod BoundFacts
+pub mod NextNumbers
 pub mod MarkedSums
 pub mod FreeAreas
 pub mod UnlistedAngles

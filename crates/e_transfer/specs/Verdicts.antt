@@ -1,5 +1,5 @@
 -- What a check and a search answer.
-use Rattle.std.specs.Prelude.{◌≡◌, ℕ, List, ◌++◌}
+use Rattle.std.specs.Prelude.{◌≡◌, ℕ, List, ◌∷◌, ◌++◌, Bool, false, Option, Some, None, slice_get}
 use Rattle.e_transfer.specs.declared.walk.Span.{Span}
 use Rattle.e_transfer.specs.declared.walk.Verdict.{Verdict}
 use Rattle.e_transfer.specs.declared.walk.Verdict.TheVariants as verdict
@@ -26,3 +26,13 @@ SearchIs kept shown wide wanted spans before after verdict.No =
 SearchIs kept shown wide wanted spans before after (verdict.TooWide w) =
     (c : List ℕ) × Starts spans c × (after ≡ before ++ c) × wide after w
     × NoneBelow wanted before spans c
+
+-- the number is marked false
+abbrev pub IsExcluded : Option (List Bool) → ℕ → Type 0
+IsExcluded None n = ⊥
+IsExcluded (Some marks) n = slice_get marks n ≡ Some false
+
+-- no choice is wanted that begins with the part and goes on with such a number
+abbrev pub Excludes : (List ℕ → Type 0) → List ℕ → Option (List Bool) → Type 0
+Excludes wanted part marks =
+    (n : ℕ) → IsExcluded marks n → (rest : List ℕ) → wanted (part ++ n ∷ rest) → ⊥

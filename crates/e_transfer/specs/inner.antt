@@ -8,3 +8,4 @@ pub mod SearchedPlaces
 pub mod Angles
 pub mod BoundFacts
 pub mod ClauseMarks
+pub mod Candidates

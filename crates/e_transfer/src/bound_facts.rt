@@ -21,7 +21,7 @@ use crate::query::Query;
 use e_clause::{Row, Shape};
 
 /// What is known of the numbers of a literal.
-type Known = (Option<u16>, Option<u16>, Option<u16>);
+pub type Known = (Option<u16>, Option<u16>, Option<u16>);
 
 /// The number of a variable, if the equations give it one.
 fn known(equations: &[Equation], variable: usize) -> Option<u16>
@@ -90,12 +90,12 @@ fn known_at(row: &Row, es: &[Equation], at: usize) -> Known
 
 // Whether nothing is known: else what the relations of the facts tell is all that is known. It is a
 // matter of speed alone.
-fn is_unknown(known: Known) -> bool {
+pub fn is_unknown(known: Known) -> bool {
     known.0.is_none() && known.1.is_none() && known.2.is_none()
 }
 
 /// Whether the numbers are those that are known.
-fn fits(known: Known, numbers: Triple) -> bool
+pub fn fits(known: Known, numbers: Triple) -> bool
     ensures { result ≡ BoundFacts.fits known numbers }
 {
     may_be(known.0, numbers.0) && (may_be(known.1, numbers.1) && may_be(known.2, numbers.2))

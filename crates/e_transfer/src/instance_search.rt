@@ -12,20 +12,26 @@ ghost use Rattle.e_clause.specs.Instance.{clause_of, lit_at};
 ghost use Rattle.e_transfer.specs.GivenGoals.{IsFittingLiteral, IsWideTransfer, Suffices};
 ghost use Rattle.e_transfer.specs.declared.query.Strength.TheVariants as strength;
 ghost use Rattle.e_transfer.specs.Areas;
+ghost use Rattle.e_transfer.specs.Marks;
 ghost use Rattle.e_transfer.specs.Marks.{is_area_term, relation_number};
+ghost use Rattle.e_transfer.specs.Verdicts.{Excludes};
 ghost use Rattle.e_transfer.specs.inner.Angles.{NeverDiffer};
 ghost use Rattle.e_transfer.specs.inner.PartsOfChoices.{arguments_by};
 ghost use Rattle.e_transfer.specs.inner.SearchedPlaces.{Wanted, NoneFrom, Shown};
 
 use crate::angles::is_unlisted;
 use crate::areas::{Equality, equal_terms, is_one_of};
+use crate::bound_facts::is_unknown;
+use crate::candidates::{known_numbers, next_of, seen_numbers, variables_at};
 use crate::clause::{clause_len, pattern_at};
 use crate::instance_check::{check_instance, is_refuted};
-use crate::marks::{is_area, is_equation, parts};
+use crate::marks::{
+    has_to_be_fact, is_area, is_equality_of_points, is_equation, mark, mark_of, parts, relation_at,
+};
 use crate::numbers::Numbers;
 use crate::plan::{Plan, last_of_term};
 use crate::query::{Query, Strength, asks_facts};
-use crate::walk::{Task, Verdict};
+use crate::walk::{CANDIDATES, Span, Task, Verdict};
 use e_clause::{Row, Rule, TransferCert};
 use e_literal::{Lit, Term, is_degenerate, kind, negate, same};
 use std::alloc::{AllocError, Global};
@@ -331,6 +337,34 @@ impl<'a> InstanceSearch<'a> {
         }
         Ok(true)
     }
+
+    /// The numbers that may come next with which the literal at a place of the clause may hold, if
+    /// it has to be a fact and another number of it is known.
+    fn seen_at(&self, numbers: &Numbers, goal_mark: usize, j: usize) -> Option<[bool; CANDIDATES]>
+        requires of_table { slice_get table self.now.rule ≡ Some (row_of numbers.now.row.now) }
+        requires places { numbers.now.positions.now ≡ self.now.plan.now.positions.items }
+        requires of_goal { goal_mark ≡ Marks.lit_mark self.now.query.goal.now }
+        requires in_clause { j < length (clause_of (row_of numbers.now.row.now)) }
+        ensures { Excludes (Wanted self.now.query.strength self.now.query.scope
+            self.now.query.facts.now self.now.query.goal.now self.now.rule self.now.place
+            self.now.plan.now) numbers.now.part.now result }
+    {
+        let Some(hints) = self.query.hints else {
+            return None;
+        };
+        let (relation, neg) = relation_at(numbers.row, j);
+        if is_equality_of_points(relation) || !has_to_be_fact(relation, neg, goal_mark) {
+            return None;
+        }
+        let variables = variables_at(numbers.row, j);
+        let place = next_of(numbers, variables)?;
+        let known = known_numbers(numbers, variables);
+        if is_unknown(known) {
+            return None;
+        }
+        let triples = hints.listing[mark(relation, !neg)].items();
+        Some(seen_numbers(known, place, triples))
+    }
 }
 
 impl<'a> Task for InstanceSearch<'a> {
@@ -382,5 +416,22 @@ impl<'a> Task for InstanceSearch<'a> {
             Verdict::No => Ok(Verdict::No),
             Verdict::TooWide(width) => Ok(Verdict::TooWide(width)),
         }
+    }
+
+    fn candidates(&self, part: &[u16], span: Span) -> Option<[bool; CANDIDATES]> {
+        if span.from.saturating_add(1) < span.to {
+            let numbers = Numbers {
+                row: self.row,
+                positions: &self.plan.positions,
+                part,
+            };
+            let goal_mark = mark_of(self.query.goal);
+            for j in 0..clause_len(self.row) {
+                if let Some(seen) = self.seen_at(&numbers, goal_mark, j) {
+                    return Some(seen);
+                }
+            }
+        }
+        None
     }
 }

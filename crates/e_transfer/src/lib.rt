@@ -9,6 +9,7 @@
 mod angles;
 mod areas;
 mod bound_facts;
+mod candidates;
 mod clause;
 mod conditions;
 mod equations;
@@ -32,4 +33,4 @@ mod walk;
 pub use conditions::{are_limited_facts, is_well_formed_in};
 pub use finding::{Found, find, find_by_facts, find_prepared};
 pub use prepared::{Prepared, prepare};
-pub use walk::{Span, Task, Verdict, search};
+pub use walk::{CANDIDATES, Span, Task, Verdict, search};

@@ -123,6 +123,11 @@ pub fn is_equation(lit: &Lit) -> bool
     mark_of(lit) == mark(EQUAL_SUMS, false)
 }
 
+// Whether the relation is the equality of points. It is a matter of speed alone.
+pub fn is_equality_of_points(relation: usize) -> bool {
+    relation == EQUAL_POINTS
+}
+
 /// The marks of the facts.
 pub fn marks_of(facts: &Facts) -> [bool; MARKS]
     ensures { IsTrue (are_marked result facts.now) }

@@ -1,7 +1,8 @@
 //! A complete search for the least good choice, one number at each of a list of places.
 
 ghost use Rattle.std.specs.Prelude.{◌≡◌, ◌++◌, ℕ, List, IfOk, OnOk, OnErr, ◌<◌, length};
-ghost use Rattle.e_transfer.specs.Verdicts.{VerdictIs, SearchIs};
+ghost use Rattle.std.specs.Prelude.{slice_get, Some, false};
+ghost use Rattle.e_transfer.specs.Verdicts.{VerdictIs, SearchIs, Excludes, IsExcluded};
 
 use std::alloc::{AllocError, Global};
 use std::mem;
@@ -23,6 +24,9 @@ pub enum Verdict<P> {
     /// It cannot be decided: something here is too wide, and has this width.
     TooWide(u128),
 }
+
+/// Of so many of the least numbers is known whether they may come next.
+pub const CANDIDATES: usize = 64;
 
 /// What is searched for among choices, and how their first numbers are checked.
 pub trait Task {
@@ -57,6 +61,27 @@ pub trait Task {
         ensures verdict { IfOk result (VerdictIs (kept self.now) (shown self.now) (wide self.now)
             (wanted self.now) part.now) }
         ensures memory { OnOk result (right self.now memory.new) };
+
+    // Of each of the least numbers whether it may come next, if that is known.
+    fn candidates(&self, part: &[u16], span: Span) -> Option<[bool; CANDIDATES]>
+        ensures { Excludes (wanted self.now) part.now result };
+}
+
+/// Whether the number may come next, by what is known of the least numbers.
+fn is_candidate(candidates: &Option<[bool; CANDIDATES]>, number: u16) -> bool
+    ensures { result ≡ false → IsExcluded candidates.now number }
+{
+    match candidates {
+        Some(marks) => is_marked(marks, number),
+        None => true,
+    }
+}
+
+fn is_marked(marks: &[bool; CANDIDATES], number: u16) -> bool
+    ensures { result ≡ false → slice_get marks.now number ≡ Some false }
+{
+    let at = usize::from(number);
+    at >= CANDIDATES || marks[at]
 }
 
 /// The least choice that begins with `chosen`, goes on with one number of each span, and whose
@@ -86,14 +111,17 @@ pub fn search<T: Task>(
         [] => Ok(Verdict::Yes(proof)),
         [span, rest @ ..] => {
             mem::drop(proof);
+            let candidates = task.candidates(chosen, *span);
             for value in span.from..span.to {
-                chosen.push(value)?;
-                match search(alloc, task, memory, rest, chosen)? {
-                    Verdict::No => {}
-                    Verdict::Yes(proof) => return Ok(Verdict::Yes(proof)),
-                    Verdict::TooWide(width) => return Ok(Verdict::TooWide(width)),
+                if is_candidate(&candidates, value) {
+                    chosen.push(value)?;
+                    match search(alloc, task, memory, rest, chosen)? {
+                        Verdict::No => {}
+                        Verdict::Yes(proof) => return Ok(Verdict::Yes(proof)),
+                        Verdict::TooWide(width) => return Ok(Verdict::TooWide(width)),
+                    }
+                    chosen.pop();
                 }
-                chosen.pop();
             }
             Ok(Verdict::No)
         }
