@@ -1,6 +1,6 @@
 -- An area that no fact names may be of any size.
-use Rattle.std.proofs.Common.{◌≡◌, ◌≢◌, ℕ, zero, suc, ◌+◌, ◌*◌, ◌<◌, ◌≤◌, List, [], ◌∷◌, ◌++◌, refl, sym, ap, ◌∙◌, subst, arith, Bool, true, false, cond, not, ◌&&◌, ◌||◌, true≢false, eqb, eq-eqb, get_or, length, map, take, inl, inr, Some}
-use Rattle.std.specs.Prelude.{slice_get}
+use Rattle.std.proofs.Common.{◌≡◌, ◌≢◌, ℕ, zero, suc, ◌+◌, ◌*◌, ◌<◌, ◌≤◌, List, [], ◌∷◌, ◌++◌, refl, sym, ap, ◌∙◌, subst, arith, Bool, true, false, cond, not, ◌&&◌, ◌||◌, true≢false, eqb, eq-eqb, get_or, length, map, take, inl, inr, Option, Some, None}
+use Rattle.std.specs.Prelude.{slice_get, IfSome}
 use Rattle.std.specs.List.{list_any}
 use Rattle.std.proofs.lemmas.Bool.{and_from, or_cases, or_left, or_right, cases_Bool}
 use Rattle.std.proofs.lemmas.List.{take_all, map-append}
@@ -33,9 +33,10 @@ use Rattle.e_transfer.specs.Models.{value_in_list, is_flattened, value_when_cano
 use Rattle.e_clause.specs.Metric.{MetricConsequence}
 use Rattle.e_clause.specs.Views.{row_of}
 use Rattle.e_transfer.specs.declared.numbers.Numbers.{Numbers}
-use Rattle.e_transfer.specs.inner.Angles.{later_number, NeverDiffer}
+use Rattle.e_transfer.specs.inner.ListedTerms.{later_number, Differ, NeverDiffer, NeverDifferUnseen}
+use Rattle.e_transfer.specs.Verdicts.{Excludes}
 use Rattle.e_transfer.specs.inner.PartsOfChoices.{arguments_by, chosen_arguments, term_last}
-use Rattle.e_transfer.specs.inner.SearchedPlaces.{NoneFrom}
+use Rattle.e_transfer.specs.inner.SearchedPlaces.{Wanted, NoneFrom}
 use Rattle.e_transfer.proofs.Instances.{of_instance, at_map, number_kept, term_kept}
 use Rattle.e_transfer.proofs.MarkedFacts.{mark_alike, sufficient_follows, fits_area, area_at}
 use Rattle.e_transfer.proofs.ModelValues.{refuted}
@@ -160,12 +161,12 @@ free_never_differ facts n t other second less free coeff rest follows =
     (λ v below. number_kept (row_of n.row.now) n.positions.now n.part.now rest v below) t less in
     subst (IsFree facts) (sym one) free coeff (term_at (later_number n rest) other) (area_at (later_number n rest) other second) follows
 
--- no choice is wanted that begins so, where the clause says at a place that two terms are equal, and they never differ
-pub none_where_equal : (m : Strength) (scope : Scope) (facts : List Lit) (goal : Lit) (rule place at coeff : ℕ) (plan : Plan) (n : Numbers) (t other : Term)
+-- a choice is not wanted where the clause says at a place that two terms are equal, and they do not differ
+pub unwanted_where_equal : (m : Strength) (scope : Scope) (facts : List Lit) (goal : Lit) (rule place at coeff : ℕ) (plan : Plan) (n : Numbers) (t other : Term) (rest : List ℕ)
     → slice_get table rule ≡ Some (row_of n.row.now) → n.positions.now ≡ plan.positions.items
     → slice_get (clause_of (row_of n.row.now)) at ≡ Some (record { neg = false; atom = MagEq (record { coeff = coeff; term = t } ∷ []) (record { coeff = coeff; term = other } ∷ []) })
-    → eqb at place ≡ false → lit_mark goal ≢ mark_number 12 false → NeverDiffer facts n t other → NoneFrom m scope facts goal rule place plan n.part.now
-none_where_equal m scope facts goal rule place at coeff plan n t other of_table places here apart unlike never rest wanted =
+    → eqb at place ≡ false → lit_mark goal ≢ mark_number 12 false → (Differ facts n rest coeff t other → ⊥) → Wanted m scope facts goal rule place plan (n.part.now ++ rest) → ⊥
+unwanted_where_equal m scope facts goal rule place at coeff plan n t other rest of_table places here apart unlike never wanted =
     let r = row_of n.row.now in
     let with_places = λ (ps : List ℕ). number (chosen_arguments r ps (n.part.now ++ rest)) in
     let all = chosen_arguments r plan.positions.items (n.part.now ++ rest) in
@@ -178,10 +179,27 @@ none_where_equal m scope facts goal rule place at coeff plan n t other of_table 
     elim fits [
       | inl same ↦ unlike (sym (mark_alike (lit_at r all l) goal same))
       | inr enough ↦
-          never coeff rest
+          never
           (subst (λ (ps : List ℕ). MetricConsequence facts (record { neg = true; atom = MagEq (record { coeff = coeff; term = term_at (with_places ps) t } ∷ []) (record { coeff = coeff; term = term_at (with_places ps) other } ∷ []) })) (sym places)
           (sufficient_follows m facts (record { neg = true; atom = MagEq (record { coeff = coeff; term = term_at (number all) t } ∷ []) (record { coeff = coeff; term = term_at (number all) other } ∷ []) }) refl enough))
     ]
+
+-- so none is that begins so, where they never differ
+pub none_where_equal : (m : Strength) (scope : Scope) (facts : List Lit) (goal : Lit) (rule place at coeff : ℕ) (plan : Plan) (n : Numbers) (t other : Term)
+    → slice_get table rule ≡ Some (row_of n.row.now) → n.positions.now ≡ plan.positions.items
+    → slice_get (clause_of (row_of n.row.now)) at ≡ Some (record { neg = false; atom = MagEq (record { coeff = coeff; term = t } ∷ []) (record { coeff = coeff; term = other } ∷ []) })
+    → eqb at place ≡ false → lit_mark goal ≢ mark_number 12 false → NeverDiffer facts n t other → NoneFrom m scope facts goal rule place plan n.part.now
+none_where_equal m scope facts goal rule place at coeff plan n t other of_table places here apart unlike never = λ rest.
+    unwanted_where_equal m scope facts goal rule place at coeff plan n t other rest of_table places here apart unlike (never coeff rest)
+
+-- nor one that goes on with a number that is marked false, where they do not differ with such a one
+pub excluded_where_equal : (m : Strength) (scope : Scope) (facts : List Lit) (goal : Lit) (rule place at coeff : ℕ) (plan : Plan) (n : Numbers) (t other : Term) (seen : Option (List Bool))
+    → slice_get table rule ≡ Some (row_of n.row.now) → n.positions.now ≡ plan.positions.items
+    → slice_get (clause_of (row_of n.row.now)) at ≡ Some (record { neg = false; atom = MagEq (record { coeff = coeff; term = t } ∷ []) (record { coeff = coeff; term = other } ∷ []) })
+    → eqb at place ≡ false → lit_mark goal ≢ mark_number 12 false → IfSome seen (NeverDifferUnseen facts n t other) → Excludes (Wanted m scope facts goal rule place plan) n.part.now seen
+excluded_where_equal m scope facts goal rule place at coeff plan n t other None of_table places here apart unlike never = λ next out. absurd out
+excluded_where_equal m scope facts goal rule place at coeff plan n t other (Some seen) of_table places here apart unlike never = λ next out rest.
+    unwanted_where_equal m scope facts goal rule place at coeff plan n t other (next ∷ rest) of_table places here apart unlike (never next out coeff rest)
 
 -- ---- which areas the facts name
 

@@ -20,5 +20,5 @@ pub mod BoundFacts
 pub mod NextNumbers
 pub mod MarkedSums
 pub mod FreeAreas
-pub mod UnlistedAngles
+pub mod ListedTerms
 pub mod PreparedFacts

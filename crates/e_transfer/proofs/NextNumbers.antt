@@ -12,6 +12,7 @@ use Rattle.e_literal.specs.declared.literal.Atom.{Atom}
 use Rattle.e_literal.specs.declared.literal.Atom.TheVariants.{On, OnC, Inside, Center, Between, Same, MeetLL, MeetLC, MeetCC, EqP, EqL, EqC, MagEq, MagLt}
 use Rattle.e_literal.specs.declared.literal.Lit.{Lit}
 use Rattle.e_literal.specs.declared.object.Scope.{Scope}
+use Rattle.e_literal.specs.declared.object.Term.{Term}
 use Rattle.e_literal.specs.Facts.{has}
 use Rattle.e_literal.specs.Rename.{atom_at}
 use Rattle.e_literal.specs.Same.{same_neg, same_atom, same_lit}
@@ -19,8 +20,10 @@ use Rattle.e_literal.proofs.Booleans.{and_left, and_right}
 use Rattle.e_clause.specs.Instance.{number, line_arg, circle_arg, lit_at, clause_of}
 use Rattle.e_clause.specs.Rows.{Row}
 use Rattle.e_clause.specs.Table.{table}
+use Rattle.e_clause.specs.Views.{row_of}
 use Rattle.e_transfer.specs.declared.candidates.Slot.{Slot}
 use Rattle.e_transfer.specs.declared.candidates.Slot.TheVariants as slot
+use Rattle.e_transfer.specs.declared.numbers.Numbers.{Numbers}
 use Rattle.e_transfer.specs.declared.plan.Plan.{Plan}
 use Rattle.e_transfer.specs.declared.query.Strength.{Strength}
 use Rattle.e_transfer.specs.GivenGoals.{IsFittingLiteral}
@@ -29,7 +32,8 @@ use Rattle.e_transfer.specs.Marks.{relation_number, mark_number, lit_mark}
 use Rattle.e_transfer.specs.Verdicts.{Excludes}
 use Rattle.e_transfer.specs.inner.Angles.{may_be}
 use Rattle.e_transfer.specs.inner.BoundFacts.{fits, may_be_among}
-use Rattle.e_transfer.specs.inner.Candidates.{variables_of_atom, known_number, known_numbers, is_next, option_at, number_at, with_option, AreSeen, number_by, numbers_by}
+use Rattle.e_transfer.specs.inner.Candidates.{variables_of_atom, variables_of_term, known_number, known_numbers, is_next, option_at, number_at, with_option, AreSeen, number_by, numbers_by}
+use Rattle.e_transfer.specs.inner.ListedTerms.{later_number, later_points, are_same_points, AreSeenPoints}
 use Rattle.e_transfer.specs.inner.PartsOfChoices.{chosen_arguments}
 use Rattle.e_transfer.specs.inner.SearchedPlaces.{Wanted}
 use Rattle.e_transfer.proofs.Instances.{of_instance, at_map, chosen}
@@ -233,3 +237,48 @@ unseen m scope facts goal rule place plan r part j l s triples seen at here low 
           (sym (ap (λ x. may_be_among (mark_number x (not l.neg)) k facts) (sym still)
           ∙ among (not l.neg) a k facts (omega (arith, low, still)) so (fact_of m facts (record { neg = not l.neg; atom = a }) (inr (omega (arith, low, still))) enough)) ∙ none)
     ]
+
+-- ---- the points of a term
+
+same_numbers : (t u : ℕ × ℕ × ℕ) → are_same_points t u ≡ true → t ≡ u
+same_numbers t u same = three_alike t.0 t.1 t.2 u.0 u.1 u.2 same
+
+-- those that fit none are none of these
+none_same : (t : ℕ × ℕ × ℕ) (k : Known) (points : List (ℕ × ℕ × ℕ)) → fits k t ≡ true → list_any (fits k) points ≡ false → list_any (are_same_points t) points ≡ false
+none_same t k [] so none = refl
+none_same t k (p ∷ ps) so none =
+    or_from (are_same_points t p) (list_any (are_same_points t) ps)
+    (elim (cases_Bool (are_same_points t p)) [
+      | inr other ↦ other
+      | inl same ↦ absurd (true≢false (sym (or_left (fits k p) (list_any (fits k) ps) (subst (λ (u : ℕ × ℕ × ℕ). fits k u ≡ true) (same_numbers t p same) so)) ∙ none))
+    ])
+    (none_same t k ps so (or_rest (fits k p) (list_any (fits k) ps) none))
+  where
+    or_rest : (a b : Bool) → (a || b) ≡ false → b ≡ false
+    or_rest true b e = absurd (true≢false e)
+    or_rest false b e = e
+
+module _ (n : Numbers) (t : Term) (s : Slot) (next : is_next n.positions.now n.part.now (option_at s (variables_of_term t)) ≡ true) where
+  abbrev vs : Option ℕ × Option ℕ × Option ℕ
+  vs = variables_of_term t
+
+  pub points_seen : (points : List (ℕ × ℕ × ℕ)) (seen : List Bool) → AreSeen (known_numbers n.positions.now n.part.now vs) s points seen → AreSeenPoints points n t seen
+  points_seen points seen are = λ k out rest.
+      none_same (later_points n (k ∷ rest) t) (with_option s (Some k) (known_numbers n.positions.now n.part.now vs)) points
+      (with_next (row_of n.row.now) n.positions.now n.part.now k rest s vs next) (are k out)
+
+  -- the first number and the second are not one
+  known_is : (k : ℕ) (rest : List ℕ) (v : Option ℕ) (a : ℕ) → known_number n.positions.now n.part.now v ≡ Some a → number_by (later_number n (k ∷ rest)) v ≡ a
+  known_is k rest v a is =
+      sym (eqb-true a (number_by (later_number n (k ∷ rest)) v)
+      (subst (λ (o : Option ℕ). may_be o (number_by (later_number n (k ∷ rest)) v) ≡ true) is (known_fits (row_of n.row.now) n.positions.now n.part.now k rest v)))
+
+  pub first_apart : (a k : ℕ) (rest : List ℕ) → s ≡ slot.First → known_number n.positions.now n.part.now vs.1 ≡ Some a → k ≢ a
+      → (later_points n (k ∷ rest) t).0 ≢ (later_points n (k ∷ rest) t).1
+  first_apart a k rest first is other same =
+      other (sym (next_is (row_of n.row.now) n.positions.now n.part.now k rest vs.0 (subst (λ (q : Slot). is_next n.positions.now n.part.now (option_at q vs) ≡ true) first next)) ∙ same ∙ known_is k rest vs.1 a is)
+
+  pub second_apart : (a k : ℕ) (rest : List ℕ) → s ≡ slot.Second → known_number n.positions.now n.part.now vs.0 ≡ Some a → k ≢ a
+      → (later_points n (k ∷ rest) t).0 ≢ (later_points n (k ∷ rest) t).1
+  second_apart a k rest second is other same =
+      other (sym (next_is (row_of n.row.now) n.positions.now n.part.now k rest vs.1 (subst (λ (q : Slot). is_next n.positions.now n.part.now (option_at q vs) ≡ true) second next)) ∙ (sym same ∙ known_is k rest vs.0 a is))

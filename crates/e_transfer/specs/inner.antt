@@ -9,3 +9,4 @@ pub mod Angles
 pub mod BoundFacts
 pub mod ClauseMarks
 pub mod Candidates
+pub mod ListedTerms

@@ -1,74 +1,74 @@
-//! Angles that no values list: with these values two such angles are equal.
+//! Angles and segments that values list, by their points.
 
-ghost use Rattle.std.specs.Prelude.{◌≡◌, ◌++◌, ℕ, List, IfOk, OnOk, true};
-ghost use Rattle.std.specs.List.{list_any};
-ghost use Rattle.e_transfer.specs.inner.Angles;
-ghost use Rattle.e_transfer.specs.inner.Angles.{IsUnlisted};
+ghost use Rattle.std.specs.Prelude.{◌≡◌, ◌++◌, IfOk, OnOk};
+ghost use Rattle.e_transfer.specs.inner.ListedTerms;
 
-use crate::numbers::Numbers;
+use crate::listing::Triple;
 use e_literal::Term;
 use std::alloc::{AllocError, Global};
 
-/// Whether a number may be this one, by what is known of it.
-pub fn may_be(known: Option<u16>, number: u16) -> bool
-    ensures { result ≡ Angles.may_be known number }
+/// Adds the points of an angle, in both orders.
+fn add_angle(points: &mut Vec<Triple>, term: Term) -> Result<(), AllocError>
+    ensures { OnOk result (points.new.items ≡ points.old.items ++ ListedTerms.angle_points term) }
 {
-    match known {
-        Some(known) => known == number,
-        None => true,
-    }
-}
-
-/// Whether the term may be an angle of whose points this is known, in one order or the other.
-fn may_be_angle(x: Option<u16>, y: Option<u16>, z: Option<u16>, term: Term) -> bool
-    ensures { result ≡ Angles.may_be_angle x y z term }
-{
-    match term {
-        Term::Ang(p, q, r) => {
-            may_be(y, q) && ((may_be(x, p) && may_be(z, r)) || (may_be(x, r) && may_be(z, p)))
-        }
-        _ => false,
-    }
-}
-
-fn add_angle(angles: &mut Vec<Term>, term: Term) -> Result<(), AllocError>
-    ensures { OnOk result (angles.new.items ≡ angles.old.items ++ Angles.angle_if term) }
-{
-    if let Term::Ang(_, _, _) = term {
-        angles.push(term)?;
+    if let Term::Ang(a, b, c) = term {
+        points.push((a, b, c))?;
+        points.push((c, b, a))?;
     }
     Ok(())
 }
 
-/// The angles that the values list.
-pub fn angles_of(alloc: Global, values: &[(Term, u128)]) -> Result<Vec<Term>, AllocError>
-    ensures { IfOk result (λ v. v.items ≡ Angles.angles_of values.now) }
+/// Adds the points of a segment, in both orders.
+fn add_segment(points: &mut Vec<Triple>, term: Term) -> Result<(), AllocError>
+    ensures { OnOk result (points.new.items ≡ points.old.items ++ ListedTerms.segment_points term) }
 {
-    let mut angles = Vec::new(alloc);
-    for pair in values {
-        add_angle(&mut angles, pair.0)?;
+    if let Term::Seg(a, b) = term {
+        points.push((a, b, 0))?;
+        points.push((b, a, 0))?;
     }
-    Ok(angles)
+    Ok(())
 }
 
-/// Whether an angle of whose points this is known may be one of these.
-fn may_be_listed(x: Option<u16>, y: Option<u16>, z: Option<u16>, angles: &[Term]) -> bool
-    ensures { result ≡ list_any (Angles.may_be_angle x y z) angles.now }
+/// Adds the points of a segment that is 0.
+fn add_if_zero(points: &mut Vec<Triple>, term: Term, value: u128) -> Result<(), AllocError>
+    ensures { OnOk result
+        (points.new.items ≡ points.old.items ++ ListedTerms.zero_points (term, value)) }
 {
-    angles.iter().any(|term| may_be_angle(x, y, z, *term))
+    if value == 0 {
+        add_segment(points, term)?;
+    }
+    Ok(())
 }
 
-/// Whether the term is an angle that values do not list, whatever numbers come next, where these
-/// are the angles that they list.
-pub fn is_unlisted(numbers: &Numbers, angles: &[Term], term: Term) -> bool
-    ensures { result ≡ true → (values : List (Term × ℕ)) → angles.now ≡ Angles.angles_of values
-        → IsUnlisted values numbers.now term }
+/// The points of the angles that the values list, in both orders.
+pub fn angles_of(alloc: Global, values: &[(Term, u128)]) -> Result<Vec<Triple>, AllocError>
+    ensures { IfOk result (λ v. v.items ≡ ListedTerms.angles_of values.now) }
 {
-    let Term::Ang(x, y, z) = term else {
-        return false;
-    };
-    let first = numbers.known(x);
-    let vertex = numbers.known(y);
-    let last = numbers.known(z);
-    !may_be_listed(first, vertex, last, angles)
+    let mut points = Vec::new(alloc);
+    for pair in values {
+        add_angle(&mut points, pair.0)?;
+    }
+    Ok(points)
+}
+
+/// The points of the segments that the values list, in both orders.
+pub fn segments_of(alloc: Global, values: &[(Term, u128)]) -> Result<Vec<Triple>, AllocError>
+    ensures { IfOk result (λ v. v.items ≡ ListedTerms.segments_of values.now) }
+{
+    let mut points = Vec::new(alloc);
+    for pair in values {
+        add_segment(&mut points, pair.0)?;
+    }
+    Ok(points)
+}
+
+/// The points of the segments for which the values list 0, in both orders.
+pub fn zero_segments_of(alloc: Global, values: &[(Term, u128)]) -> Result<Vec<Triple>, AllocError>
+    ensures { IfOk result (λ v. v.items ≡ ListedTerms.zero_segments_of values.now) }
+{
+    let mut points = Vec::new(alloc);
+    for pair in values {
+        add_if_zero(&mut points, pair.0, pair.1)?;
+    }
+    Ok(points)
 }

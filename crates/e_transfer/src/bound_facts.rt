@@ -9,10 +9,10 @@ ghost use Rattle.e_clause.specs.Table.{table};
 ghost use Rattle.e_clause.specs.Views.{atom_of, row_of};
 ghost use Rattle.e_transfer.specs.GivenGoals.{NoneWithEquations};
 ghost use Rattle.e_transfer.specs.Marks;
+ghost use Rattle.e_transfer.specs.inner.Angles;
 ghost use Rattle.e_transfer.specs.inner.BoundFacts;
 ghost use Rattle.e_transfer.specs.inner.BoundFacts.{NoneHoldsWith};
 
-use crate::angles::may_be;
 use crate::clause::{clause_len, pattern_at};
 use crate::equations::Equation;
 use crate::listing::{Triple, numbers_of};
@@ -92,6 +92,16 @@ fn known_at(row: &Row, es: &[Equation], at: usize) -> Known
 // matter of speed alone.
 pub fn is_unknown(known: Known) -> bool {
     known.0.is_none() && known.1.is_none() && known.2.is_none()
+}
+
+/// Whether a number may be this one, by what is known of it.
+fn may_be(known: Option<u16>, number: u16) -> bool
+    ensures { result ≡ Angles.may_be known number }
+{
+    match known {
+        Some(known) => known == number,
+        None => true,
+    }
 }
 
 /// Whether the numbers are those that are known.

@@ -8,6 +8,7 @@ ghost use Rattle.e_clause.specs.Views.{atom_of, row_of};
 ghost use Rattle.e_transfer.specs.inner.Candidates;
 ghost use Rattle.e_transfer.specs.inner.Equations;
 ghost use Rattle.e_transfer.specs.inner.Candidates.{variables_of_atom, option_at, AreSeen};
+ghost use Rattle.e_transfer.specs.inner.ListedTerms.{AreSeenPoints, AreSeenZero};
 
 use crate::bound_facts::{Known, fits};
 use crate::clause::pattern_at;
@@ -16,6 +17,7 @@ use crate::marks::parts;
 use crate::numbers::Numbers;
 use crate::walk::CANDIDATES;
 use e_clause::{Row, Shape};
+use e_literal::Term;
 
 /// The variables of a literal, in the order of its numbers.
 pub type Variables = (Option<usize>, Option<usize>, Option<usize>);
@@ -56,6 +58,21 @@ fn variables_of_shape(row: &Row, shape: &Shape) -> Variables
         Shape::MeetCC(c, d) | Shape::EqC(c, d) => (circle(row, *c), circle(row, *d), None),
         Shape::EqP(x, y) => (Some(*x as usize), Some(*y as usize), None),
         Shape::MagEq(_, _) | Shape::MagLt(_, _) => (None, None, None),
+    }
+}
+
+/// The variables of a term.
+fn variables_of_term(term: Term) -> Variables
+    ensures { result ≡ Candidates.variables_of_term term }
+{
+    match term {
+        Term::Seg(x, y) => (Some(usize::from(x)), Some(usize::from(y)), None),
+        Term::Ang(x, y, z) | Term::Area(x, y, z) => (
+            Some(usize::from(x)),
+            Some(usize::from(y)),
+            Some(usize::from(z)),
+        ),
+        Term::Right => (None, None, None),
     }
 }
 
@@ -165,6 +182,61 @@ pub fn seen_numbers(known: Known, place: Slot, triples: &[Triple]) -> [bool; CAN
     for triple in triples {
         if fits(others, *triple) {
             add_seen(&mut seen, number_at(*triple, place));
+        }
+    }
+    seen
+}
+
+/// The numbers that may come next with which the points of the term are among these.
+pub fn seen_points(numbers: &Numbers, points: &[Triple], term: Term) -> Option<[bool; CANDIDATES]>
+    ensures { IfSome result (AreSeenPoints points.now numbers.now term) }
+{
+    let variables = variables_of_term(term);
+    let place = next_of(numbers, variables)?;
+    Some(seen_numbers(known_numbers(numbers, variables), place, points))
+}
+
+/// The numbers that may come next with which the points of the segment are among these, or are one
+/// point.
+pub fn seen_zero(numbers: &Numbers, points: &[Triple], term: Term) -> Option<[bool; CANDIDATES]>
+    ensures { IfSome result (AreSeenZero points.now numbers.now term) }
+{
+    let variables = variables_of_term(term);
+    let place = next_of(numbers, variables)?;
+    let known = known_numbers(numbers, variables);
+    let other = match place {
+        Slot::First => known.1?,
+        Slot::Second => known.0?,
+        Slot::Third => return None,
+    };
+    let mut seen = seen_numbers(known, place, points);
+    add_seen(&mut seen, other);
+    Some(seen)
+}
+
+/// The numbers that both see.
+pub fn seen_by_both(one: &[bool; CANDIDATES], other: &[bool; CANDIDATES]) -> [bool; CANDIDATES]
+    ensures { (n : ℕ) → slice_get result n ≡ Some false
+        → (slice_get one.now n ≡ Some false) ⊎ (slice_get other.now n ≡ Some false) }
+{
+    let mut seen = *one;
+    for n in 0..CANDIDATES {
+        if !other[n] {
+            seen[n] = false;
+        }
+    }
+    seen
+}
+
+/// The numbers that one of the two sees.
+pub fn seen_by_one(one: &[bool; CANDIDATES], other: &[bool; CANDIDATES]) -> [bool; CANDIDATES]
+    ensures { (n : ℕ) → slice_get result n ≡ Some false
+        → (slice_get one.now n ≡ Some false) × (slice_get other.now n ≡ Some false) }
+{
+    let mut seen = *one;
+    for n in 0..CANDIDATES {
+        if other[n] {
+            seen[n] = true;
         }
     }
     seen

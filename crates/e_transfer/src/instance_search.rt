@@ -1,6 +1,6 @@
 //! The search at one place of a clause.
 
-ghost use Rattle.std.specs.Prelude.{◌≡◌, ◌<◌, List, Bool, length, map, slice_get, true};
+ghost use Rattle.std.specs.Prelude.{◌≡◌, ◌<◌, Bool, length, map, slice_get, true, IfSome};
 ghost use Rattle.std.specs.Prelude.{false, slice_index, IfOk, IsTrue, Some};
 ghost use Rattle.e_literal.specs.declared.literal.Lit.{Lit};
 ghost use Rattle.e_literal.specs.Literal.{negation};
@@ -15,14 +15,17 @@ ghost use Rattle.e_transfer.specs.Areas;
 ghost use Rattle.e_transfer.specs.Marks;
 ghost use Rattle.e_transfer.specs.Marks.{is_area_term, relation_number};
 ghost use Rattle.e_transfer.specs.Verdicts.{Excludes};
-ghost use Rattle.e_transfer.specs.inner.Angles.{NeverDiffer};
+ghost use Rattle.e_transfer.specs.inner.ListedTerms.{NeverDiffer, NeverDifferUnseen};
+ghost use Rattle.e_transfer.specs.inner.ListedTerms.{AreEqualAt, AreSeenAngles, AreSeenSegments};
 ghost use Rattle.e_transfer.specs.inner.PartsOfChoices.{arguments_by};
 ghost use Rattle.e_transfer.specs.inner.SearchedPlaces.{Wanted, NoneFrom, Shown};
 
-use crate::angles::is_unlisted;
 use crate::areas::{Equality, equal_terms, is_one_of};
 use crate::bound_facts::is_unknown;
-use crate::candidates::{known_numbers, next_of, seen_numbers, variables_at};
+use crate::candidates::{
+    known_numbers, next_of, seen_by_both, seen_by_one, seen_numbers, seen_points, seen_zero,
+    variables_at,
+};
 use crate::clause::{clause_len, pattern_at};
 use crate::instance_check::{check_instance, is_refuted};
 use crate::marks::{
@@ -30,6 +33,7 @@ use crate::marks::{
 };
 use crate::numbers::Numbers;
 use crate::plan::{Plan, last_of_term};
+use crate::prepared::Prepared;
 use crate::query::{Query, Strength, asks_facts};
 use crate::walk::{CANDIDATES, Span, Task, Verdict};
 use e_clause::{Row, Rule, TransferCert};
@@ -158,10 +162,10 @@ fn is_newest(numbers: &Numbers, at: u16) -> bool {
 // Whether the last number of the part is one of the term.
 fn has_newest(numbers: &Numbers, term: Term) -> bool {
     match term {
-        Term::Ang(x, y, z) | Term::Area(x, y, z) => {
+        Term::Area(x, y, z) => {
             is_newest(numbers, x) || is_newest(numbers, y) || is_newest(numbers, z)
         }
-        Term::Seg(_, _) | Term::Right => false,
+        Term::Seg(_, _) | Term::Ang(_, _, _) | Term::Right => false,
     }
 }
 
@@ -173,35 +177,70 @@ fn is_news(numbers: &Numbers, equality: Equality) -> bool {
         || has_newest(numbers, equality.other)
 }
 
-/// Whether it is seen that two angles do not differ, whatever numbers come next: there are values
-/// with which all facts are true, they list neither, and what they do not list has 1.
-fn are_unlisted(query: &Query, numbers: &Numbers, term: Term, other: Term) -> bool
-    ensures { result ≡ true → NeverDiffer query.now.facts.now numbers.now term other }
+/// The numbers that may come next with which the two angles may differ: with others one of the two
+/// is not listed, and may be what the other is.
+fn seen_angles(
+    prepared: &Prepared,
+    numbers: &Numbers,
+    term: Term,
+    other: Term,
+) -> Option<[bool; CANDIDATES]>
+    ensures { IfSome result
+        (AreSeenAngles prepared.now.angles.items numbers.now term other) }
 {
-    let Some(hints) = query.hints else {
-        return false;
-    };
-    if !hints.plain_model {
-        return false;
-    }
-    let angles: &[Term] = &hints.angles;
-    let one = is_unlisted(numbers, angles, term);
-    if !one {
-        return false;
-    }
-    is_unlisted(numbers, angles, other)
+    let one = seen_points(numbers, &prepared.angles, term)?;
+    let another = seen_points(numbers, &prepared.angles, other)?;
+    Some(seen_by_both(&one, &another))
 }
 
-/// Whether it is seen that no need holds that says that the two terms differ, whatever numbers come
-/// next: the last number of the part completes the first of two areas, and it is free, or neither
-/// of two angles is listed.
+/// The numbers that may come next with which the two segments may differ: with others one of the
+/// two is not listed, neither is 0, and the one may be what the other is.
+fn seen_segments(
+    prepared: &Prepared,
+    numbers: &Numbers,
+    term: Term,
+    other: Term,
+) -> Option<[bool; CANDIDATES]>
+    ensures { IfSome result (AreSeenSegments prepared.now.segments.items
+        prepared.now.zero_segments.items numbers.now term other) }
+{
+    let one = seen_points(numbers, &prepared.segments, term)?;
+    let another = seen_points(numbers, &prepared.segments, other)?;
+    let zero = seen_zero(numbers, &prepared.zero_segments, term)?;
+    let other_zero = seen_zero(numbers, &prepared.zero_segments, other)?;
+    let both = seen_by_both(&one, &another);
+    Some(seen_by_one(&both, &seen_by_one(&zero, &other_zero)))
+}
+
+/// The numbers that may come next with which the two terms may differ.
+fn seen_terms(
+    query: &Query,
+    numbers: &Numbers,
+    term: Term,
+    other: Term,
+) -> Option<[bool; CANDIDATES]>
+    ensures { IfSome result (NeverDifferUnseen query.now.facts.now numbers.now term other) }
+{
+    let prepared = query.hints?;
+    if !prepared.lists_all {
+        return None;
+    }
+    match (term, other) {
+        (Term::Ang(_, _, _), Term::Ang(_, _, _)) => seen_angles(prepared, numbers, term, other),
+        (Term::Seg(_, _), Term::Seg(_, _)) => seen_segments(prepared, numbers, term, other),
+        _ => None,
+    }
+}
+
+/// Whether it is seen that no need holds that says that the two areas differ, whatever numbers come
+/// next: the last number of the part completes the first, and it is free.
 fn never_differ(query: &Query, numbers: &Numbers, term: Term, other: Term) -> bool
     ensures { result ≡ true → NeverDiffer query.now.facts.now numbers.now term other }
 {
     let first = is_area(term);
     let second = is_area(other);
     if !first || !second {
-        return are_unlisted(query, numbers, term, other);
+        return false;
     }
     if !is_last(last_of_term(numbers.positions, term), numbers.part.len()) {
         return false;
@@ -210,6 +249,23 @@ fn never_differ(query: &Query, numbers: &Numbers, term: Term, other: Term) -> bo
 }
 
 impl<'a> InstanceSearch<'a> {
+    /// The two terms, where the clause says at this place of them alone that they are equal, and
+    /// the goal is not that.
+    fn equal_terms_at(&self, row: &Row, equality: Equality) -> Option<(Term, Term)>
+        ensures { IfSome result (AreEqualAt (row_of row.now) equality.at self.now.place
+            self.now.query.goal.now) }
+    {
+        let at = equality.at;
+        if at >= clause_len(row) || at == self.place || is_equation(self.query.goal) {
+            return None;
+        }
+        let (pattern, negated) = pattern_at(row, at);
+        if negated {
+            return None;
+        }
+        equal_terms(pattern)
+    }
+
     /// Whether the clause says at this place of two terms that they are equal, and it is seen that
     /// they never differ.
     fn has_equal_terms(&self, numbers: &Numbers, equality: Equality) -> bool
@@ -223,18 +279,23 @@ impl<'a> InstanceSearch<'a> {
         if !is_news(numbers, equality) {
             return false;
         }
-        let at = equality.at;
-        if at >= clause_len(numbers.row) || at == self.place || is_equation(self.query.goal) {
-            return false;
+        match self.equal_terms_at(numbers.row, equality) {
+            Some(both) => never_differ(&self.query, numbers, both.0, both.1),
+            None => false,
         }
-        let (pattern, negated) = pattern_at(numbers.row, at);
-        let Some(both) = equal_terms(pattern) else {
-            return false;
-        };
-        if negated {
-            return false;
-        }
-        never_differ(&self.query, numbers, both.0, both.1)
+    }
+
+    /// The numbers that may come next with which the terms may differ of which the clause says at
+    /// this place that they are equal.
+    fn seen_where_equal(&self, numbers: &Numbers, equality: Equality) -> Option<[bool; CANDIDATES]>
+        requires of_table { slice_get table self.now.rule ≡ Some (row_of numbers.now.row.now) }
+        requires places { numbers.now.positions.now ≡ self.now.plan.now.positions.items }
+        ensures { Excludes (Wanted self.now.query.strength self.now.query.scope
+            self.now.query.facts.now self.now.query.goal.now self.now.rule self.now.place
+            self.now.plan.now) numbers.now.part.now result }
+    {
+        let both = self.equal_terms_at(numbers.row, equality)?;
+        seen_terms(&self.query, numbers, both.0, both.1)
     }
 
     /// Whether the literal at a place of the clause is seen by its sums to be neither the goal nor
@@ -430,6 +491,9 @@ impl<'a> Task for InstanceSearch<'a> {
                 if let Some(seen) = self.seen_at(&numbers, goal_mark, j) {
                     return Some(seen);
                 }
+            }
+            if let Some(equality) = self.equality {
+                return self.seen_where_equal(&numbers, equality);
             }
         }
         None

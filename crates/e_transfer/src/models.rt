@@ -2,10 +2,12 @@
 //! false, at no great cost.
 
 ghost use Rattle.std.specs.Prelude.{◌≡◌, map, IfSome, IsTrue, true, false};
+ghost use Rattle.std.specs.List.{list_all};
 ghost use Rattle.e_literal.specs.Truth.{holds, all_hold, value_of};
 ghost use Rattle.e_clause.specs.Assignment.{terms_of_atom, terms_of_lits};
 ghost use Rattle.e_clause.specs.Metric.{MetricConsequence};
 ghost use Rattle.e_transfer.specs.Models;
+ghost use Rattle.e_transfer.specs.inner.ListedTerms;
 ghost use Rattle.e_transfer.specs.Models.{value_by, fits_term, fits_terms, is_model};
 
 use crate::areas::terms_of_two;
@@ -152,6 +154,32 @@ pub fn equal_value(values: &[(Term, u128)], lit: &Lit) -> Option<u128> {
     match value(Filling::Each(1), values, one) {
         1 => Some(value(Filling::Each(1), values, other)),
         number => Some(number),
+    }
+}
+
+/// Whether an angle that has this value is at most so much.
+fn is_angle_below(most: u128, term: Term, number: u128) -> bool
+    ensures { result ≡ ListedTerms.is_angle_below most term number }
+{
+    !matches!(term, Term::Ang(_, _, _)) || number <= most
+}
+
+/// Whether each angle that is listed is at most so much.
+fn are_angles_below(most: u128, values: &[(Term, u128)]) -> bool
+    ensures { result ≡ list_all (λ p. ListedTerms.is_angle_below most p.0 p.1) values.now }
+{
+    values
+        .iter()
+        .all(|pair| is_angle_below(most, pair.0, pair.1))
+}
+
+/// Whether no angle that is listed is above two right ones.
+pub fn are_angles_within(values: &[(Term, u128)]) -> bool
+    ensures { result ≡ true → IsTrue (ListedTerms.are_angles_within values.now) }
+{
+    match value(Filling::Each(0), values, Term::Right).checked_mul(2) {
+        Some(most) => are_angles_below(most, values),
+        None => false,
     }
 }
 

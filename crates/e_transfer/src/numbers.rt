@@ -10,7 +10,6 @@ ghost use Rattle.e_clause.specs.Views.{atom_of, row_of};
 ghost use Rattle.e_transfer.specs.Marks.{relation_number};
 ghost use Rattle.e_transfer.specs.SumMarks;
 ghost use Rattle.e_transfer.specs.SumMarks.{mark_total};
-ghost use Rattle.e_transfer.specs.inner.Angles.{IsKnown};
 ghost use Rattle.e_transfer.specs.inner.PartsOfChoices;
 ghost use Rattle.e_transfer.specs.inner.PartsOfChoices.{chosen_arguments, arguments_by, atom_by};
 
@@ -74,21 +73,6 @@ fn number_of(positions: &[usize], part: &[u16], variable: usize) -> u16
 }
 
 impl<'a> Numbers<'a> {
-    /// The number of a point variable, if it is chosen.
-    pub fn known(&self, at: u16) -> Option<u16>
-        ensures { IfSome result (IsKnown self.now at) }
-    {
-        let variable = usize::from(at);
-        if variable >= self.positions.len() {
-            return None;
-        }
-        let place = self.positions[variable];
-        if place >= self.part.len() {
-            return None;
-        }
-        Some(self.part[place])
-    }
-
     /// The arguments.
     pub fn arguments(&self, alloc: Global) -> Result<Items<Obj>, AllocError>
         ensures { IfOk result (λ a. a ≡ arguments_by self.now) }

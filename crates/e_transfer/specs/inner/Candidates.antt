@@ -7,6 +7,8 @@ use Rattle.e_literal.specs.declared.literal.Atom.{Atom}
 use Rattle.e_literal.specs.declared.literal.Atom.TheVariants.{On, OnC, Inside, Center, Between}
 use Rattle.e_literal.specs.declared.literal.Atom.TheVariants.{Same, MeetLL, MeetLC, MeetCC, EqP}
 use Rattle.e_literal.specs.declared.literal.Atom.TheVariants.{EqL, EqC, MagEq, MagLt}
+use Rattle.e_literal.specs.declared.object.Term.{Term}
+use Rattle.e_literal.specs.declared.object.Term.TheVariants.{Seg, Ang, Area, Right}
 use Rattle.e_clause.specs.Rows.{Row}
 use Rattle.e_transfer.specs.declared.candidates.Slot.{Slot}
 use Rattle.e_transfer.specs.declared.candidates.Slot.TheVariants as slot
@@ -29,6 +31,13 @@ variables_of_atom r (EqL l m) = (Some (line_variable r l), Some (line_variable r
 variables_of_atom r (EqC c d) = (Some (circle_variable r c), Some (circle_variable r d), None)
 variables_of_atom r (MagEq x y) = (None, None, None)
 variables_of_atom r (MagLt x y) = (None, None, None)
+
+-- the variables of a term, in the order of its points
+abbrev pub variables_of_term : Term → Option ℕ × Option ℕ × Option ℕ
+variables_of_term (Seg x y) = (Some x, Some y, None)
+variables_of_term (Ang x y z) = (Some x, Some y, Some z)
+variables_of_term (Area x y z) = (Some x, Some y, Some z)
+variables_of_term Right = (None, None, None)
 
 -- the number of the variable, if it is among the first numbers of a choice
 abbrev pub known_number : List ℕ → List ℕ → Option ℕ → Option ℕ

@@ -1,6 +1,6 @@
 use Rattle.std.proofs.Common.{◌≡◌, take}
-use Rattle.e_transfer.specs.inner.Angles.{angles_of}
+use Rattle.e_transfer.specs.inner.ListedTerms.{angles_of}
 use Rattle.e_transfer.proofs.angles.angles_of.Given as goal
 
 abbrev pub invariant-loop-pair : goal.invariant-loop-pair
-invariant-loop-pair l = l.angles.items ≡ angles_of (take l.pair-index l.values)
+invariant-loop-pair l = l.points.items ≡ angles_of (take l.pair-index l.values)

@@ -2,6 +2,7 @@ use Rattle.std.proofs.Common.{◌≡◌, ◌||◌, ◌∙◌, refl, subst, true,
 use Rattle.std.specs.Prelude.{not}
 use Rattle.e_transfer.specs.declared.models.Filling.TheVariants as filling
 use Rattle.e_transfer.specs.Models.{is_model, value_by}
+use Rattle.e_transfer.specs.inner.ListedTerms.{are_angles_within}
 use Rattle.e_transfer.proofs.PreparedFacts.{where_true, listed_model, none_flattened}
 use Rattle.e_transfer.proofs.prepared.with_values.Goals as goal
 use Rattle.e_transfer.proofs.prepared.with_values.Goals.{then-lists_all, else-lists_all}
@@ -34,8 +35,11 @@ returns c =
       marked = c.marks_of.ensures;
       listed = c.requires.numbers;
       angles = c.requires.angles;
+      segments = c.requires.segments;
+      zeros = c.requires.zeros;
+      within = where_true c.list_all_within.result (are_angles_within c.args.values) (λ e. subst (λ vs. are_angles_within vs ≡ true) c.items-4.ensures (c.list_all_within.ensures.within e));
       named = c.requires.named;
-      all = λ n. where_true c.args.lists_all (is_model facts (value_by (filling.Each n) c.args.values)) (λ e. listed_model facts c.args.values (c.requires.listed e) (filling.Each n) refl (λ t a. refl));
+      all = λ n. where_true c.list_all_within.result (is_model facts (value_by (filling.Each n) c.args.values)) (λ e. listed_model facts c.args.values (c.requires.listed (c.list_all_within.ensures.known e)) (filling.Each n) refl (λ t a. refl));
       plain = subst (λ vs. (not c.is_seen.result || is_model facts (value_by (filling.Each 1) vs)) ≡ true) c.items.ensures plain;
       spread = subst (λ vs. (not c.is_seen-2.result || is_model facts (value_by filling.Spread vs)) ≡ true) c.items-2.ensures spread;
       flat = subst (λ vs. (not c.is_seen-3.result || is_model facts (value_by filling.Flat vs)) ≡ true) c.items-3.ensures flat;
