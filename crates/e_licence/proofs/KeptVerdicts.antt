@@ -1,37 +1,18 @@
--- What is kept of answers on diagram literals, and what it says of a literal that is asked.
-use Rattle.std.proofs.Common.{◌≡◌, List, [], ◌∷◌, ◌++◌, refl, sym, ap, ◌∙◌, subst, true, false, ◌||◌, true≢false, ◌⊎◌, inl, inr, is_some}
+-- What is kept of answers on literals, and what it says of a literal that is asked.
+use Rattle.std.proofs.Common.{◌≡◌, List, [], ◌∷◌, ◌++◌, sym, ap, ◌∙◌, subst, true, false, ◌||◌, true≢false, ◌⊎◌, inl, inr}
 use Rattle.std.proofs.lemmas.Bool.{cases_Bool, or_cases}
 use Rattle.std.proofs.lemmas.List.Folds.{list_any-append}
 use Rattle.e_literal.specs.declared.literal.Lit.{Lit}
-use Rattle.e_literal.specs.declared.literal.Atom.{Atom}
-use Rattle.e_literal.specs.declared.literal.Atom.TheVariants.{MagEq, MagLt}
-use Rattle.e_literal.specs.Literal.{kind_of_atom}
-use Rattle.e_literal.specs.Same.{same_neg, same_atom, same_lit}
-use Rattle.e_literal.specs.Facts.{has, with_fact, is_metric}
-use Rattle.e_literal.proofs.Booleans.{and_left, and_right, same_neg_is}
+use Rattle.e_literal.specs.Same.{same_lit}
+use Rattle.e_literal.specs.Facts.{has, with_fact}
 use Rattle.e_facts.proofs.Joining.{joined_present, joined_new}
 use Rattle.e_clause.specs.Allowed.{Allowed}
-use Rattle.e_clause.proofs.Clashing.{atom_is}
 use Rattle.e_transfer.specs.declared.walk.Verdict.{Verdict}
 use Rattle.e_transfer.specs.declared.walk.Verdict.TheVariants as verdict
 use Rattle.e_licence.specs.Contexts.{Basis}
 use Rattle.e_licence.specs.declared.verdicts.Verdicts.{Verdicts}
-use Rattle.e_licence.specs.Verdicts.{AreRight, JudgedIs}
-
--- ---- a literal that is the same as a diagram literal is that one
-
-of_diagrams : (a b : Atom) → is_some (kind_of_atom a) ≡ false → same_atom a b ≡ true → is_some (kind_of_atom b) ≡ false
-of_diagrams (MagEq x y) b m h = absurd (true≢false m)
-of_diagrams (MagLt x y) b m h = absurd (true≢false m)
-of_diagrams a (MagEq x y) m h = absurd (true≢false (sym h))
-of_diagrams a (MagLt x y) m h = absurd (true≢false (sym h))
-of_diagrams a b m h = refl
-
-one_literal : (l x : Lit) → is_metric l ≡ false → same_lit l x ≡ true → l ≡ x
-one_literal l x m h =
-    let atoms = and_right (same_neg l.neg x.neg) (same_atom l.atom x.atom) h in
-    ap (λ n. record { neg = n; atom = l.atom }) (same_neg_is l.neg x.neg (and_left (same_neg l.neg x.neg) (same_atom l.atom x.atom) h))
-    ∙ ap (λ a. record { neg = x.neg; atom = a }) (atom_is l.atom x.atom (of_diagrams l.atom x.atom m atoms) atoms)
+use Rattle.e_licence.specs.Verdicts.{AreRight, JudgedIs, has_loop}
+use Rattle.e_licence.proofs.SameLiterals.{turned, allowed_same}
 
 -- ---- what is said of all of a list still is where one joins it of which it is said
 
@@ -49,11 +30,11 @@ has_joined facts l x h =
       | inr new ↦ has_last facts l x (sym (ap (λ fs. has fs x) (joined_new facts l new)) ∙ h)
     ]
 
-joins : (P : Lit → Type 0) (old new : List Lit) (l : Lit) → is_metric l ≡ false → new ≡ with_fact old l → ((x : Lit) → has old x ≡ true → P x) → P l → (x : Lit) → has new x ≡ true → P x
-joins P old new l m is all here x h =
+joins : (P : Lit → Type 0) (old new : List Lit) (l : Lit) → new ≡ with_fact old l → ((x : Lit) → has old x ≡ true → P x) → ((x : Lit) → same_lit l x ≡ true → P x) → (x : Lit) → has new x ≡ true → P x
+joins P old new l is all here x h =
     elim (has_joined old l x (sym (ap (λ fs. has fs x) is) ∙ h)) [
       | inl there ↦ all x there
-      | inr same ↦ subst P (one_literal l x m same) here
+      | inr same ↦ here x same
     ]
 
 -- ---- what is kept
@@ -67,16 +48,17 @@ none_kept b v allowed refused = record {
   refused = λ l h. absurd (none_has v.refused l refused h);
 }
 
-pub allowed_joins : (b : Basis) (old new : Verdicts) (l : Lit) (o : Verdict (Unit {0})) (p : Unit {0}) → is_metric l ≡ false → new.allowed ≡ with_fact old.allowed l → new.refused ≡ old.refused
+pub allowed_joins : (b : Basis) (old new : Verdicts) (l : Lit) (o : Verdict (Unit {0})) (p : Unit {0}) → has_loop l.atom ≡ false → new.allowed ≡ with_fact old.allowed l → new.refused ≡ old.refused
     → o ≡ verdict.Yes p → AreRight b old → JudgedIs b l o → AreRight b new
-allowed_joins b old new l o p m is rest keep right judged = record {
-  allowed = joins (Allowed b.scope b.facts) old.allowed new.allowed l m is right.allowed (subst (λ v. JudgedIs b l v) keep judged);
+allowed_joins b old new l o p none is rest keep right judged = record {
+  allowed = joins (Allowed b.scope b.facts) old.allowed new.allowed l is right.allowed (λ x same. allowed_same b.scope b.facts l x same none (subst (λ v. JudgedIs b l v) keep judged));
   refused = λ x h. right.refused x (sym (ap (λ fs. has fs x) rest) ∙ h);
 }
 
-pub refused_joins : (b : Basis) (old new : Verdicts) (l : Lit) (o : Verdict (Unit {0})) → is_metric l ≡ false → new.refused ≡ with_fact old.refused l → new.allowed ≡ old.allowed
+pub refused_joins : (b : Basis) (old new : Verdicts) (l : Lit) (o : Verdict (Unit {0})) → new.refused ≡ with_fact old.refused l → new.allowed ≡ old.allowed
     → o ≡ verdict.No → AreRight b old → JudgedIs b l o → AreRight b new
-refused_joins b old new l o m is rest refuse right judged = record {
+refused_joins b old new l o is rest refuse right judged = record {
   allowed = λ x h. right.allowed x (sym (ap (λ fs. has fs x) rest) ∙ h);
-  refused = joins (λ x. ¬ Allowed b.scope b.facts x) old.refused new.refused l m is right.refused (subst (λ v. JudgedIs b l v) refuse judged);
+  refused = joins (λ x. has_loop x.atom ≡ false → ¬ Allowed b.scope b.facts x) old.refused new.refused l is right.refused
+      (λ x same none there. subst (λ v. JudgedIs b l v) refuse judged (allowed_same b.scope b.facts x l (turned l x same) none there));
 }

@@ -6,6 +6,7 @@ pub mod Licences
 pub mod Judgements
 pub mod Clashes
 pub mod BlankChoices
+pub mod SameLiterals
 pub mod KeptVerdicts
 pub mod KnownLiterals
 pub mod FailingRows

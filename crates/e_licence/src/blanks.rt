@@ -347,7 +347,7 @@ impl<'a> Blanks<'a> {
             (λ b. b ≡ true → IsRefusedAt self.now.context.now images.now lit.now) }
     {
         let image = with_images(alloc, lit, images)?;
-        let refused = memory.refused.has(&image) && is_well_formed_in(self.context.scope(), &image);
+        let refused = memory.is_refused(&image) && is_well_formed_in(self.context.scope(), &image);
         mem::drop(image);
         Ok(refused)
     }

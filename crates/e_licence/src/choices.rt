@@ -41,7 +41,7 @@ pub enum FirstChoices {
 /// them. It fails only out of memory.
 ///
 /// It begins from what the context has solved of its facts: a [`Context::solve`] before it is worth
-/// its time. What it asks of diagrams is kept in `memory`, for other statements at the context.
+/// its time. What it asks is kept in `memory`, for other statements at the context.
 #[tactic(auto, using(crate::proofs::LimitsOfFacts::well_formed))]
 pub fn first_choices(
     alloc: Global,

@@ -1,16 +1,18 @@
-//! What was answered on diagram literals before, so that none is asked twice in one context.
+//! What was answered on literals before, so that none is asked twice in one context.
 
-ghost use Rattle.std.specs.Prelude.{IfSome, OnOk};
+ghost use Rattle.std.specs.Prelude.{◌≡◌, true, IfSome, OnOk};
+ghost use Rattle.std.specs.List.{list_any};
+ghost use Rattle.e_clause.specs.Allowed.{Allowed};
 ghost use Rattle.e_licence.specs.Contexts.{Basis};
-ghost use Rattle.e_licence.specs.Verdicts.{AreRight, JudgedIs};
+ghost use Rattle.e_licence.specs.Verdicts.{AreRight, JudgedIs, has_loop, is_loop};
 
 use e_facts::Facts;
-use e_literal::{Lit, kind};
+use e_literal::{Atom, Lit, Mono, Term};
 use e_transfer::Verdict;
 use std::alloc::{AllocError, Global};
 use std::mem;
 
-/// The diagram literals that were asked, those that are allowed and those that are not.
+/// The literals that were asked, those that are allowed and those that are not.
 #[derive(Drop)]
 pub struct Verdicts {
     pub allowed: Facts,
@@ -34,20 +36,27 @@ impl Verdicts {
     {
         if self.allowed.has(lit) {
             Some(Verdict::Yes(()))
-        } else if self.refused.has(lit) {
+        } else if self.is_refused(lit) {
             Some(Verdict::No)
         } else {
             None
         }
     }
 
-    /// Keeps what is answered on a diagram literal. A metric one is not kept: to look it up would
-    /// be to compare it with all of them.
+    /// Whether the literal was asked and is refused.
+    pub(crate) fn is_refused(&self, lit: &Lit) -> bool
+        ensures { (b : Basis) → AreRight b self.now → result ≡ true
+            → ¬ Allowed b.scope b.facts lit.now }
+    {
+        self.refused.has(lit) && !has_loop(&lit.atom)
+    }
+
+    /// Keeps what is answered on a literal.
     pub(crate) fn keep(&mut self, lit: Lit, verdict: &Verdict<()>) -> Result<(), AllocError>
         ensures { OnOk result ((b : Basis) → AreRight b self.old → JudgedIs b lit verdict.now
             → AreRight b self.new) }
     {
-        if kind(&lit).is_some() {
+        if has_loop(&lit.atom) {
             mem::drop(lit);
             return Ok(());
         }
@@ -61,5 +70,32 @@ impl Verdicts {
             Verdict::TooWide(_) => mem::drop(lit),
         }
         Ok(())
+    }
+}
+
+/// Whether a metric literal has a segment from a point to itself. Where facts tell the point from
+/// itself, there are no values for it, so that all of it follows; and what is the same may be
+/// written without it.
+fn has_loop(atom: &Atom) -> bool
+    ensures { result ≡ has_loop atom.now }
+{
+    match atom {
+        Atom::MagEq(x, y) | Atom::MagLt(x, y) => some_loop(x.items()) || some_loop(y.items()),
+        _ => false,
+    }
+}
+
+fn some_loop(sum: &[Mono]) -> bool
+    ensures { result ≡ list_any (λ m. is_loop m.term) sum.now }
+{
+    sum.iter().any(|mono| is_loop(mono.term))
+}
+
+fn is_loop(term: Term) -> bool
+    ensures { result ≡ is_loop term }
+{
+    match term {
+        Term::Seg(a, b) => a == b,
+        _ => false,
     }
 }

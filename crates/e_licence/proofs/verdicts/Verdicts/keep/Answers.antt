@@ -9,5 +9,5 @@ returns-in_ok-add-in-Yes c b =
 
 pub returns-in_ok-add-in-No : goal.returns-in_ok-add-in-No
 returns-in_ok-add-in-No c b =
-    refused_joins b c.args.self.now (record { allowed = c.args.self.now.allowed; refused = c.add-in-No.new.self }) c.args.lit c.args.verdict.now (search rules)
+    refused_joins b c.args.self.now (record { allowed = c.args.self.now.allowed; refused = c.add-in-No.new.self }) c.args.lit c.args.verdict.now
     c.in_ok-add-in-No.ensures.joined refl c.in-No.is
