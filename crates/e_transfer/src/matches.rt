@@ -1,13 +1,15 @@
 //! How a goal may match a place of a clause, and what it says of the variables then.
 
 ghost use Rattle.std.specs.Prelude.{◌≡◌, ◌≤◌, ◌⊎◌, ◌++◌, map, take, if◌then◌else◌};
-ghost use Rattle.std.specs.Prelude.{option_to_list, IfOk, OnOk, IsTrue, [], ◌∷◌};
+ghost use Rattle.std.specs.Prelude.{List, false, option_to_list, IfOk, OnOk, IsTrue, [], ◌∷◌};
 ghost use Rattle.e_literal.specs.Literal.{negation};
+ghost use Rattle.e_literal.specs.declared.object.Mono.{Mono};
 ghost use Rattle.e_clause.specs.Views.{atom_of, lit_of_pattern, row_of};
 ghost use Rattle.std.specs.List.{list_any};
 ghost use Rattle.e_transfer.specs.inner.Equations.{contrary, have_contrary};
 ghost use Rattle.e_transfer.specs.inner.Matches;
-ghost use Rattle.e_transfer.specs.inner.Matches.{AgreeAlso, Cover, CoverAtom, CoverSums, all_cancel};
+ghost use Rattle.e_transfer.specs.inner.Matches.{AgreeAlso, Cover, CoverAtom, CoverSums};
+ghost use Rattle.e_transfer.specs.inner.Matches.{AreTermsLeft, AreTermsOf, all_cancel};
 ghost use Rattle.e_transfer.specs.inner.Matches.{none_cancels, matches_of_term, matches_of_sum};
 ghost use Rattle.e_transfer.specs.inner.Matches.{cancellations_of_terms, cancellations_of_sum};
 
@@ -62,6 +64,19 @@ fn add_some(matches: &mut MatchList, equations: Option<Items<Equation>>) -> Resu
     Ok(())
 }
 
+/// Whether the terms are of one kind: else the one is not the other in any order.
+fn are_of_one_kind(term: Term, goal: Term) -> bool
+    ensures { result ≡ false → matches_of_term term goal ≡ [] }
+{
+    matches!(
+        (term, goal),
+        (Term::Seg(_, _), Term::Seg(_, _))
+            | (Term::Ang(_, _, _), Term::Ang(_, _, _))
+            | (Term::Area(_, _, _), Term::Area(_, _, _))
+            | (Term::Right, Term::Right)
+    )
+}
+
 /// Adds the ways in which the term may be the goal's.
 fn add_matches(
     alloc: Global,
@@ -71,6 +86,9 @@ fn add_matches(
 ) -> Result<(), AllocError>
     ensures { OnOk result (matches.new.items ≡ matches.old.items ++ matches_of_term term goal) }
 {
+    if !are_of_one_kind(term, goal) {
+        return Ok(());
+    }
     let (orders, many) = orders(goal);
     let list = &orders[..many];
     for order in list {
@@ -88,7 +106,7 @@ fn matches_in_sums(
 ) -> Result<MatchList, AllocError>
     ensures { IfOk result (λ v. v.items ≡ matches_of_sum goal x.now ++ matches_of_sum goal y.now) }
 {
-    let mut matches = Vec::with_capacity(alloc, MOST_ORDERS)?;
+    let mut matches = Vec::new(alloc);
     for m in x {
         add_matches(alloc, &mut matches, m.term, goal)?;
     }
@@ -261,9 +279,7 @@ fn add_once(terms: &mut Vec<Term>, term: Term) -> Result<(), AllocError>
 
 /// Terms of x - y that do not cancel, no two of them one term: all of them, or two.
 fn terms_not_cancelling(alloc: Global, x: &[Mono], y: &[Mono]) -> Result<Vec<Term>, AllocError>
-    ensures hold { IfOk result (λ v. IsTrue (none_cancels x.now y.now v.items)) }
-    ensures empty { IfOk result (λ v. v.items ≡ [] → IsTrue (all_cancel x.now y.now x.now)
-        × IsTrue (all_cancel x.now y.now y.now)) }
+    ensures { IfOk result (λ v. AreTermsLeft x.now y.now v.items) }
 {
     let mut terms = Vec::new(alloc);
     add_not_cancelling(&mut terms, x, x, y)?;
@@ -271,18 +287,28 @@ fn terms_not_cancelling(alloc: Global, x: &[Mono], y: &[Mono]) -> Result<Vec<Ter
     Ok(terms)
 }
 
-/// The ways in which x - y, over variables, may have the normal form of z - w or of its negative.
+/// Terms of the goal's sums that do not cancel in their difference: all of them, or two.
+pub fn terms_of_goal(alloc: Global, goal: &Lit) -> Result<Vec<Term>, AllocError>
+    ensures { IfOk result (λ v. AreTermsOf goal.now.atom v.items) }
+{
+    match &goal.atom {
+        Atom::MagEq(z, w) | Atom::MagLt(z, w) => terms_not_cancelling(alloc, z.items(), w.items()),
+        _ => Ok(Vec::new(alloc)),
+    }
+}
+
+/// The ways in which x - y, over variables, may have the normal form of z - w or of its negative, of
+/// which these terms are left.
 fn matches_of_sums(
     alloc: Global,
     x: &[Mono],
     y: &[Mono],
-    z: &[Mono],
-    w: &[Mono],
+    terms: &[Term],
 ) -> Result<MatchList, AllocError>
-    ensures { IfOk result (λ v. CoverSums x.now y.now z.now w.now v.items) }
+    ensures { (z w : List Mono) → AreTermsLeft z w terms.now
+        → IfOk result (λ v. CoverSums x.now y.now z w v.items) }
 {
-    let terms = terms_not_cancelling(alloc, z, w)?;
-    match terms.as_slice() {
+    match terms {
         [] => cancellations(alloc, x, y),
         [term] => matches_in_sums(alloc, x, y, *term),
         [first, second, ..] => {
@@ -293,18 +319,20 @@ fn matches_of_sums(
     }
 }
 
-/// The ways in which the atom of a row may be the goal's.
+/// The ways in which the atom of a row may be the goal's, of which these terms are left.
 fn matches_of_shape(
     alloc: Global,
     row: &Row,
     shape: &Shape,
     goal: &Atom,
+    terms: &[Term],
 ) -> Result<MatchList, AllocError>
+    requires of_goal { AreTermsOf goal.now terms.now }
     ensures { IfOk result (λ v. CoverAtom (row_of row.now) (atom_of shape.now) goal.now v.items) }
 {
     match (shape, goal) {
-        (Shape::MagEq(x, y), Atom::MagEq(z, w)) | (Shape::MagLt(x, y), Atom::MagLt(z, w)) => {
-            matches_of_sums(alloc, x, y, z.items(), w.items())
+        (Shape::MagEq(x, y), Atom::MagEq(_, _)) | (Shape::MagLt(x, y), Atom::MagLt(_, _)) => {
+            matches_of_sums(alloc, x, y, terms)
         }
         (shape, goal) => {
             let mut matches = Vec::new(alloc);
@@ -314,14 +342,16 @@ fn matches_of_shape(
     }
 }
 
-/// The ways in which the pattern, or its negation, may be the goal.
+/// The ways in which the pattern, or its negation, may be the goal, of which these terms are left.
 pub fn matches(
     alloc: Global,
     row: &Row,
     pattern: &Pattern,
     negated: bool,
     goal: &Lit,
+    terms: &[Term],
 ) -> Result<MatchList, AllocError>
+    requires of_goal { AreTermsOf goal.now.atom terms.now }
     ensures { IfOk result (λ v. Cover (row_of row.now) (if negated then negation
         (lit_of_pattern pattern.now) else lit_of_pattern pattern.now) goal.now v.items) }
 {
@@ -332,5 +362,5 @@ pub fn matches(
     if neg != goal.neg {
         return Ok(Vec::new(alloc));
     }
-    matches_of_shape(alloc, row, shape, &goal.atom)
+    matches_of_shape(alloc, row, shape, &goal.atom, terms)
 }

@@ -1,12 +1,13 @@
 -- The ways in which a goal at a place of a clause binds the variables.
 use Rattle.std.specs.Prelude.{ℕ, List, [], ◌∷◌, ◌++◌, map, flat_map, Bool, not, ◌==◌, ◌||◌}
-use Rattle.std.specs.Prelude.{option_to_list, IsTrue, if◌then◌else◌}
+use Rattle.std.specs.Prelude.{◌≡◌, option_to_list, IsTrue, if◌then◌else◌}
 use Rattle.std.specs.List.{list_all}
 use Rattle.e_literal.specs.declared.object.Mono.{Mono}
 use Rattle.e_literal.specs.declared.object.Term.{Term}
 use Rattle.e_literal.specs.declared.object.Term.TheVariants.{Seg, Ang, Area, Right}
 use Rattle.e_literal.specs.declared.literal.Lit.{Lit}
 use Rattle.e_literal.specs.declared.literal.Atom.{Atom}
+use Rattle.e_literal.specs.declared.literal.Atom.TheVariants.{MagEq, MagLt}
 use Rattle.e_literal.specs.Same.{coeff_of, agree, same_atom, same_lit}
 use Rattle.e_literal.specs.Rename.{mono_at, atom_at}
 use Rattle.e_clause.specs.Rows.{Row}
@@ -82,6 +83,17 @@ none_cancels x y ts = list_all (λ t. not (cancels x y t)) ts
 -- no term of the sum occurs there
 abbrev pub all_cancel : List Mono → List Mono → List Mono → Bool
 all_cancel x y ms = list_all (λ m. cancels x y m.term) ms
+
+-- the terms occur in x - y, and where there is none, no term does
+abbrev pub AreTermsLeft : List Mono → List Mono → List Term → Type 0
+AreTermsLeft x y ts = IsTrue (none_cancels x y ts)
+    × (ts ≡ [] → IsTrue (all_cancel x y x) × IsTrue (all_cancel x y y))
+
+-- the terms are left so of the atom's sums
+abbrev pub AreTermsOf : Atom → List Term → Type 0
+AreTermsOf (MagEq z w) ts = AreTermsLeft z w ts
+AreTermsOf (MagLt z w) ts = AreTermsLeft z w ts
+AreTermsOf _ ts = Unit {0}
 
 abbrev pub sum_under : (ℕ → ℕ) → List Mono → List Mono
 sum_under f x = map (mono_at f) x
