@@ -1,9 +1,9 @@
 -- The ways in which a goal at a place of a clause binds the variables are all ways.
-use Rattle.std.proofs.Common.{◌≡◌, ℕ, ◌+◌, List, [], ◌∷◌, ◌++◌, refl, sym, ap, ◌∙◌, arith, append-nil, append_assoc, Bool, true, false, cond, not, eq-eqb, ◌&&◌, ◌||◌, eqb, true≢false, ◌⊎◌, inl, inr, map, ◌<◌, length, take, get_or, eqb-true}
+use Rattle.std.proofs.Common.{◌≡◌, ℕ, ◌+◌, List, [], ◌∷◌, ◌++◌, refl, sym, ap, ◌∙◌, arith, append-nil, append_assoc, Bool, true, false, cond, not, eq-eqb, ◌&&◌, ◌||◌, eqb, true≢false, ◌⊎◌, inl, inr, map, ◌<◌, length, take, get_or, eqb-true, subst}
 use Rattle.std.specs.Prelude.{flat_map, option_to_list}
 use Rattle.std.specs.List.{list_any}
 use Rattle.std.proofs.lemmas.Grind.{common_steps, flat_map-append}
-use Rattle.std.proofs.lemmas.List.{take_more}
+use Rattle.std.proofs.lemmas.List.{map-append, take_more}
 use Rattle.std.proofs.lemmas.List.Folds.{list_all_at, list_any-append}
 use Rattle.std.proofs.lemmas.Bool.{and_from, or_cases, cases_Bool, not-true}
 use Rattle.e_literal.specs.declared.object.Mono.{Mono}
@@ -17,7 +17,7 @@ use Rattle.e_literal.proofs.Booleans.{and_left, and_right, all_both}
 use Rattle.e_transfer.specs.declared.equations.Equation.{Equation}
 use Rattle.e_transfer.specs.declared.equations.Equation.TheVariants as equation
 use Rattle.e_transfer.specs.inner.Equations.{agrees, all_agree, some_agree, contrary, have_contrary, equations_from_term, equations_from_terms}
-use Rattle.e_transfer.specs.inner.Matches.{term_orders, matches_of_term, matches_of_sum, cancellations_of_terms, cancellations_of_sum, cancelling_matches, match_product, cancels, none_cancels, all_cancel, sum_under, AgreeAlso, CoverSums}
+use Rattle.e_transfer.specs.inner.Matches.{term_orders, matches_of_term, matches_of_sum, cancellations_of_terms, cancellations_of_sum, cancelling_matches, match_product, pairs_of_term, pairs_of_sum, equations_of_pair, cancels, none_cancels, all_cancel, sum_under, AgreeAlso, CoverSums}
 use Rattle.e_transfer.proofs.Elements.{list_any-map, list_any-flat_map, weaker, any_left, any_right}
 use Rattle.e_transfer.proofs.Orders.{one_order}
 
@@ -148,11 +148,6 @@ product_agrees f as' bs h k =
     list_any-flat_map (all_agree f) (λ a. map (λ b. a ++ b) bs) as'
     ∙ weaker (all_agree f) (λ a. some_agree f (map (λ b. a ++ b) bs)) (λ a l. with_each f a bs l k) as' h
 
-product_more : (as' bs : List (List Equation)) (i : ℕ) (d : List Equation) → i < length as' → match_product (take (i + 1) as') bs ≡ match_product (take i as') bs ++ map (λ b. get_or as' i d ++ b) bs
-product_more as' bs i d less =
-    let g = λ (a : List Equation). map (λ b. a ++ b) bs in
-    ap (flat_map g) (take_more as' i d less) ∙ flat_map-append g (take i as') (get_or as' i d ∷ []) ∙ ap (λ l. flat_map g (take i as') ++ l) (append-nil (g (get_or as' i d)))
-
 -- ---- sums of which all cancels
 
 cancels_at : (z w : List Mono) (t : Term) → cancels z w t ≡ true → (coeff_of z t + coeff_of [] t ≡ coeff_of [] t + coeff_of w t)
@@ -212,7 +207,7 @@ sums_cancel x y z w h k f e =
 holds_is : (z w : List Mono) (t : Term) → not (cancels z w t) ≡ true → coeff_of z t ≡ coeff_of w t → ⊥
 holds_is z w t h e = true≢false (sym h ∙ ap not (eq-eqb (coeff_of z t) (coeff_of w t) e))
 
-pub sums_match : (x y z w : List Mono) (t : Term) → not (cancels z w t) ≡ true → CoverSums x y z w (matches_of_sum t x ++ matches_of_sum t y)
+sums_match : (x y z w : List Mono) (t : Term) → not (cancels z w t) ≡ true → CoverSums x y z w (matches_of_sum t x ++ matches_of_sum t y)
 sums_match x y z w t h f e = elim (either_equal f x y z w e) [
   | inl g ↦ matches_cover x y z w t (holds_is z w t h) f g
   | inr g ↦ matches_cover x y w z t (λ k. holds_is z w t h (sym k)) f g
@@ -287,18 +282,56 @@ each_more a [] ys = refl
 each_more a (x ∷ xs) ys = ap (λ l. (a ++ x) ∷ l) (each_more a xs ys)
 
 -- one more match of the second
-pub each_step : (init second old new : List (List Equation)) (i : ℕ) (a b : List Equation) → i < length second → b ≡ get_or second i b
-    → AgreeAlso (init ++ map (λ x. a ++ x) (take i second)) old → AgreeAlso (old ++ (a ++ b) ∷ []) new → AgreeAlso (init ++ map (λ x. a ++ x) (take (i + 1) second)) new
-each_step init second old new i a b less at before added f h =
-    let so_far = map (λ x. a ++ x) (take i second) in
-    let more : init ++ map (λ x. a ++ x) (take (i + 1) second) ≡ (init ++ so_far) ++ (a ++ b) ∷ [] =
-    ap (λ l. init ++ map (λ x. a ++ x) l) (take_more second i b less) ∙ ap (λ l. init ++ l) (each_more a (take i second) (get_or second i b ∷ []))
-    ∙ ap (λ x. init ++ (so_far ++ (a ++ x) ∷ [])) (sym at) ∙ sym (append_assoc init so_far ((a ++ b) ∷ [])) in
+pub each_step : (init second old new : List (List Equation)) (a b : List Equation) → AgreeAlso (init ++ map (λ x. a ++ x) second) old → AgreeAlso (old ++ (a ++ b) ∷ []) new
+    → AgreeAlso (init ++ map (λ x. a ++ x) (second ++ b ∷ [])) new
+each_step init second old new a b before added f h =
+    let so_far = map (λ x. a ++ x) second in
+    let more : init ++ map (λ x. a ++ x) (second ++ b ∷ []) ≡ (init ++ so_far) ++ (a ++ b) ∷ [] =
+    ap (λ l. init ++ l) (each_more a second (b ∷ [])) ∙ sym (append_assoc init so_far ((a ++ b) ∷ [])) in
     added f (agree_behind (init ++ so_far) old ((a ++ b) ∷ []) before f (ap (some_agree f) (sym more) ∙ h))
 
 -- one more match of the first
-pub product_step : (first second old new : List (List Equation)) (i : ℕ) (a : List Equation) → i < length first → a ≡ get_or first i a
-    → AgreeAlso (match_product (take i first) second) old → AgreeAlso (old ++ map (λ b. a ++ b) second) new → AgreeAlso (match_product (take (i + 1) first) second) new
-product_step first second old new i a less at before added f h =
-    let more = product_more first second i a less ∙ ap (λ x. match_product (take i first) second ++ map (λ b. x ++ b) second) (sym at) in
-    added f (agree_behind (match_product (take i first) second) old (map (λ b. a ++ b) second) before f (ap (some_agree f) (sym more) ∙ h))
+pub product_step : (first second old new : List (List Equation)) (a : List Equation) → AgreeAlso (match_product first second) old → AgreeAlso (old ++ map (λ b. a ++ b) second) new
+    → AgreeAlso (match_product (first ++ a ∷ []) second) new
+product_step first second old new a before added f h =
+    let g = λ (x : List Equation). map (λ b. x ++ b) second in
+    let more : match_product (first ++ a ∷ []) second ≡ match_product first second ++ g a = flat_map-append g first (a ∷ []) ∙ ap (λ l. match_product first second ++ l) (append-nil (g a)) in
+    added f (agree_behind (match_product first second) old (g a) before f (ap (some_agree f) (sym more) ∙ h))
+
+-- ---- pairs of terms
+
+-- what one more pair says
+pub pairs_more : (ps : List (Term × Term)) (i : ℕ) (d : Term × Term) → i < length ps → map equations_of_pair (take (i + 1) ps) ≡ map equations_of_pair (take i ps) ++ equations_of_pair (get_or ps i d) ∷ []
+pairs_more ps i d less = ap (map equations_of_pair) (take_more ps i d less) ∙ map-append equations_of_pair (take i ps) (get_or ps i d ∷ [])
+
+term_of_pairs : (m goal : Term) → map equations_of_pair (pairs_of_term m goal) ≡ matches_of_term m goal
+term_of_pairs (Seg x y) (Seg a b) = refl
+term_of_pairs (Ang x y z) (Ang a b c) = refl
+term_of_pairs (Area x y z) (Area a b c) = refl
+term_of_pairs Right Right = refl
+term_of_pairs (Seg x y) (Ang d e g) = refl
+term_of_pairs (Seg x y) (Area d e g) = refl
+term_of_pairs (Seg x y) Right = refl
+term_of_pairs (Ang x y z) (Seg d e) = refl
+term_of_pairs (Ang x y z) (Area d e g) = refl
+term_of_pairs (Ang x y z) Right = refl
+term_of_pairs (Area x y z) (Seg d e) = refl
+term_of_pairs (Area x y z) (Ang d e g) = refl
+term_of_pairs (Area x y z) Right = refl
+term_of_pairs Right (Seg d e) = refl
+term_of_pairs Right (Ang d e g) = refl
+term_of_pairs Right (Area d e g) = refl
+
+sum_of_pairs : (goal : Term) (x : List Mono) → map equations_of_pair (pairs_of_sum goal x) ≡ matches_of_sum goal x
+sum_of_pairs goal [] = refl
+sum_of_pairs goal (m ∷ ms) =
+    map-append equations_of_pair (pairs_of_term m.term goal) (pairs_of_sum goal ms) ∙ ap (λ l. l ++ map equations_of_pair (pairs_of_sum goal ms)) (term_of_pairs m.term goal)
+    ∙ ap (λ l. matches_of_term m.term goal ++ l) (sum_of_pairs goal ms)
+
+-- what the pairs of a term that does not cancel say
+pub pairs_match : (x y z w : List Mono) (t : Term) (ps : List (Term × Term)) → not (cancels z w t) ≡ true → ps ≡ pairs_of_sum t x ++ pairs_of_sum t y → CoverSums x y z w (map equations_of_pair ps)
+pairs_match x y z w t ps h are =
+    let same : matches_of_sum t x ++ matches_of_sum t y ≡ map equations_of_pair ps =
+    ap (λ l. l ++ matches_of_sum t y) (sym (sum_of_pairs t x)) ∙ ap (λ l. map equations_of_pair (pairs_of_sum t x) ++ l) (sym (sum_of_pairs t y))
+    ∙ sym (map-append equations_of_pair (pairs_of_sum t x) (pairs_of_sum t y)) ∙ ap (map equations_of_pair) (sym are) in
+    subst (λ (l : List (List Equation)). CoverSums x y z w l) same (sums_match x y z w t h)

@@ -1,8 +1,10 @@
 //! What a goal says of the variables of a rule.
 
-ghost use Rattle.std.specs.Prelude.{◌≡◌, ◌+◌, ◌∷◌, [], IfOk};
+ghost use Rattle.std.specs.Prelude.{◌≡◌, ◌+◌, ◌++◌, ◌∷◌, [], IfOk, OnOk};
+ghost use Rattle.std.specs.List.{list_any};
 ghost use Rattle.e_clause.specs.Views.{atom_of, row_of};
 ghost use Rattle.e_transfer.specs.inner.Equations;
+ghost use Rattle.e_transfer.specs.inner.Equations.{contrary};
 ghost use Rattle.e_transfer.specs.declared.equations.Equation.TheVariants as bound;
 
 use e_clause::{Row, Shape};
@@ -97,24 +99,50 @@ pub fn equations_of_atom(
     Ok(Some(equations?))
 }
 
-/// What a term of points says of the variables of a term, place by place, or none where they are of
-/// different kinds.
-pub fn equations_of_term(
-    alloc: Global,
+/// Adds what a term of points says of the variables of a term, place by place: nothing where they
+/// are of different kinds.
+pub fn add_equations_of_term(
+    equations: &mut Vec<Equation>,
     term: Term,
     goal: Term,
-) -> Result<Option<Items<Equation>>, AllocError>
-    ensures { IfOk result (λ o. o ≡ Equations.equations_from_term term goal) }
+) -> Result<(), AllocError>
+    ensures { OnOk result
+        (equations.new.items ≡ equations.old.items ++ Equations.equations_of_term term goal) }
 {
-    let equations = match (term, goal) {
-        (Term::Seg(x, y), Term::Seg(a, b)) => two(alloc, point(x, a), point(y, b))?,
-        (Term::Ang(x, y, z), Term::Ang(a, b, c)) | (Term::Area(x, y, z), Term::Area(a, b, c)) => {
-            three(alloc, point(x, a), point(y, b), point(z, c))?
+    match (term, goal) {
+        (Term::Seg(x, y), Term::Seg(a, b)) => {
+            equations.extend_from_slice(&[point(x, a), point(y, b)])
         }
-        (Term::Right, Term::Right) => Items::empty(alloc),
-        _ => return Ok(None),
-    };
-    Ok(Some(equations))
+        (Term::Ang(x, y, z), Term::Ang(a, b, c)) | (Term::Area(x, y, z), Term::Area(a, b, c)) => {
+            equations.extend_from_slice(&[point(x, a), point(y, b), point(z, c)])
+        }
+        _ => Ok(()),
+    }
+}
+
+/// Whether a term of points gives a variable of the term another number than this.
+pub fn gives_other(term: Term, goal: Term, variable: u16, number: u16) -> bool
+    ensures { result
+        ≡ list_any (contrary (bound.Is variable number)) (Equations.equations_of_term term goal) }
+{
+    match (term, goal) {
+        (Term::Seg(x, y), Term::Seg(a, b)) => {
+            are_contrary(variable, number, x, a) || are_contrary(variable, number, y, b)
+        }
+        (Term::Ang(x, y, z), Term::Ang(a, b, c)) | (Term::Area(x, y, z), Term::Area(a, b, c)) => {
+            are_contrary(variable, number, x, a)
+                || are_contrary(variable, number, y, b)
+                || are_contrary(variable, number, z, c)
+        }
+        _ => false,
+    }
+}
+
+/// Whether two numbers are given to one variable.
+fn are_contrary(v: u16, n: u16, w: u16, m: u16) -> bool
+    ensures { result ≡ contrary (bound.Is v n) (bound.Is w m) }
+{
+    v == w && n != m
 }
 
 fn same(x: u16, y: u16) -> Equation

@@ -1,17 +1,21 @@
 //! How a goal may match a place of a clause, and what it says of the variables then.
 
 ghost use Rattle.std.specs.Prelude.{◌≡◌, ◌≤◌, ◌⊎◌, ◌++◌, map, take, if◌then◌else◌};
-ghost use Rattle.std.specs.Prelude.{option_to_list, IfOk, OnOk, IsTrue, [], ◌∷◌};
+ghost use Rattle.std.specs.Prelude.{List, false, option_to_list, IfOk, OnOk, IsTrue, [], ◌∷◌};
 ghost use Rattle.e_literal.specs.Literal.{negation};
+ghost use Rattle.e_literal.specs.declared.object.Mono.{Mono};
 ghost use Rattle.e_clause.specs.Views.{atom_of, lit_of_pattern, row_of};
-ghost use Rattle.std.specs.List.{list_any};
-ghost use Rattle.e_transfer.specs.inner.Equations.{contrary, have_contrary};
+ghost use Rattle.e_transfer.specs.inner.Equations.{have_contrary};
 ghost use Rattle.e_transfer.specs.inner.Matches;
-ghost use Rattle.e_transfer.specs.inner.Matches.{AgreeAlso, Cover, CoverAtom, CoverSums, all_cancel};
-ghost use Rattle.e_transfer.specs.inner.Matches.{none_cancels, matches_of_term, matches_of_sum};
+ghost use Rattle.e_transfer.specs.inner.Matches.{AgreeAlso, Cover, CoverAtom, CoverSums};
+ghost use Rattle.e_transfer.specs.inner.Matches.{AreTermsLeft, AreTermsOf, all_cancel};
+ghost use Rattle.e_transfer.specs.inner.Matches.{none_cancels, pairs_of_term, pairs_of_sum};
+ghost use Rattle.e_transfer.specs.inner.Matches.{equations_of_pair};
 ghost use Rattle.e_transfer.specs.inner.Matches.{cancellations_of_terms, cancellations_of_sum};
 
-use crate::equations::{Equation, equations_of_atom, equations_of_term, equations_of_terms};
+use crate::equations::{
+    Equation, add_equations_of_term, equations_of_atom, equations_of_terms, gives_other,
+};
 use e_clause::{Pattern, Row, Shape};
 use e_literal::{Atom, Items, Lit, Mono, Term, coefficient_in, is_one_term};
 use std::alloc::{AllocError, Global};
@@ -19,8 +23,15 @@ use std::alloc::{AllocError, Global};
 /// Matches: each is a list of equations.
 pub type MatchList = Vec<Items<Equation>>;
 
+/// A term over variables, and a term of points of its kind, which it is where each variable is the
+/// point at its place.
+type Pair = (Term, Term);
+
 /// A term may be written in at most so many orders.
 const MOST_ORDERS: usize = 6;
+
+/// Two pairs say so much at most.
+const MOST_EQUATIONS: usize = 6;
 
 /// The orders in which a term may be written, and how many they are: what comes after them is not
 /// meant.
@@ -62,40 +73,65 @@ fn add_some(matches: &mut MatchList, equations: Option<Items<Equation>>) -> Resu
     Ok(())
 }
 
-/// Adds the ways in which the term may be the goal's.
-fn add_matches(
-    alloc: Global,
-    matches: &mut MatchList,
-    term: Term,
-    goal: Term,
-) -> Result<(), AllocError>
-    ensures { OnOk result (matches.new.items ≡ matches.old.items ++ matches_of_term term goal) }
+/// Whether the terms are of one kind: else the one is not the other in any order.
+fn are_of_one_kind(term: Term, goal: Term) -> bool
+    ensures { result ≡ Matches.are_of_one_kind term goal }
 {
+    matches!(
+        (term, goal),
+        (Term::Seg(_, _), Term::Seg(_, _))
+            | (Term::Ang(_, _, _), Term::Ang(_, _, _))
+            | (Term::Area(_, _, _), Term::Area(_, _, _))
+            | (Term::Right, Term::Right)
+    )
+}
+
+/// Adds the term beside each order of the goal's, if they are of one kind.
+fn add_pairs(pairs: &mut Vec<Pair>, term: Term, goal: Term) -> Result<(), AllocError>
+    ensures { OnOk result (pairs.new.items ≡ pairs.old.items ++ pairs_of_term term goal) }
+{
+    if !are_of_one_kind(term, goal) {
+        return Ok(());
+    }
     let (orders, many) = orders(goal);
     let list = &orders[..many];
     for order in list {
-        add_some(matches, equations_of_term(alloc, term, *order)?)?;
+        pairs.push((term, *order))?;
     }
     Ok(())
 }
 
-/// The ways in which one term of a sum may be the goal's.
-fn matches_in_sums(
-    alloc: Global,
-    x: &[Mono],
-    y: &[Mono],
-    goal: Term,
-) -> Result<MatchList, AllocError>
-    ensures { IfOk result (λ v. v.items ≡ matches_of_sum goal x.now ++ matches_of_sum goal y.now) }
+/// The terms of two sums that may be the goal's, each beside each order of the goal's.
+fn pairs_in_sums(alloc: Global, x: &[Mono], y: &[Mono], goal: Term) -> Result<Vec<Pair>, AllocError>
+    ensures { IfOk result (λ v. v.items ≡ pairs_of_sum goal x.now ++ pairs_of_sum goal y.now) }
 {
-    let mut matches = Vec::with_capacity(alloc, MOST_ORDERS)?;
+    let mut pairs = Vec::new(alloc);
     for m in x {
-        add_matches(alloc, &mut matches, m.term, goal)?;
+        add_pairs(&mut pairs, m.term, goal)?;
     }
     for m in y {
-        add_matches(alloc, &mut matches, m.term, goal)?;
+        add_pairs(&mut pairs, m.term, goal)?;
+    }
+    Ok(pairs)
+}
+
+/// What each pair says, as a match.
+fn matches_of_pairs(alloc: Global, pairs: &[Pair]) -> Result<MatchList, AllocError>
+    ensures { IfOk result (λ v. v.items ≡ map equations_of_pair pairs.now) }
+{
+    let mut matches = Vec::new(alloc);
+    for pair in pairs {
+        matches.push(equations_of(alloc, *pair)?)?;
     }
     Ok(matches)
+}
+
+fn equations_of(alloc: Global, pair: Pair) -> Result<Items<Equation>, AllocError>
+    ensures { IfOk result (λ v. v ≡ equations_of_pair pair) }
+{
+    let mut equations = Vec::new(alloc);
+    add_equations_of_term(&mut equations, pair.0, pair.1)?;
+    Ok(Items::new(equations))
 }
 
 /// Adds the ways in which two terms over variables may be one.
@@ -146,51 +182,46 @@ fn match_without_equations(alloc: Global) -> Result<MatchList, AllocError>
     Ok(matches)
 }
 
-/// The equations of two matches together.
+/// What two pairs say together.
 fn equations_of_both(
     alloc: Global,
-    first: &[Equation],
-    second: &[Equation],
+    first: Pair,
+    second: Pair,
 ) -> Result<Items<Equation>, AllocError>
-    ensures { IfOk result (λ v. v ≡ first.now ++ second.now) }
+    ensures { IfOk result (λ v. v ≡ equations_of_pair first ++ equations_of_pair second) }
 {
-    let mut equations = Vec::with_capacity(alloc, first.len().saturating_add(second.len()))?;
-    equations.extend_from_slice(first)?;
-    equations.extend_from_slice(second)?;
+    let mut equations = Vec::with_capacity(alloc, MOST_EQUATIONS)?;
+    add_equations_of_term(&mut equations, first.0, first.1)?;
+    add_equations_of_term(&mut equations, second.0, second.1)?;
     Ok(Items::new(equations))
 }
 
-/// Whether the two give one variable two numbers.
-fn are_contrary(a: Equation, b: Equation) -> bool
-    ensures { result ≡ contrary a b }
+/// Whether the one pair gives a variable a number, and the other another.
+fn are_contrary(first: Pair, second: Pair) -> bool
+    ensures { result ≡ have_contrary (equations_of_pair first) (equations_of_pair second) }
 {
-    match (a, b) {
-        (Equation::Is(v, n), Equation::Is(w, m)) => v == w && n != m,
+    let (term, goal) = second;
+    match first {
+        (Term::Seg(x, y), Term::Seg(a, b)) => {
+            gives_other(term, goal, x, a) || gives_other(term, goal, y, b)
+        }
+        (Term::Ang(x, y, z), Term::Ang(a, b, c)) | (Term::Area(x, y, z), Term::Area(a, b, c)) => {
+            gives_other(term, goal, x, a)
+                || gives_other(term, goal, y, b)
+                || gives_other(term, goal, z, c)
+        }
         _ => false,
     }
 }
 
-fn is_contrary_to_some(equation: Equation, equations: &[Equation]) -> bool
-    ensures { result ≡ list_any (contrary equation) equations.now }
-{
-    equations.iter().any(|b| are_contrary(equation, *b))
-}
-
-/// Whether the one match gives a variable a number, and the other another.
-fn are_contrary_matches(first: &[Equation], second: &[Equation]) -> bool
-    ensures { result ≡ have_contrary first.now second.now }
-{
-    first.iter().any(|a| is_contrary_to_some(*a, second))
-}
-
 /// Each match of the first with each of the second, but for those that contradict each other.
-fn product(alloc: Global, first: &MatchList, second: &MatchList) -> Result<MatchList, AllocError>
-    ensures { IfOk result (λ v. AgreeAlso (Matches.match_product first.now.items second.now.items)
-        v.items) }
+fn product(alloc: Global, first: &[Pair], second: &[Pair]) -> Result<MatchList, AllocError>
+    ensures { IfOk result (λ v. AgreeAlso (Matches.match_product (map equations_of_pair first.now)
+        (map equations_of_pair second.now)) v.items) }
 {
     let mut matches = Vec::new(alloc);
     for a in first {
-        add_each(alloc, &mut matches, a.items(), second)?;
+        add_each(alloc, &mut matches, *a, second)?;
     }
     Ok(matches)
 }
@@ -199,14 +230,14 @@ fn product(alloc: Global, first: &MatchList, second: &MatchList) -> Result<Match
 fn add_each(
     alloc: Global,
     matches: &mut MatchList,
-    first: &[Equation],
-    second: &MatchList,
+    first: Pair,
+    second: &[Pair],
 ) -> Result<(), AllocError>
-    ensures { OnOk result (AgreeAlso
-        (matches.old.items ++ map (λ b. first.now ++ b) second.now.items) matches.new.items) }
+    ensures { OnOk result (AgreeAlso (matches.old.items ++ map (λ b. equations_of_pair first ++ b)
+        (map equations_of_pair second.now)) matches.new.items) }
 {
     for b in second {
-        add_both(alloc, matches, first, b.items())?;
+        add_both(alloc, matches, first, *b)?;
     }
     Ok(())
 }
@@ -215,13 +246,13 @@ fn add_each(
 fn add_both(
     alloc: Global,
     matches: &mut MatchList,
-    first: &[Equation],
-    second: &[Equation],
+    first: Pair,
+    second: Pair,
 ) -> Result<(), AllocError>
-    ensures { OnOk result (AgreeAlso
-        (matches.old.items ++ (first.now ++ second.now) ∷ []) matches.new.items) }
+    ensures { OnOk result (AgreeAlso (matches.old.items
+        ++ (equations_of_pair first ++ equations_of_pair second) ∷ []) matches.new.items) }
 {
-    if are_contrary_matches(first, second) {
+    if are_contrary(first, second) {
         return Ok(());
     }
     matches.push(equations_of_both(alloc, first, second)?)?;
@@ -261,9 +292,7 @@ fn add_once(terms: &mut Vec<Term>, term: Term) -> Result<(), AllocError>
 
 /// Terms of x - y that do not cancel, no two of them one term: all of them, or two.
 fn terms_not_cancelling(alloc: Global, x: &[Mono], y: &[Mono]) -> Result<Vec<Term>, AllocError>
-    ensures hold { IfOk result (λ v. IsTrue (none_cancels x.now y.now v.items)) }
-    ensures empty { IfOk result (λ v. v.items ≡ [] → IsTrue (all_cancel x.now y.now x.now)
-        × IsTrue (all_cancel x.now y.now y.now)) }
+    ensures { IfOk result (λ v. AreTermsLeft x.now y.now v.items) }
 {
     let mut terms = Vec::new(alloc);
     add_not_cancelling(&mut terms, x, x, y)?;
@@ -271,40 +300,55 @@ fn terms_not_cancelling(alloc: Global, x: &[Mono], y: &[Mono]) -> Result<Vec<Ter
     Ok(terms)
 }
 
-/// The ways in which x - y, over variables, may have the normal form of z - w or of its negative.
+/// Terms of the goal's sums that do not cancel in their difference: all of them, or two.
+pub fn terms_of_goal(alloc: Global, goal: &Lit) -> Result<Vec<Term>, AllocError>
+    ensures { IfOk result (λ v. AreTermsOf goal.now.atom v.items) }
+{
+    match &goal.atom {
+        Atom::MagEq(z, w) | Atom::MagLt(z, w) => terms_not_cancelling(alloc, z.items(), w.items()),
+        _ => Ok(Vec::new(alloc)),
+    }
+}
+
+/// The ways in which x - y, over variables, may have the normal form of z - w or of its negative, of
+/// which these terms are left.
 fn matches_of_sums(
     alloc: Global,
     x: &[Mono],
     y: &[Mono],
-    z: &[Mono],
-    w: &[Mono],
+    terms: &[Term],
 ) -> Result<MatchList, AllocError>
-    ensures { IfOk result (λ v. CoverSums x.now y.now z.now w.now v.items) }
+    ensures { (z w : List Mono) → AreTermsLeft z w terms.now
+        → IfOk result (λ v. CoverSums x.now y.now z w v.items) }
 {
-    let terms = terms_not_cancelling(alloc, z, w)?;
-    match terms.as_slice() {
+    match terms {
         [] => cancellations(alloc, x, y),
-        [term] => matches_in_sums(alloc, x, y, *term),
+        [term] => {
+            let pairs = pairs_in_sums(alloc, x, y, *term)?;
+            matches_of_pairs(alloc, &pairs)
+        }
         [first, second, ..] => {
-            let one = matches_in_sums(alloc, x, y, *first)?;
-            let other = matches_in_sums(alloc, x, y, *second)?;
+            let one = pairs_in_sums(alloc, x, y, *first)?;
+            let other = pairs_in_sums(alloc, x, y, *second)?;
             product(alloc, &one, &other)
         }
     }
 }
 
-/// The ways in which the atom of a row may be the goal's.
+/// The ways in which the atom of a row may be the goal's, of which these terms are left.
 fn matches_of_shape(
     alloc: Global,
     row: &Row,
     shape: &Shape,
     goal: &Atom,
+    terms: &[Term],
 ) -> Result<MatchList, AllocError>
+    requires of_goal { AreTermsOf goal.now terms.now }
     ensures { IfOk result (λ v. CoverAtom (row_of row.now) (atom_of shape.now) goal.now v.items) }
 {
     match (shape, goal) {
-        (Shape::MagEq(x, y), Atom::MagEq(z, w)) | (Shape::MagLt(x, y), Atom::MagLt(z, w)) => {
-            matches_of_sums(alloc, x, y, z.items(), w.items())
+        (Shape::MagEq(x, y), Atom::MagEq(_, _)) | (Shape::MagLt(x, y), Atom::MagLt(_, _)) => {
+            matches_of_sums(alloc, x, y, terms)
         }
         (shape, goal) => {
             let mut matches = Vec::new(alloc);
@@ -314,14 +358,16 @@ fn matches_of_shape(
     }
 }
 
-/// The ways in which the pattern, or its negation, may be the goal.
+/// The ways in which the pattern, or its negation, may be the goal, of which these terms are left.
 pub fn matches(
     alloc: Global,
     row: &Row,
     pattern: &Pattern,
     negated: bool,
     goal: &Lit,
+    terms: &[Term],
 ) -> Result<MatchList, AllocError>
+    requires of_goal { AreTermsOf goal.now.atom terms.now }
     ensures { IfOk result (λ v. Cover (row_of row.now) (if negated then negation
         (lit_of_pattern pattern.now) else lit_of_pattern pattern.now) goal.now v.items) }
 {
@@ -332,5 +378,5 @@ pub fn matches(
     if neg != goal.neg {
         return Ok(Vec::new(alloc));
     }
-    matches_of_shape(alloc, row, shape, &goal.atom)
+    matches_of_shape(alloc, row, shape, &goal.atom, terms)
 }

@@ -8,6 +8,7 @@ ghost use Rattle.e_clause.specs.Views.{row_of};
 ghost use Rattle.e_transfer.specs.GivenGoals.{RuleSearchIs, NoneWithBindings};
 ghost use Rattle.e_transfer.specs.GivenGoals.{NoneWithEquations, NoneAt, NoneOf, NoneGives};
 ghost use Rattle.e_transfer.specs.Marks;
+ghost use Rattle.e_transfer.specs.inner.Matches.{AreTermsOf};
 ghost use Rattle.e_transfer.specs.inner.Plans.{total_of};
 
 use crate::areas::{Equality, place_of_equality};
@@ -16,13 +17,14 @@ use crate::clause::{clause_len, pattern_at};
 use crate::equations::Equation;
 use crate::instance_search::InstanceSearch;
 use crate::marks::{is_equation, mark_of, may_all_hold, may_be_goal};
-use crate::matches::matches;
+use crate::matches::{matches, terms_of_goal};
 use crate::order::{has_mark, order};
 use crate::plan::make_plan;
 use crate::query::Query;
 use crate::unify::{Binding, unify};
 use crate::walk::{Verdict, search};
 use e_clause::{Row, Rule, TRANSFER_RULES, TransferCert};
+use e_literal::Term;
 use std::alloc::{AllocError, Global};
 use std::mem;
 
@@ -111,11 +113,13 @@ fn search_place(
     row: &Row,
     preferred: &[u8],
     goal_mark: usize,
+    goal_terms: &[Term],
     place: usize,
 ) -> Result<Verdict<TransferCert>, AllocError>
     requires of_table { slice_get table rule ≡ Some (row_of row.now) }
     requires transfer { IsTrue (is_transfer rule) }
     requires of_goal { goal_mark ≡ Marks.lit_mark query.now.goal.now }
+    requires terms { AreTermsOf query.now.goal.now.atom goal_terms.now }
     requires in_clause { place < length (clause_of (row_of row.now)) }
     ensures { IfOk result (RuleSearchIs query.now.strength query.now.scope query.now.facts.now
         query.now.goal.now (NoneAt query.now.strength query.now.scope query.now.facts.now
@@ -125,7 +129,7 @@ fn search_place(
         return Ok(Verdict::No);
     }
     let (pattern, negated) = pattern_at(row, place);
-    let matches = matches(alloc, row, pattern, negated, query.goal)?;
+    let matches = matches(alloc, row, pattern, negated, query.goal, goal_terms)?;
     let equality = if query.hints.is_none() || is_equation(query.goal) {
         None
     } else {
@@ -158,9 +162,11 @@ fn search_rule(
     rule: Rule,
     preferred: &[u8],
     goal_mark: usize,
+    goal_terms: &[Term],
 ) -> Result<Verdict<TransferCert>, AllocError>
     requires transfer { IsTrue (is_transfer rule) }
     requires of_goal { goal_mark ≡ Marks.lit_mark query.now.goal.now }
+    requires terms { AreTermsOf query.now.goal.now.atom goal_terms.now }
     ensures { IfOk result
         (RuleSearchIs query.now.strength query.now.scope query.now.facts.now query.now.goal.now
         (NoneOf query.now.strength query.now.scope query.now.facts.now query.now.goal.now rule)) }
@@ -170,7 +176,9 @@ fn search_rule(
         return Ok(Verdict::No);
     }
     for place in 0..clause_len(row) {
-        match search_place(alloc, query, rule, row, preferred, goal_mark, place)? {
+        match search_place(
+            alloc, query, rule, row, preferred, goal_mark, goal_terms, place,
+        )? {
             Verdict::No => {}
             Verdict::Yes(cert) => return Ok(Verdict::Yes(cert)),
             Verdict::TooWide(width) => return Ok(Verdict::TooWide(width)),
@@ -185,9 +193,11 @@ fn search_clause(
     query: &Query,
     at: u8,
     goal_mark: usize,
+    goal_terms: &[Term],
 ) -> Result<Verdict<TransferCert>, AllocError>
     requires in_table { diagram_rule_count + at < rule_count }
     requires of_goal { goal_mark ≡ Marks.lit_mark query.now.goal.now }
+    requires terms { AreTermsOf query.now.goal.now.atom goal_terms.now }
     requires below { goal_mark < 28 }
     ensures { IfOk result (RuleSearchIs query.now.strength query.now.scope query.now.facts.now
         query.now.goal.now (NoneOf query.now.strength query.now.scope query.now.facts.now
@@ -196,7 +206,14 @@ fn search_clause(
     if !has_mark(at, goal_mark) {
         return Ok(Verdict::No);
     }
-    search_rule(alloc, query, Rule::transfer(at), order(at), goal_mark)
+    search_rule(
+        alloc,
+        query,
+        Rule::transfer(at),
+        order(at),
+        goal_mark,
+        goal_terms,
+    )
 }
 
 /// The instances of all transfer clauses that have the goal: one that gives it, or none, or one
@@ -207,8 +224,9 @@ pub fn search_rules(alloc: Global, query: &Query) -> Result<Verdict<TransferCert
         (NoneGives query.now.strength query.now.scope query.now.facts.now query.now.goal.now)) }
 {
     let goal_mark = mark_of(query.goal);
+    let goal_terms = terms_of_goal(alloc, query.goal)?;
     for at in 0..TRANSFER_RULES {
-        match search_clause(alloc, query, at, goal_mark)? {
+        match search_clause(alloc, query, at, goal_mark, &goal_terms)? {
             Verdict::No => {}
             Verdict::Yes(cert) => return Ok(Verdict::Yes(cert)),
             Verdict::TooWide(width) => return Ok(Verdict::TooWide(width)),

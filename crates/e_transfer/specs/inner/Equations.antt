@@ -78,6 +78,15 @@ equations_from_term (Area x y z) (Area a b c) = all_three x a y b z c
 equations_from_term Right Right = Some []
 equations_from_term _ _ = None
 
+-- the same, and nothing where they are of different kinds
+abbrev pub equations_of_term : Term → Term → List Equation
+equations_of_term (Seg x y) (Seg a b) = equation.Is x a ∷ equation.Is y b ∷ []
+equations_of_term (Ang x y z) (Ang a b c) =
+    equation.Is x a ∷ equation.Is y b ∷ equation.Is z c ∷ []
+equations_of_term (Area x y z) (Area a b c) =
+    equation.Is x a ∷ equation.Is y b ∷ equation.Is z c ∷ []
+equations_of_term _ _ = []
+
 -- two terms of a row are one, point by point
 abbrev pub equations_from_terms : Term → Term → Option (List Equation)
 equations_from_terms (Seg x y) (Seg a b) = Some (equation.Same x a ∷ equation.Same y b ∷ [])

@@ -1,18 +1,20 @@
 -- The ways in which a goal at a place of a clause binds the variables.
-use Rattle.std.specs.Prelude.{ℕ, List, [], ◌∷◌, ◌++◌, map, flat_map, Bool, not, ◌==◌, ◌||◌}
-use Rattle.std.specs.Prelude.{option_to_list, IsTrue, if◌then◌else◌}
+use Rattle.std.specs.Prelude.{ℕ, List, [], ◌∷◌, ◌++◌, map, flat_map, Bool, true, false, not, ◌==◌, ◌||◌}
+use Rattle.std.specs.Prelude.{◌≡◌, option_to_list, IsTrue, if◌then◌else◌}
 use Rattle.std.specs.List.{list_all}
 use Rattle.e_literal.specs.declared.object.Mono.{Mono}
 use Rattle.e_literal.specs.declared.object.Term.{Term}
 use Rattle.e_literal.specs.declared.object.Term.TheVariants.{Seg, Ang, Area, Right}
 use Rattle.e_literal.specs.declared.literal.Lit.{Lit}
 use Rattle.e_literal.specs.declared.literal.Atom.{Atom}
+use Rattle.e_literal.specs.declared.literal.Atom.TheVariants.{MagEq, MagLt}
 use Rattle.e_literal.specs.Same.{coeff_of, agree, same_atom, same_lit}
 use Rattle.e_literal.specs.Rename.{mono_at, atom_at}
 use Rattle.e_clause.specs.Rows.{Row}
 use Rattle.e_transfer.specs.declared.equations.Equation.{Equation}
 use Rattle.e_transfer.specs.inner.Equations.{line_variable, circle_variable, some_agree}
 use Rattle.e_transfer.specs.inner.Equations.{equations_from_term, equations_from_terms}
+use Rattle.e_transfer.specs.inner.Equations.{equations_of_term}
 
 -- the atom, or the literal, of a row with these numbers for its variables
 abbrev pub atom_under : Row → (ℕ → ℕ) → Atom → Atom
@@ -48,6 +50,25 @@ matches_of_term term goal =
 abbrev pub matches_of_sum : Term → List Mono → List (List Equation)
 matches_of_sum goal x = flat_map (λ m. matches_of_term m.term goal) x
 
+abbrev pub are_of_one_kind : Term → Term → Bool
+are_of_one_kind (Seg a b) (Seg c d) = true
+are_of_one_kind (Ang a b c) (Ang d e f) = true
+are_of_one_kind (Area a b c) (Area d e f) = true
+are_of_one_kind Right Right = true
+are_of_one_kind _ _ = false
+
+-- the term of a row beside each order of the goal's, if they are of one kind
+abbrev pub pairs_of_term : Term → Term → List (Term × Term)
+pairs_of_term term goal =
+    if are_of_one_kind term goal then map (λ order. (term, order)) (term_orders goal) else []
+
+abbrev pub pairs_of_sum : Term → List Mono → List (Term × Term)
+pairs_of_sum goal x = flat_map (λ m. pairs_of_term m.term goal) x
+
+-- what such a pair says
+abbrev pub equations_of_pair : Term × Term → List Equation
+equations_of_pair p = equations_of_term p.0 p.1
+
 -- the ways in which two terms of a row may be one
 abbrev pub cancellations_of_terms : Term → Term → List (List Equation)
 cancellations_of_terms term other =
@@ -82,6 +103,17 @@ none_cancels x y ts = list_all (λ t. not (cancels x y t)) ts
 -- no term of the sum occurs there
 abbrev pub all_cancel : List Mono → List Mono → List Mono → Bool
 all_cancel x y ms = list_all (λ m. cancels x y m.term) ms
+
+-- the terms occur in x - y, and where there is none, no term does
+abbrev pub AreTermsLeft : List Mono → List Mono → List Term → Type 0
+AreTermsLeft x y ts = IsTrue (none_cancels x y ts)
+    × (ts ≡ [] → IsTrue (all_cancel x y x) × IsTrue (all_cancel x y y))
+
+-- the terms are left so of the atom's sums
+abbrev pub AreTermsOf : Atom → List Term → Type 0
+AreTermsOf (MagEq z w) ts = AreTermsLeft z w ts
+AreTermsOf (MagLt z w) ts = AreTermsLeft z w ts
+AreTermsOf _ ts = Unit {0}
 
 abbrev pub sum_under : (ℕ → ℕ) → List Mono → List Mono
 sum_under f x = map (mono_at f) x
