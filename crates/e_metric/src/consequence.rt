@@ -128,7 +128,8 @@ pub fn answer_of_kind(
     requires wanted { IsTrue (is_well_formed_metric (option_copied wanted)) }
     ensures { IfOk result (IsKindAnswer which facts.now (option_copied wanted.entry)) }
 {
-    let named = system(alloc, which, facts, wanted)?;
+    let terms = terms_of_kind(alloc, which, facts, wanted)?;
+    let named = system(alloc, which, facts, wanted, &terms)?;
     let (names, rows) = names_and_rows(alloc, named)?;
     match decide(alloc, &rows)? {
         Verdict::Holds(values) => Ok(Metric::No(values)),

@@ -45,9 +45,9 @@ pub fn solve_kind(alloc: Global, which: Kind, facts: &Facts) -> Result<KindSyste
     requires few { length (terms_of_lits facts.now) ≤ most_terms_of_step }
     ensures { IfOk result (IsKindSystem which facts.now) }
 {
-    let named = system(alloc, which, facts, None)?;
-    let (names, rows) = names_and_rows(alloc, named)?;
     let terms = terms_of_kind(alloc, which, facts, None)?;
+    let named = system(alloc, which, facts, None, &terms)?;
+    let (names, rows) = names_and_rows(alloc, named)?;
     let prepared = prepare(alloc, rows)?;
     system_of_prepared(alloc, which, facts, names, terms, prepared)
 }

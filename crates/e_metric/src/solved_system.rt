@@ -21,7 +21,7 @@ use crate::certificates::{copy_of_name, sums_of};
 use crate::consequence::{Metric, names_and_rows};
 use crate::evaluating::{are_so, values_with};
 use crate::in_two::InTwo;
-use crate::listing::{fresh_terms, has_term};
+use crate::listing::{fresh_terms, has_term, terms_of_kind};
 use crate::systems::{rows_of_goal, system};
 use e_clause::{MetricCert, RowName};
 use e_facts::Facts;
@@ -72,7 +72,8 @@ pub fn system_width(
     ensures { IfOk result
         (λ w. w ≡ Width.width (rows_of_system which facts.now (option_copied wanted.entry))) }
 {
-    let named = system(alloc, which, facts, wanted)?;
+    let terms = terms_of_kind(alloc, which, facts, wanted)?;
+    let named = system(alloc, which, facts, wanted, &terms)?;
     let (_, rows) = names_and_rows(alloc, named)?;
     Ok(width(&rows))
 }

@@ -11,9 +11,10 @@ ghost use Rattle.e_clause.specs.System;
 ghost use Rattle.e_clause.specs.System.{of_kind, against_goal, rows_named};
 ghost use Rattle.e_clause.specs.System.{rows_of_term, rows_of_kind};
 ghost use Rattle.e_metric.specs.inner.FurtherRows;
+ghost use Rattle.e_metric.specs.ListedTerms.{distinct_terms};
 ghost use Rattle.e_metric.specs.AgreeingRows.{AreRows, AllLimited, GrowBy, IsRow, IsLimited};
 
-use crate::listing::{is_of_kind, terms_of_kind};
+use crate::listing::is_of_kind;
 use crate::literals::row_of;
 use e_clause::RowName;
 use e_facts::Facts;
@@ -195,9 +196,11 @@ pub fn system(
     which: Kind,
     facts: &Facts,
     goal: Option<&Lit>,
+    terms: &[Term],
 ) -> Result<Vec<(RowName, Row)>, AllocError>
     requires facts { IsTrue (list_all is_well_formed facts.now) }
     requires goal { IsTrue (option_map_or is_well_formed (option_copied goal) true) }
+    requires terms { terms.now ≡ distinct_terms which facts.now (option_copied goal) }
     ensures rows { IfOk result
         (λ v. AreRows (System.system which facts.now (option_copied goal.entry)) v.items) }
     ensures limited { IfOk result (λ v. AllLimited v.items) }
@@ -205,8 +208,7 @@ pub fn system(
     let mut rows = Vec::new(alloc);
     add_fact_rows(&mut rows, alloc, which, facts, 0)?;
     add_goal_row(&mut rows, alloc, which, goal)?;
-    let terms = terms_of_kind(alloc, which, facts, goal)?;
-    add_term_rows(&mut rows, alloc, facts, &terms)?;
+    add_term_rows(&mut rows, alloc, facts, terms)?;
     add_right_row(&mut rows, alloc, which)?;
     Ok(rows)
 }
