@@ -7,13 +7,13 @@ ghost use Rattle.e_line.specs.Reading.{texts, Moves};
 ghost use Rattle.e_book.specs.Grammar.{starts_with_hash, is_skipped, last_line};
 ghost use Rattle.e_names.specs.Titled.{are_notions};
 ghost use Rattle.e_book.specs.Definitions.{HasWellFormedView};
-ghost use Rattle.e_book.specs.inner.Machine.{FitsPartial, is_done, IsBegun, IsEnded};
+ghost use Rattle.e_book.specs.inner.Machine.{FitsPartial, is_done, has_ended, IsBegun, IsEnded};
 ghost use Rattle.e_book.specs.inner.Machine.{partial_after, TakesLine, ReadsOn, end_of};
 
 use crate::item::Item;
 use crate::parser::Section;
 use crate::partial_item::PartialItem;
-use e_line::{BookFault, LineError, book_fault_of, words_of_line};
+use e_line::{BookFault, LineError, book_fault_of, words_in_room};
 use e_names::Known;
 use e_text::{Line, Lines};
 use std::alloc::Global;
@@ -86,17 +86,18 @@ impl Reading {
         Reading { partial_item: None }
     }
 
-    /// Takes the next line, and gives the theorem or the definition that ends with it, if one does:
-    /// then the line after it begins the next.
+    /// Takes the next line, and says whether the theorem or the definition ends with it.
     ///
     /// Whether the line is skipped, goes on with it, ends it or has a fault does not depend on the
     /// lines after it.
-    pub fn take(
+    fn take(
         &mut self,
         alloc: Global,
         known: &Known,
         line: &Line,
-    ) -> Result<Option<Item>, BookFault>
+        words: &[&[u8]],
+    ) -> Result<bool, BookFault>
+        requires words { texts words.now ≡ tokens_of line.now.bytes.now }
         requires number { line.now.number < 2 ^ 32 }
         requires partial_item { IfSome self.old.partial_item (FitsPartial known.now) }
         requires notions { IsTrue (are_notions known.now.notions) }
@@ -104,13 +105,22 @@ impl Reading {
             (view_of_line line.now) result self.new.partial_item }
         ensures fits { OnOk result (IfSome self.new.partial_item (FitsPartial known.now)) }
     {
-        let words = words_of_line(alloc, line.bytes)?;
-        if is_skipped(&words) {
-            return Ok(None);
+        if is_skipped(words) {
+            return Ok(false);
         }
-        match take_words(alloc, known, &mut self.partial_item, &words) {
-            Ok(()) => Ok(self.take_ended(alloc)),
+        match take_words(alloc, known, &mut self.partial_item, words) {
+            Ok(()) => Ok(self.has_ended()),
             Err(error) => Err(error.at(line.number as u32)),
+        }
+    }
+
+    /// Whether its last line has come.
+    fn has_ended(&self) -> bool
+        ensures { result ≡ has_ended self.now.partial_item }
+    {
+        match &self.partial_item {
+            None => false,
+            Some(partial_item) => is_done(partial_item),
         }
     }
 
@@ -154,14 +164,16 @@ impl Reading {
         ensures begun { OnOk result (IsBegun known.now self.new.partial_item) }
         ensures good { IfOk result (λ o. IfSome o (HasWellFormedView known.now)) }
     {
+        let mut words = Vec::with_capacity(alloc, 64)?;
         while let Some(line) = lines.next() {
             let line = match line {
                 Ok(line) => line,
                 Err(fault) => return Err(book_fault_of(fault)),
             };
-            match self.take(alloc, known, &line)? {
-                None => {}
-                Some(item) => return Ok(Some(item)),
+            words = words_in_room(line.bytes, words)?;
+            let ended = self.take(alloc, known, &line, &words)?;
+            if ended {
+                return Ok(self.take_ended(alloc));
             }
         }
         Ok(None)

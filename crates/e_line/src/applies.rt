@@ -34,7 +34,7 @@ fn argument_of(word: &[u8]) -> Result<Option<Name>, LineError>
 fn arguments_of(alloc: Global, words: &[&[u8]]) -> Result<Items<Option<Name>>, LineError>
     ensures { Gives (λ a. a) result (arguments_of (texts words.now)) }
 {
-    let mut args = Items::empty(alloc);
+    let mut args = Items::new(Vec::with_capacity(alloc, words.len())?);
     for word in words {
         let argument = argument_of(word)?;
         args.push(argument)?;

@@ -34,4 +34,4 @@ pub use raw_line::{RawLine, raw_line_of};
 pub use spelling_check::SpellingCheck;
 pub use sum::{RawMono, RawTerm, term_of};
 pub use superposes::{RawSuperpose, superposition_pieces};
-pub use words::{Words, names_of, sort_word, words_of_line};
+pub use words::{Words, names_of, sort_word, words_in_room, words_of_line};

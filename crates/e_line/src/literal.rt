@@ -335,7 +335,7 @@ pub fn diagram_lits_of(alloc: Global, words: &[&[u8]]) -> Result<Items<RawLit>, 
 pub(crate) fn lits_of(alloc: Global, words: &[&[u8]]) -> Result<Items<RawLit>, LineError>
     ensures { Gives (λ l. l) result (lits_of (texts words.now)) }
 {
-    let mut lits = Items::empty(alloc);
+    let mut lits = Items::new(Vec::with_capacity(alloc, words.len() / 4 + 1)?);
     read_lits_into(alloc, words, &mut lits)?;
     Ok(lits)
 }

@@ -32,7 +32,18 @@ pub fn sort_word(sort: Sort) -> &'static [u8]
 pub fn words_of_line(alloc: Global, line: &[u8]) -> Result<Vec<&[u8]>, AllocError>
     ensures { IfOk result (λ v. texts v.items ≡ tokens_of line.now) }
 {
-    let mut words = Vec::with_capacity(alloc, line.len() / 2 + 1)?;
+    let words = Vec::with_capacity(alloc, line.len() / 2 + 1)?;
+    words_in_room(line, words)
+}
+
+/// The tokens of a line, in the room of other words. It fails only out of memory.
+pub fn words_in_room<'a>(
+    line: &'a [u8],
+    mut words: Vec<&'a [u8]>,
+) -> Result<Vec<&'a [u8]>, AllocError>
+    ensures { IfOk result (λ v. texts v.items ≡ tokens_of line.now) }
+{
+    words.clear();
     for word in Tokens::new(line) {
         words.push(word)?;
     }

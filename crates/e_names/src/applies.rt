@@ -49,7 +49,7 @@ fn entries_in(
     requires { FewNames names.now }
     ensures { Gives (λ p. p) result (entries_in names.now sorts.now of.now) }
 {
-    let mut found = Items::empty(alloc);
+    let mut found = Items::new(Vec::with_capacity(alloc, of.len())?);
     for (sort, name) in sorts.iter().zip(of) {
         let entry = entry_in(names, *sort, *name)?;
         found.push(entry)?;

@@ -76,7 +76,7 @@ pub fn raw_term(names: &Names, term: Term) -> RawTerm
 fn raw_sum(alloc: Global, names: &Names, monos: &[Mono]) -> Result<Items<RawMono>, AllocError>
     ensures { IfOk result (λ s. s ≡ raw_sum names.now monos.now) }
 {
-    let mut sum = Items::empty(alloc);
+    let mut sum = Items::new(Vec::with_capacity(alloc, monos.len())?);
     for mono in monos {
         let term = raw_term(names, mono.term);
         let coeff = mono.coeff;
@@ -173,7 +173,7 @@ pub(crate) fn put_named(
 pub fn raw_lits(alloc: Global, names: &Names, lits: &[Lit]) -> Result<Items<RawLit>, AllocError>
     ensures { IfOk result (λ r. r ≡ map (raw_of names.now) lits.now) }
 {
-    let mut raws = Items::empty(alloc);
+    let mut raws = Items::new(Vec::with_capacity(alloc, lits.len())?);
     match put_named(alloc, names, lits, &mut raws) {
         Ok(()) => Ok(raws),
         Err(error) => {

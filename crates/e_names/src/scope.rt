@@ -248,21 +248,21 @@ pub(crate) fn object_as(names: &Names, sort: Sort, name: Name) -> Result<Obj, Li
     Ok(Obj { sort, num })
 }
 
-fn objects_as(
-    alloc: Global,
+/// Puts the objects of this sort with these names last.
+fn put_objects_as(
     names: &Names,
     sort: Sort,
     of: &[Name],
-) -> Result<Items<Obj>, LineError>
+    found: &mut Items<Obj>,
+) -> Result<(), LineError>
     requires { FewNames names.now }
-    ensures { Gives (λ l. l) result (objects_as names.now sort of.now) }
+    ensures { Moves result found.new (with_front found.old (objects_as names.now sort of.now)) }
 {
-    let mut found = Items::new(Vec::with_capacity(alloc, of.len())?);
     for name in of {
         let object = object_as(names, sort, *name)?;
         found.push(object)?;
     }
-    Ok(found)
+    Ok(())
 }
 
 fn is_taken(names: &Names, earlier: &[Name], name: Name) -> bool
@@ -313,11 +313,10 @@ pub fn args_in(
 {
     let (points, rest) = args.split_at(usize::from(sig.points));
     let (lines, circles) = rest.split_at(usize::from(sig.lines));
-    let mut objects = objects_as(alloc, names, Sort::Point, points)?;
-    let lines = objects_as(alloc, names, Sort::Line, lines)?;
-    let circles = objects_as(alloc, names, Sort::Circle, circles)?;
-    objects.append(lines.items())?;
-    objects.append(circles.items())?;
+    let mut objects = Items::new(Vec::with_capacity(alloc, args.len())?);
+    put_objects_as(names, Sort::Point, points, &mut objects)?;
+    put_objects_as(names, Sort::Line, lines, &mut objects)?;
+    put_objects_as(names, Sort::Circle, circles, &mut objects)?;
     Ok(objects)
 }
 
@@ -355,7 +354,7 @@ fn arguments_in(
     requires { FewNames names.now }
     ensures { Gives (λ l. l) result (arguments_in names.now shapes.now [] of.now) }
 {
-    let mut found = Items::empty(alloc);
+    let mut found = Items::new(Vec::with_capacity(alloc, of.len())?);
     for name in of {
         let object = object_named(names, *name)?;
         found.push(object)?;
@@ -377,7 +376,7 @@ fn objects_used(alloc: Global, names: &Names, of: &[Name]) -> Result<Items<Obj>,
     requires { FewNames names.now }
     ensures { Gives (λ l. l) result (each (used_object names.now) of.now) }
 {
-    let mut found = Items::empty(alloc);
+    let mut found = Items::new(Vec::with_capacity(alloc, of.len())?);
     for name in of {
         let object = object_named(names, *name)?;
         found.push(object)?;

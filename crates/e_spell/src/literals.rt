@@ -49,7 +49,7 @@ pub(crate) fn names_of_objects(
 ) -> Result<Items<Name>, AllocError>
     ensures { IfOk result (λ n. n ≡ map (name_of_object names.now) objects.now) }
 {
-    let mut found = Vec::new(alloc);
+    let mut found = Vec::with_capacity(alloc, objects.len())?;
     for object in objects {
         found.push(name_of_object(names, *object))?;
     }
@@ -74,7 +74,7 @@ pub(crate) fn names_of_arguments(
 ) -> Result<Items<Option<Name>>, AllocError>
     ensures { IfOk result (λ n. n ≡ map (argument_name names.now) args.now) }
 {
-    let mut found = Vec::new(alloc);
+    let mut found = Vec::with_capacity(alloc, args.len())?;
     for argument in args {
         found.push(argument_name(names, *argument))?;
     }

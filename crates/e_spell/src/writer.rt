@@ -21,8 +21,8 @@ use std::mem;
 /// An earlier theorem that the derivation uses is written by its title, which it has among those
 /// that are known. The theorem's own block is not written. An object without a name is written as
 /// `nameless`, and a theorem that is not known by no word. It fails only out of memory. The text
-/// takes at most a few times the memory of the theorem, the derivation and the titles that it
-/// writes.
+/// takes 4096 bytes, or at most a few times the memory of the theorem, the derivation and the titles
+/// that it writes.
 pub fn spell(
     alloc: Global,
     known: &Theorems,
@@ -32,7 +32,7 @@ pub fn spell(
     ensures { IfOk result
         (λ v. v.items ≡ spelling known.now (entry_of theorem.now) (script_of deriv.now)) }
 {
-    let mut out = Vec::new(alloc);
+    let mut out = Vec::with_capacity(alloc, 4096)?;
     let declared = put_head(
         alloc,
         &mut out,

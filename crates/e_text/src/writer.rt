@@ -19,7 +19,11 @@ fn put_or_cut(out: &mut Vec<u8>, word: &[u8], before: usize) -> Result<(), Alloc
         out.truncate(before);
         return Err(lack.into());
     }
-    if let Err(lack) = out.extend_from_slice(word) {
+    let put = match word {
+        [byte] => out.push(*byte).map_err(|lack| lack.into()),
+        _ => out.extend_from_slice(word),
+    };
+    if let Err(lack) = put {
         out.truncate(before);
         return Err(lack.into());
     }

@@ -1,6 +1,6 @@
 -- Reading on from what has come of a theorem or of a definition, line by line, whatever lines come.
 use Rattle.std.proofs.Common.{◌≡◌, ℕ, Bool, true, false, cond, List, [], ◌∷◌, ◌++◌, Option, Some, None, Result, Ok, Err, refl, sym, ap, subst, ◌∙◌, append_assoc}
-use Rattle.std.specs.Prelude.{IfOk, OnOk, IfSome}
+use Rattle.std.specs.Prelude.{IfOk, OnOk, IfSome, OnSome}
 use Rattle.std.proofs.lemmas.List.{append-nil}
 use Rattle.e_text.specs.Tokens.{tokens_of}
 use Rattle.e_text.specs.Lines.{LineView, HaveNoFault}
@@ -19,7 +19,7 @@ use Rattle.e_names.specs.declared.known.Known.{Known}
 use Rattle.e_names.specs.Titled.{are_notions}
 use Rattle.e_book.specs.Grammar.{is_skipped, put_at, BookFails}
 use Rattle.e_book.specs.Definitions.{BookItem, HasWellFormedView, view_of}
-use Rattle.e_book.specs.inner.Machine.{line_step, is_done, partial_after, FitsPartial, item_of_partial, at_end, item_from, IsBegun, IsEnded, TakesLine, ReadsOn, end_of}
+use Rattle.e_book.specs.inner.Machine.{line_step, is_done, partial_after, FitsPartial, item_of_partial, at_end, item_from, IsBegun, IsEnded, has_ended, TakesLine, ReadsOn, end_of}
 use Rattle.e_book.proofs.parsers.PartialInvariants.{read_is_well_formed}
 
 abbrev Rest : Type 0
@@ -120,19 +120,17 @@ fails_before (line_errors.Fault f) (Err k) h = cc
 
 -- ---- what a line makes of what has come
 
-pub takes_skipped : (known : Known) (old : Option PartialItem) (l : LineView) → is_skipped (tokens_of l.bytes) ≡ true → TakesLine known old l (Ok None) old
+pub takes_skipped : (known : Known) (old : Option PartialItem) (l : LineView) → is_skipped (tokens_of l.bytes) ≡ true → TakesLine known old l (Ok false) old
 takes_skipped known old l h = λ last more. skipped known last old l more h
 
 -- it goes on, or ends
-pub takes_words : (known : Known) (old mid new : Option PartialItem) (l : LineView) (i : Option Item) → is_skipped (tokens_of l.bytes) ≡ false → partial_after known old (tokens_of l.bytes) ≡ Ok mid → IsEnded mid i new → TakesLine known old l (Ok i) new
-takes_words known old None new l i h e w = absurd (from_none (line_step known old (tokens_of l.bytes)) e)
-takes_words known old (Some c) new l None h e w =
-    λ last more. worded_as known last old l more c h (from_some (line_step known old (tokens_of l.bytes)) c e) ∙ on_false (is_done c) (answered (pair (item_of_partial c) more)) (item_from known last (Some c) more) w.0
-    ∙ ap (λ (d : Option PartialItem). item_from known last d more) (sym w.1)
-takes_words known old (Some c) new l (Some t) h e w = (
-  w.2,
-  λ last more. worded_as known last old l more c h (from_some (line_step known old (tokens_of l.bytes)) c e) ∙ on_true (is_done c) (answered (pair (item_of_partial c) more)) (item_from known last (Some c) more) w.0
-      ∙ ap (λ (e : BookItem). answered (pair e more)) (sym w.1),
+pub takes_words : (known : Known) (old mid : Option PartialItem) (l : LineView) (ended : Bool) → is_skipped (tokens_of l.bytes) ≡ false → partial_after known old (tokens_of l.bytes) ≡ Ok mid → ended ≡ has_ended mid → TakesLine known old l (Ok ended) mid
+takes_words known old None l ended h e w = absurd (from_none (line_step known old (tokens_of l.bytes)) e)
+takes_words known old (Some c) l false h e w =
+    λ last more. worded_as known last old l more c h (from_some (line_step known old (tokens_of l.bytes)) c e) ∙ on_false (is_done c) (answered (pair (item_of_partial c) more)) (item_from known last (Some c) more) (sym w)
+takes_words known old (Some c) l true h e w = (
+  sym w,
+  λ last more. worded_as known last old l more c h (from_some (line_step known old (tokens_of l.bytes)) c e) ∙ on_true (is_done c) (answered (pair (item_of_partial c) more)) (item_from known last (Some c) more) (sym w),
 )
 
 -- it fails
@@ -147,10 +145,6 @@ fits_on known None new i h f = subst (λ (c : Option PartialItem). IfSome c (Fit
 fits_on known (Some c) new None h f = subst (λ (c : Option PartialItem). IfSome c (FitsPartial known)) (sym h.1) f
 fits_on known (Some c) new (Some i) h f = subst (λ (c : Option PartialItem). IfSome c (FitsPartial known)) (sym h.2) tt
 
--- want of memory says nothing
-pub takes_nothing : (known : Known) (old new : Option PartialItem) (l : LineView) (r : Result (Option Item) BookFault) → r ≡ Err faults.NoMemory → TakesLine known old l r new
-takes_nothing known old new l r e = subst (λ (x : Result (Option Item) BookFault). TakesLine known old l x new) (sym e) (λ last more. tt)
-
 -- ---- line after line
 
 -- to read on through these lines is to read on through those
@@ -162,16 +156,26 @@ through : (known : Known) (old mid : Option PartialItem) (lines here left : Rest
     → (last : ℕ) (more : Rest) → item_from known last old (lines ++ more) ≡ item_from known last mid (Ok l ∷ (left ++ more))
 through known old mid lines here left l e h last more = h last more ∙ ap (λ (ls : Rest). item_from known last mid (ls ++ more)) e
 
-pub alike_more : (known : Known) (old mid new : Option PartialItem) (lines here left : Rest) (l : LineView) → here ≡ Ok l ∷ left → Alike known old lines mid here → TakesLine known mid l (Ok None) new → Alike known old lines new left
+pub alike_more : (known : Known) (old mid new : Option PartialItem) (lines here left : Rest) (l : LineView) → here ≡ Ok l ∷ left → Alike known old lines mid here → TakesLine known mid l (Ok false) new → Alike known old lines new left
 alike_more known old mid new lines here left l e h t = λ last more. through known old mid lines here left l e h last more ∙ t last (left ++ more)
 
 pub good_more : (lines here left : Rest) (l : LineView) → here ≡ Ok l ∷ left → (HaveNoFault here → HaveNoFault lines) → HaveNoFault left → HaveNoFault lines
 good_more lines here left l e good g = good (subst HaveNoFault (sym e) g)
 
-pub ends_item : (known : Known) (old mid new : Option PartialItem) (lines here left : Rest) (l : LineView) (t : Item) → here ≡ Ok l ∷ left → Alike known old lines mid here → (HaveNoFault here → HaveNoFault lines) → TakesLine known mid l (Ok (Some t)) new
-    → ReadsOn known old lines (Ok (Some t)) new left
-ends_item known old mid new lines here left l t e h good taken =
-    (taken.0, good_more lines here left l e good, λ last more. through known old mid lines here left l e h last more ∙ taken.1 last (left ++ more))
+-- the last line of it: what they make is taken out
+both : (b : Bool) → b ≡ true → b ≡ false → ⊥
+both true h k = absurd cc
+both false h k = absurd cc
+
+pub ends_item : (known : Known) (old mid done new : Option PartialItem) (lines here left : Rest) (l : LineView) (o : Option Item) → here ≡ Ok l ∷ left → Alike known old lines mid here → (HaveNoFault here → HaveNoFault lines) → TakesLine known mid l (Ok true) done → IsEnded done o new
+    → ReadsOn known old lines (Ok o) new left
+ends_item known old mid None new lines here left l o e h good taken ended = absurd taken
+ends_item known old mid (Some c) new lines here left l None e h good taken ended = absurd (both (is_done c) taken.0 ended.0)
+ends_item known old mid (Some c) new lines here left l (Some t) e h good taken ended = (
+  ended.2,
+  good_more lines here left l e good,
+  λ last more. through known old mid lines here left l e h last more ∙ taken.1 last (left ++ more) ∙ ap (λ (i : BookItem). answered (pair i (left ++ more))) (sym ended.1),
+)
 
 pub fails_at_line : (known : Known) (old mid new other : Option PartialItem) (lines here left any : Rest) (l : LineView) (f : BookFault) → here ≡ Ok l ∷ left → Alike known old lines mid here → TakesLine known mid l (Err f) new → ReadsOn known old lines (Err f) other any
 fails_at_line known old mid new other lines here left any l f e h taken =
@@ -184,6 +188,11 @@ fails_in_line known old mid other lines here any f e h =
 pub all_taken : (known : Known) (old new : Option PartialItem) (lines here left : Rest) → here ≡ [] → left ≡ [] → Alike known old lines new here → (HaveNoFault here → HaveNoFault lines) → ReadsOn known old lines (Ok None) new left
 all_taken known old new lines here left e none h good =
     (none, good (subst HaveNoFault (sym e) tt), λ last more. h last more ∙ ap (λ (ls : Rest). item_from known last new (ls ++ more)) e)
+
+-- what is so whatever is taken out
+pub on_some : {P : Type 0} (o : Option Item) → P → OnSome o P
+on_some None p = tt
+on_some (Some i) p = p
 
 -- ---- what is read so was read from its first line on
 

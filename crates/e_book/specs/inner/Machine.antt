@@ -186,17 +186,23 @@ IsEnded (Some c) None new = (is_done c ≡ false) × (new ≡ Some c)
 IsEnded (Some c) (Some i) new =
     (is_done c ≡ true) × (view_of i ≡ item_of_partial c) × (new ≡ None)
 
+-- whether the last line of it has come
+abbrev pub has_ended : Option PartialItem → Bool
+has_ended None = false
+has_ended (Some c) = is_done c
+
 -- what a line makes of it: to read on from here through the line is to read on from there; or the
 -- line ends the theorem or the definition; or it is the first with a fault
-abbrev pub TakesLine : Known → Option PartialItem → LineView → Result (Option Item) BookFault
+abbrev pub TakesLine : Known → Option PartialItem → LineView → Result Bool BookFault
     → Option PartialItem → Type 0
-TakesLine known old l (Ok None) new =
+TakesLine known old l (Ok false) new =
     (last : ℕ) (more : Rest)
     → item_from known last old (Ok l ∷ more) ≡ item_from known last new more
-TakesLine known old l (Ok (Some i)) new =
-    (new ≡ None)
+TakesLine known old l (Ok true) None = ⊥
+TakesLine known old l (Ok true) (Some c) =
+    (is_done c ≡ true)
     × ((last : ℕ) (more : Rest)
-    → item_from known last old (Ok l ∷ more) ≡ Ok (Some (view_of i, more)))
+    → item_from known last old (Ok l ∷ more) ≡ Ok (Some (item_of_partial c, more)))
 TakesLine known old l (Err f) new =
     (last : ℕ) (more : Rest) → BookFails f (item_from known last old (Ok l ∷ more))
 

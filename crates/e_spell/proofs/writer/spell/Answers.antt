@@ -6,4 +6,4 @@ use Rattle.e_spell.proofs.writer.spell.Goals as goal
 pub returns : goal.returns
 returns c =
     parts_in_turn c.args.known.now (entry_of c.args.theorem.now) (script_of c.args.deriv.now) _ _ _ _ _ _
-    c.new-out.ensures.items c.in_ok-declared.ensures.text c.in_ok-declared.ensures.declared c.in_ok-names.ensures c.in_ok-put.ensures c.in_ok-put_line.ensures.ok
+    c.in_ok-out.ensures.items c.in_ok-declared.ensures.text c.in_ok-declared.ensures.declared c.in_ok-names.ensures c.in_ok-put.ensures c.in_ok-put_line.ensures.ok
