@@ -19,7 +19,7 @@ use Rattle.e_clause.specs.Metric.{MetricConsequence}
 use Rattle.e_transfer.specs.declared.models.Filling.TheVariants.{Each}
 use Rattle.e_transfer.specs.declared.numbers.Numbers.{Numbers}
 use Rattle.e_transfer.specs.Models.{value_in_list, value_when_canonical, value_by, fits_term, fits_terms, is_model}
-use Rattle.e_transfer.specs.inner.ListedTerms.{angle_points, segment_points, zero_points, angles_of, segments_of, zero_segments_of, is_angle_below, are_angles_within, later_number, later_points, are_same_points, IsUnlisted, IsApart, AreSeenAngles, AreSeenSegments, NeverDifferUnseen}
+use Rattle.e_transfer.specs.inner.ListedTerms.{angle_points, segment_points, zero_points, angles_of, segments_of, zero_segments_of, is_angle_below, are_angles_within, later_number, later_points, are_same_points, IsUnlisted, IsOneUnlisted, IsApart, AreSeenAngles, AreSeenSegments, NeverDiffer, NeverDifferUnseen}
 use Rattle.e_transfer.proofs.FreeAreas.{equal_fails}
 use Rattle.e_transfer.proofs.ModelValues.{refuted}
 
@@ -271,3 +271,18 @@ module _ (facts : List Lit) (values : List (Term × ℕ)) (models : (k : ℕ) �
       (subst (λ (zs : List Points). AreSeenSegments (segments_of values) zs n (Seg x y) (Seg u v) s) h
       (subst (λ (ps : List Points). AreSeenSegments ps zeros n (Seg x y) (Seg u v) s) g
       (subst (λ (b : Term). AreSeenSegments points zeros n (Seg x y) b s) f (subst (λ (a : Term). AreSeenSegments points zeros n a other s) e are))))))
+
+  pub angles_open : (n : Numbers) (t other : Term) (x y z u v w : ℕ) (points : List Points) → are_angles_within values ≡ true → t ≡ Ang x y z → other ≡ Ang u v w
+      → points ≡ angles_of values → IsOneUnlisted points n t other → NeverDiffer facts n t other
+  angles_open n t other x y z u v w points bounds e f g one =
+      subst (λ (a : Term). NeverDiffer facts n a other) (sym e)
+      (subst (λ (b : Term). NeverDiffer facts n (Ang x y z) b) (sym f)
+      (at
+      (subst (λ (ps : List Points). IsOneUnlisted ps n (Ang x y z) (Ang u v w)) g
+      (subst (λ (b : Term). IsOneUnlisted points n (Ang x y z) b) f (subst (λ (a : Term). IsOneUnlisted points n a other) e one)))))
+    where
+      at : IsOneUnlisted (angles_of values) n (Ang x y z) (Ang u v w) → NeverDiffer facts n (Ang x y z) (Ang u v w)
+      at (inl first) = λ coeff rest.
+          let h = later_number n rest in angles_apart coeff (h x) (h y) (h z) (h u) (h v) (h w) bounds (inl (first rest))
+      at (inr second) = λ coeff rest.
+          let h = later_number n rest in angles_apart coeff (h x) (h y) (h z) (h u) (h v) (h w) bounds (inr (second rest))

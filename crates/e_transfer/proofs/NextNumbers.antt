@@ -33,7 +33,7 @@ use Rattle.e_transfer.specs.Verdicts.{Excludes}
 use Rattle.e_transfer.specs.inner.Angles.{may_be}
 use Rattle.e_transfer.specs.inner.BoundFacts.{fits, may_be_among}
 use Rattle.e_transfer.specs.inner.Candidates.{variables_of_atom, variables_of_term, known_number, known_numbers, is_next, option_at, number_at, with_option, AreSeen, number_by, numbers_by}
-use Rattle.e_transfer.specs.inner.ListedTerms.{later_number, later_points, are_same_points, AreSeenPoints}
+use Rattle.e_transfer.specs.inner.ListedTerms.{later_number, later_points, are_same_points, IsUnlisted, AreSeenPoints}
 use Rattle.e_transfer.specs.inner.PartsOfChoices.{chosen_arguments}
 use Rattle.e_transfer.specs.inner.SearchedPlaces.{Wanted}
 use Rattle.e_transfer.proofs.Instances.{of_instance, at_map, chosen}
@@ -103,14 +103,13 @@ one_more_seen s k triples i t seen new less at before more = λ n out.
 
 -- ---- the numbers of variables
 
-module _ (r : Row) (positions part : List ℕ) (n : ℕ) (rest : List ℕ) where
+module _ (r : Row) (positions part tail : List ℕ) where
   abbrev f : ℕ → ℕ
-  f = number (chosen_arguments r positions (part ++ n ∷ rest))
+  f = number (chosen_arguments r positions (part ++ tail))
 
-  at_place : (v p : ℕ) → slice_get positions v ≡ Some p → f v ≡ get_or (part ++ n ∷ rest) p 0
+  at_place : (v p : ℕ) → slice_get positions v ≡ Some p → f v ≡ get_or (part ++ tail) p 0
   at_place v p is =
-      chosen r (part ++ n ∷ rest) 0 positions v (slice_get_within positions v p is)
-      ∙ ap (λ q. get_or (part ++ n ∷ rest) q 0) (get_or_from_slice_get positions v p 0 is)
+      chosen r (part ++ tail) 0 positions v (slice_get_within positions v p is) ∙ ap (λ q. get_or (part ++ tail) q 0) (get_or_from_slice_get positions v p 0 is)
 
   known_fits : (v : Option ℕ) → may_be (known_number positions part v) (number_by f v) ≡ true
   known_fits None = refl
@@ -119,20 +118,11 @@ module _ (r : Row) (positions part : List ℕ) (n : ℕ) (rest : List ℕ) where
       at : (p : ℕ) → slice_get positions v ≡ Some p → (o : Option ℕ) → slice_get part p ≡ o → may_be o (f v) ≡ true
       at p is None there = refl
       at p is (Some k) there =
-          eq-eqb k (f v)
-          (sym (at_place v p is ∙ get_or_append_left part (n ∷ rest) 0 p (slice_get_within part p k there) ∙ get_or_from_slice_get part p k 0 there))
+          eq-eqb k (f v) (sym (at_place v p is ∙ get_or_append_left part tail 0 p (slice_get_within part p k there) ∙ get_or_from_slice_get part p k 0 there))
 
       by : (o : Option ℕ) → slice_get positions v ≡ o → may_be (option_and_then (slice_get part) o) (f v) ≡ true
       by None is = refl
       by (Some p) is = at p is (slice_get part p) refl
-
-  next_is : (v : Option ℕ) → is_next positions part v ≡ true → number_by f v ≡ n
-  next_is None off = absurd (true≢false (sym off))
-  next_is (Some v) so = by (slice_get positions v) refl so
-    where
-      by : (o : Option ℕ) → slice_get positions v ≡ o → option_map_or (λ p. eqb p (length part)) o false ≡ true → number_by f (Some v) ≡ n
-      by None is off = absurd (true≢false (sym off))
-      by (Some p) is here = at_place v p is ∙ ap (λ q. get_or (part ++ n ∷ rest) q 0) (eqb-true p (length part) here) ∙ get_or-append_seam part n rest 0
 
   all_fit : (vs : Option ℕ × Option ℕ × Option ℕ) → fits (known_numbers positions part vs) (numbers_by f vs) ≡ true
   all_fit vs =
@@ -140,12 +130,21 @@ module _ (r : Row) (positions part : List ℕ) (n : ℕ) (rest : List ℕ) where
       let t = numbers_by f vs in
       and_from (may_be k.0 t.0) (may_be k.1 t.1 && may_be k.2 t.2) (known_fits vs.0) (and_from (may_be k.1 t.1) (may_be k.2 t.2) (known_fits vs.1) (known_fits vs.2))
 
-  with_next : (s : Slot) (vs : Option ℕ × Option ℕ × Option ℕ) → is_next positions part (option_at s vs) ≡ true
-      → fits (with_option s (Some n) (known_numbers positions part vs)) (numbers_by f vs) ≡ true
-  with_next s vs next =
-      with_number s n (known_numbers positions part vs) (numbers_by f vs) (all_fit vs) (at_slot s vs next)
+module _ (r : Row) (positions part : List ℕ) (n : ℕ) (rest : List ℕ) where
+  next_is : (v : Option ℕ) → is_next positions part v ≡ true → number_by (f r positions part (n ∷ rest)) v ≡ n
+  next_is None off = absurd (true≢false (sym off))
+  next_is (Some v) so = by (slice_get positions v) refl so
     where
-      at_slot : (s : Slot) (vs : Option ℕ × Option ℕ × Option ℕ) → is_next positions part (option_at s vs) ≡ true → number_at s (numbers_by f vs) ≡ n
+      by : (o : Option ℕ) → slice_get positions v ≡ o → option_map_or (λ p. eqb p (length part)) o false ≡ true → number_by (f r positions part (n ∷ rest)) (Some v) ≡ n
+      by None is off = absurd (true≢false (sym off))
+      by (Some p) is here = at_place r positions part (n ∷ rest) v p is ∙ ap (λ q. get_or (part ++ n ∷ rest) q 0) (eqb-true p (length part) here) ∙ get_or-append_seam part n rest 0
+
+  with_next : (s : Slot) (vs : Option ℕ × Option ℕ × Option ℕ) → is_next positions part (option_at s vs) ≡ true
+      → fits (with_option s (Some n) (known_numbers positions part vs)) (numbers_by (f r positions part (n ∷ rest)) vs) ≡ true
+  with_next s vs next =
+      with_number s n (known_numbers positions part vs) (numbers_by (f r positions part (n ∷ rest)) vs) (all_fit r positions part (n ∷ rest) vs) (at_slot s vs next)
+    where
+      at_slot : (s : Slot) (vs : Option ℕ × Option ℕ × Option ℕ) → is_next positions part (option_at s vs) ≡ true → number_at s (numbers_by (f r positions part (n ∷ rest)) vs) ≡ n
       at_slot slot.First vs next = next_is vs.0 next
       at_slot slot.Second vs next = next_is vs.1 next
       at_slot slot.Third vs next = next_is vs.2 next
@@ -271,7 +270,7 @@ module _ (n : Numbers) (t : Term) (s : Slot) (next : is_next n.positions.now n.p
   known_is : (k : ℕ) (rest : List ℕ) (v : Option ℕ) (a : ℕ) → known_number n.positions.now n.part.now v ≡ Some a → number_by (later_number n (k ∷ rest)) v ≡ a
   known_is k rest v a is =
       sym (eqb-true a (number_by (later_number n (k ∷ rest)) v)
-      (subst (λ (o : Option ℕ). may_be o (number_by (later_number n (k ∷ rest)) v) ≡ true) is (known_fits (row_of n.row.now) n.positions.now n.part.now k rest v)))
+      (subst (λ (o : Option ℕ). may_be o (number_by (later_number n (k ∷ rest)) v) ≡ true) is (known_fits (row_of n.row.now) n.positions.now n.part.now (k ∷ rest) v)))
 
   pub first_apart : (a k : ℕ) (rest : List ℕ) → s ≡ slot.First → known_number n.positions.now n.part.now vs.1 ≡ Some a → k ≢ a
       → (later_points n (k ∷ rest) t).0 ≢ (later_points n (k ∷ rest) t).1
@@ -282,3 +281,9 @@ module _ (n : Numbers) (t : Term) (s : Slot) (next : is_next n.positions.now n.p
       → (later_points n (k ∷ rest) t).0 ≢ (later_points n (k ∷ rest) t).1
   second_apart a k rest second is other same =
       other (sym (next_is (row_of n.row.now) n.positions.now n.part.now k rest vs.1 (subst (λ (q : Slot). is_next n.positions.now n.part.now (option_at q vs) ≡ true) second next)) ∙ (sym same ∙ known_is k rest vs.0 a is))
+
+-- those that fit none are none of these, whatever numbers come next
+pub never_there : (n : Numbers) (t : Term) (points : List (ℕ × ℕ × ℕ)) → list_any (fits (known_numbers n.positions.now n.part.now (variables_of_term t))) points ≡ false → (rest : List ℕ)
+    → IsUnlisted points n rest t
+never_there n t points none rest =
+    none_same (later_points n rest t) (known_numbers n.positions.now n.part.now (variables_of_term t)) points (all_fit (row_of n.row.now) n.positions.now n.part.now rest (variables_of_term t)) none

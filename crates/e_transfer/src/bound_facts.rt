@@ -111,7 +111,8 @@ pub fn fits(known: Known, numbers: Triple) -> bool
     may_be(known.0, numbers.0) && (may_be(known.1, numbers.1) && may_be(known.2, numbers.2))
 }
 
-fn is_any(known: Known, numbers: &[Triple]) -> bool
+/// Whether one of the three numbers is those that are known.
+pub fn is_any(known: Known, numbers: &[Triple]) -> bool
     ensures { result ≡ list_any (BoundFacts.fits known) numbers.now }
 {
     numbers.iter().any(|triple| fits(known, *triple))

@@ -1,16 +1,16 @@
 //! Which numbers may come next in the search at one place of a clause: those with which a literal
 //! that has to be a fact may be one.
 
-ghost use Rattle.std.specs.Prelude.{◌≡◌, ◌≢◌, ◌<◌, ◌⊎◌, ℕ, length, slice_get, IfSome, Some, true, false};
+ghost use Rattle.std.specs.Prelude.{◌≡◌, ◌≢◌, ◌<◌, ◌⊎◌, ℕ, List, length, slice_get, IfSome, Some, true, false};
 ghost use Rattle.e_literal.specs.declared.literal.Lit.{Lit};
 ghost use Rattle.e_clause.specs.Instance.{clause_of};
 ghost use Rattle.e_clause.specs.Views.{atom_of, row_of};
 ghost use Rattle.e_transfer.specs.inner.Candidates;
 ghost use Rattle.e_transfer.specs.inner.Equations;
 ghost use Rattle.e_transfer.specs.inner.Candidates.{variables_of_atom, option_at, AreSeen};
-ghost use Rattle.e_transfer.specs.inner.ListedTerms.{AreSeenPoints, AreSeenZero};
+ghost use Rattle.e_transfer.specs.inner.ListedTerms.{IsUnlisted, AreSeenPoints, AreSeenZero};
 
-use crate::bound_facts::{Known, fits};
+use crate::bound_facts::{Known, fits, is_any};
 use crate::clause::pattern_at;
 use crate::listing::Triple;
 use crate::marks::parts;
@@ -185,6 +185,13 @@ pub fn seen_numbers(known: Known, place: Slot, triples: &[Triple]) -> [bool; CAN
         }
     }
     seen
+}
+
+/// Whether the points of the term are none of these, whatever numbers come next.
+pub fn is_unlisted(numbers: &Numbers, points: &[Triple], term: Term) -> bool
+    ensures { result ≡ true → (rest : List ℕ) → IsUnlisted points.now numbers.now rest term }
+{
+    !is_any(known_numbers(numbers, variables_of_term(term)), points)
 }
 
 /// The numbers that may come next with which the points of the term are among these.

@@ -16,18 +16,19 @@ ghost use Rattle.e_transfer.specs.Marks;
 ghost use Rattle.e_transfer.specs.Marks.{is_area_term, relation_number};
 ghost use Rattle.e_transfer.specs.Verdicts.{Excludes};
 ghost use Rattle.e_transfer.specs.inner.ListedTerms.{NeverDiffer, NeverDifferUnseen};
-ghost use Rattle.e_transfer.specs.inner.ListedTerms.{AreEqualAt, AreSeenAngles, AreSeenSegments};
+ghost use Rattle.e_transfer.specs.inner.ListedTerms.{AreEqualAt, IsOneUnlisted, AreSeenAngles, AreSeenSegments};
 ghost use Rattle.e_transfer.specs.inner.PartsOfChoices.{arguments_by};
 ghost use Rattle.e_transfer.specs.inner.SearchedPlaces.{Wanted, NoneFrom, Shown};
 
 use crate::areas::{Equality, equal_terms, is_one_of};
 use crate::bound_facts::is_unknown;
 use crate::candidates::{
-    known_numbers, next_of, seen_by_both, seen_by_one, seen_numbers, seen_points, seen_zero,
-    variables_at,
+    is_unlisted, known_numbers, next_of, seen_by_both, seen_by_one, seen_numbers, seen_points,
+    seen_zero, variables_at,
 };
 use crate::clause::{clause_len, pattern_at};
 use crate::instance_check::{check_instance, is_refuted};
+use crate::listing::Triple;
 use crate::marks::{
     has_to_be_fact, is_area, is_equality_of_points, is_equation, mark, mark_of, parts, relation_at,
 };
@@ -162,10 +163,10 @@ fn is_newest(numbers: &Numbers, at: u16) -> bool {
 // Whether the last number of the part is one of the term.
 fn has_newest(numbers: &Numbers, term: Term) -> bool {
     match term {
-        Term::Area(x, y, z) => {
+        Term::Ang(x, y, z) | Term::Area(x, y, z) => {
             is_newest(numbers, x) || is_newest(numbers, y) || is_newest(numbers, z)
         }
-        Term::Seg(_, _) | Term::Ang(_, _, _) | Term::Right => false,
+        Term::Seg(_, _) | Term::Right => false,
     }
 }
 
@@ -232,15 +233,48 @@ fn seen_terms(
     }
 }
 
-/// Whether it is seen that no need holds that says that the two areas differ, whatever numbers come
-/// next: the last number of the part completes the first, and it is free.
+/// Whether one of the two angles is not listed, whatever numbers come next: it may be what the other
+/// is.
+fn is_one_unlisted(prepared: &Prepared, numbers: &Numbers, term: Term, other: Term) -> bool
+    ensures { result ≡ true
+        → IsOneUnlisted prepared.now.angles.items numbers.now term other }
+{
+    let angles: &[Triple] = &prepared.angles;
+    let one = is_unlisted(numbers, angles, term);
+    if one {
+        return true;
+    }
+    is_unlisted(numbers, angles, other)
+}
+
+/// Whether it is seen that two terms that are no areas do not differ, whatever numbers come next.
+fn never_differ_by_list(query: &Query, numbers: &Numbers, term: Term, other: Term) -> bool
+    ensures { result ≡ true → NeverDiffer query.now.facts.now numbers.now term other }
+{
+    let Some(prepared) = query.hints else {
+        return false;
+    };
+    if !prepared.lists_all {
+        return false;
+    }
+    match (term, other) {
+        (Term::Ang(_, _, _), Term::Ang(_, _, _)) => {
+            is_one_unlisted(prepared, numbers, term, other)
+        }
+        _ => false,
+    }
+}
+
+/// Whether it is seen that no need holds that says that the two terms differ, whatever numbers come
+/// next: the last number of the part completes the first of two areas, and it is free, or one of
+/// two angles is not listed.
 fn never_differ(query: &Query, numbers: &Numbers, term: Term, other: Term) -> bool
     ensures { result ≡ true → NeverDiffer query.now.facts.now numbers.now term other }
 {
     let first = is_area(term);
     let second = is_area(other);
     if !first || !second {
-        return false;
+        return never_differ_by_list(query, numbers, term, other);
     }
     if !is_last(last_of_term(numbers.positions, term), numbers.part.len()) {
         return false;

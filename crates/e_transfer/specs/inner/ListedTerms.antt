@@ -83,6 +83,11 @@ are_same_points t u = t.0 == u.0 && (t.1 == u.1 && t.2 == u.2)
 abbrev pub IsUnlisted : List (ℕ × ℕ × ℕ) → Numbers → List ℕ → Term → Type 0
 IsUnlisted points n rest t = list_any (are_same_points (later_points n rest t)) points ≡ false
 
+-- those of one of the two are none of these, whatever numbers come next
+abbrev pub IsOneUnlisted : List (ℕ × ℕ × ℕ) → Numbers → Term → Term → Type 0
+IsOneUnlisted points n t other = ((rest : List ℕ) → IsUnlisted points n rest t)
+    ⊎ ((rest : List ℕ) → IsUnlisted points n rest other)
+
 -- nor are the first two one
 abbrev pub IsApart : List (ℕ × ℕ × ℕ) → Numbers → List ℕ → Term → Type 0
 IsApart points n rest t =
