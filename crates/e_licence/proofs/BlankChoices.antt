@@ -9,7 +9,8 @@ use Rattle.e_literal.specs.declared.object.Obj.{Obj}
 use Rattle.e_literal.specs.declared.object.Scope.{Scope}
 use Rattle.e_literal.specs.declared.object.Sort.{Sort}
 use Rattle.e_literal.specs.Literal.{obj, count_of, is_in_scope}
-use Rattle.e_literal.specs.Rename.{same_obj}
+use Rattle.e_literal.specs.declared.map.Entry.{Entry}
+use Rattle.e_literal.specs.Rename.{same_obj, pairs_of}
 use Rattle.e_literal.specs.Scopes.{same_sort, nothing, with_one, next_objects, are_of_sorts}
 use Rattle.e_literal.proofs.Sorts.{same_sort_is, same_sort_self, same_obj_is, same_obj_self}
 use Rattle.e_literal.proofs.GrownScopes.{counts_nothing}
@@ -211,7 +212,15 @@ spans_done s (o ∷ os) [] n is = ap (λ xs. spans_of s (drop n (o ∷ os)) xs) 
 spans_done s (o ∷ os) (e ∷ entries) zero is = absurd (omega (arith, is))
 spans_done s (o ∷ os) (e ∷ entries) (suc n) is = spans_done s os entries n (omega (arith, is))
 
-pub ruleset ending = (common_steps, filled_done, spans_done)
+no_pairs : (os : List Obj) → pairs_of os [] ≡ []
+no_pairs [] = refl
+no_pairs (o ∷ os) = refl
+
+pub images_done : (m : Scope) (os : List Obj) (entries : List (Option Obj)) (c : List ℕ) (n : ℕ) → n ≡ min (length os) (length entries)
+    → pairs_of (drop n os) (filled_arguments m (drop n os) (drop n entries) c) ≡ []
+images_done m os entries c n is = ap (pairs_of (drop n os)) (filled_done m os entries c n is) ∙ no_pairs (drop n os)
+
+pub ruleset ending = (common_steps, filled_done, images_done, spans_done)
 
 -- ---- sorts
 
@@ -231,3 +240,13 @@ pub one_sort : (s m : Scope) (os args : List Obj) (sorts : List Sort) (entries :
 one_sort s m os args sorts entries c is filling are =
     ap (map (λ (o : Obj). o.sort)) is ∙ filled_sorts s m nothing sorts entries c are
     ∙ ap (λ xs. map (λ (o : Obj). o.sort) (filled_arguments m xs entries c)) (sym is) ∙ ap (map (λ (o : Obj). o.sort)) (sym filling)
+
+-- so are those of their pairs
+pub pairs_sorts : (os args : List Obj) → map (λ (o : Obj). o.sort) os ≡ map (λ (o : Obj). o.sort) args
+    → map (λ (e : Entry). e.source.sort) (pairs_of os args) ≡ map (λ (e : Entry). e.target.sort) (pairs_of os args)
+pairs_sorts [] args h = refl
+pairs_sorts (o ∷ os) [] h = refl
+pairs_sorts (o ∷ os) (a ∷ args) h =
+    let here : o.sort ≡ a.sort = cc in
+    let rest : map (λ (p : Obj). p.sort) os ≡ map (λ (p : Obj). p.sort) args = cc in
+    ap (λ s. s ∷ map (λ (e : Entry). e.source.sort) (pairs_of os args)) here ∙ ap (λ ss. a.sort ∷ ss) (pairs_sorts os args rest)

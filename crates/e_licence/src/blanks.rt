@@ -19,9 +19,9 @@ ghost use Rattle.e_licence.specs.FilledBlanks.{FilledIs};
 
 use crate::context::Context;
 use crate::licensing::Question;
-use crate::ready::{Ready, places_by_cost, ready_places};
+use crate::ready::{Ready, completed_places, ready_places};
 use crate::verdicts::Verdicts;
-use e_literal::{Items, Lit, Map, NOTHING, Obj, Scope, count, next_objects, with_images};
+use e_literal::{Entry, Items, Lit, Map, NOTHING, Obj, Scope, count, next_objects, with_images};
 use e_metric::{MetricFacts, StepFacts};
 use e_theorem::Statement;
 use e_transfer::{CANDIDATES, Prepared, Span, Task, Verdict, is_well_formed_in, prepare, search};
@@ -51,8 +51,9 @@ pub struct Blanks<'a> {
     pub declared: Vec<Obj>,
     /// On which blanks each given literal depends. It is a matter of speed alone.
     pub ready: Vec<Ready>,
-    /// The places of the given literals in the order in which they are asked, of speed alone too.
-    pub order: Vec<usize>,
+    /// For each number of numbers, the places of the given literals that so many complete, in the
+    /// order in which they are asked: of speed alone too.
+    pub completed: Items<Items<usize>>,
     /// How many numbers a whole choice has.
     pub whole: usize,
     ghost fronts: { step_facts.now ≡ context.now.facts },
@@ -141,7 +142,7 @@ fn match_prepared(
     let scope = context.scope();
     let whole = spans.len();
     let ready = ready_places(alloc, scope, statement, &declared, pattern, &spans)?;
-    let order = places_by_cost(alloc, statement.given.items())?;
+    let completed = completed_places(alloc, statement.given.items(), &ready, whole)?;
     let step_facts = StepFacts::new(context.facts(), metric_facts);
     let blanks = Blanks {
         context,
@@ -151,7 +152,7 @@ fn match_prepared(
         pattern,
         declared,
         ready,
-        order,
+        completed,
         whole,
     };
     let mut memory = Verdicts::new(alloc);
@@ -246,6 +247,7 @@ fn numbers_after(entry: Option<Obj>, rest: &[u16]) -> &[u16]
 }
 
 /// The images of the declared objects by the first numbers of a choice.
+#[tactic(auto, using(crate::proofs::BlankChoices::ending))]
 pub fn images(
     alloc: Global,
     scope: Scope,
@@ -259,9 +261,16 @@ pub fn images(
     ensures { IfOk result
         (λ map. map ≡ BlankChoices.images_of_choice scope declared.now pattern.now part.now) }
 {
-    let args = arguments(alloc, scope, declared, pattern, part)?;
-    let images = Map::of_pairs(alloc, declared, &args)?;
-    Ok(images)
+    let mut rest = part;
+    let mut entries = Vec::with_capacity(alloc, declared.len())?;
+    for (object, entry) in declared.iter().zip(pattern) {
+        entries.push(Entry {
+            source: *object,
+            target: argument(scope, *object, *entry, rest),
+        })?;
+        rest = numbers_after(*entry, rest);
+    }
+    Ok(Map::of_entries(entries))
 }
 
 impl<'a> Blanks<'a> {
@@ -352,31 +361,35 @@ impl<'a> Blanks<'a> {
         Ok(refused)
     }
 
-    /// The given literal at a place, if this many numbers complete it.
-    fn completed(&self, at: usize, length: usize) -> Option<&Lit>
+    /// The places of the given literals that this many numbers complete.
+    fn completed(&self, length: usize) -> &[usize] {
+        match self.completed.items().get(length) {
+            Some(places) => places.items(),
+            None => &[],
+        }
+    }
+
+    /// The given literal at a place.
+    fn given(&self, at: usize) -> Option<&Lit>
         ensures { IfSome (option_copied result) (Contains self.now.statement.now.given) }
     {
-        let ready = self.ready.get(at)?;
-        if ready.known != length {
-            return None;
-        }
         self.statement.given.items().get(at)
     }
 
-    /// Whether one of the given literals that this many numbers complete is known to be refused.
+    /// Whether one of the given literals at these places is known to be refused.
     fn some_known_refused(
         &self,
         alloc: Global,
         memory: &Verdicts,
         images: &Map,
-        length: usize,
+        places: &[usize],
     ) -> Result<bool, AllocError>
         requires { AreRight self.now.context.now memory.now }
         ensures { IfOk result (λ b. b ≡ true → SomeIsRefusedAt self.now.context.now images.now
             self.now.statement.now.given) }
     {
-        for at in &self.order {
-            if let Some(lit) = self.completed(*at, length) {
+        for at in places {
+            if let Some(lit) = self.given(*at) {
                 if self.is_known_refused(alloc, memory, lit, images)? {
                     return Ok(true);
                 }
@@ -386,7 +399,8 @@ impl<'a> Blanks<'a> {
     }
 
     /// Licenses the given literals that this many numbers complete, up to the first that is not
-    /// allowed.
+    /// allowed. Where there are more than one, it is first looked whether one of them is known to
+    /// be refused.
     fn license_completed(
         &self,
         alloc: Global,
@@ -399,11 +413,12 @@ impl<'a> Blanks<'a> {
             self.now.statement.now.given) }
         ensures memory { OnOk result (AreRight self.now.context.now memory.new) }
     {
-        if self.some_known_refused(alloc, memory, images, length)? {
+        let places = self.completed(length);
+        if places.len() > 1 && self.some_known_refused(alloc, memory, images, places)? {
             return Ok(Verdict::No);
         }
-        for at in &self.order {
-            if let Some(lit) = self.completed(*at, length) {
+        for at in places {
+            if let Some(lit) = self.given(*at) {
                 match self.license_one(alloc, memory, lit, images)? {
                     Verdict::Yes(()) => {}
                     Verdict::No => return Ok(Verdict::No),
@@ -483,7 +498,7 @@ impl<'a> Task for Blanks<'a> {
     ) -> Result<Verdict<()>, AllocError> {
         let scope = self.context.scope();
         let length = part.len();
-        if length != self.whole && !self.ready.iter().any(|one| one.known == length) {
+        if length != self.whole && self.completed(length).is_empty() {
             return Ok(Verdict::Yes(()));
         }
         let images = images(

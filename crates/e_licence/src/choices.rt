@@ -13,7 +13,7 @@ ghost use Rattle.e_licence.specs.inner.BlankChoices.{filled_arguments};
 
 use crate::blanks::{Blanks, arguments, has_empty, spans};
 use crate::context::Context;
-use crate::ready::{places_by_cost, ready_places};
+use crate::ready::{completed_places, ready_places};
 use crate::restricted::BlankSearch;
 use crate::sweep::{Swept, sweep};
 use crate::verdicts::Verdicts;
@@ -150,7 +150,7 @@ fn choices_of_prepared(
     let scope = context.scope();
     let whole = spans.len();
     let ready = ready_places(alloc, scope, statement, &declared, pattern, &spans)?;
-    let order = places_by_cost(alloc, statement.given.items())?;
+    let completed = completed_places(alloc, statement.given.items(), &ready, whole)?;
     let step_facts = StepFacts::new(context.facts(), metric_facts);
     let blanks = Blanks {
         context,
@@ -160,7 +160,7 @@ fn choices_of_prepared(
         pattern,
         declared,
         ready,
-        order,
+        completed,
         whole,
     };
     let task = BlankSearch {

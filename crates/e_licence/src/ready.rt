@@ -7,7 +7,7 @@ ghost use Rattle.e_theorem.specs.Pattern.{is_pattern};
 ghost use Rattle.e_theorem.specs.Statements.{as_view};
 
 use crate::blanks::images;
-use e_literal::{Atom, Lit, Map, Obj, Scope, kind, with_images};
+use e_literal::{Atom, Items, Lit, Map, Obj, Scope, kind, with_images};
 use e_theorem::Statement;
 use e_transfer::{Span, is_well_formed_in};
 use std::alloc::{AllocError, Global};
@@ -28,7 +28,7 @@ pub struct Ready {
 
 /// The places of the given literals, those that are cheap to ask first: by the median of what a
 /// search for one takes that is not allowed.
-pub fn places_by_cost(alloc: Global, given: &[Lit]) -> Result<Vec<usize>, AllocError> {
+fn places_by_cost(alloc: Global, given: &[Lit]) -> Result<Vec<usize>, AllocError> {
     let mut places = Vec::with_capacity(alloc, given.len())?;
     for cost in 0..COSTS {
         for (at, lit) in given.iter().enumerate() {
@@ -54,6 +54,28 @@ fn cost_of(lit: &Lit) -> usize {
         Atom::MeetLL(_, _) | Atom::Same(_, _, _) | Atom::EqP(_, _) => 5,
         Atom::On(_, _) => 6,
     }
+}
+
+/// For each number of numbers of a choice, up to that of a whole one, the places of the given
+/// literals that so many complete, those that are cheap to ask first.
+pub fn completed_places(
+    alloc: Global,
+    given: &[Lit],
+    ready: &[Ready],
+    whole: usize,
+) -> Result<Items<Items<usize>>, AllocError> {
+    let order = places_by_cost(alloc, given)?;
+    let mut completed = Items::empty(alloc);
+    for length in 0..=whole {
+        let mut places = Items::empty(alloc);
+        for at in &order {
+            if *at < ready.len() && ready[*at].known == length {
+                places.push(*at)?;
+            }
+        }
+        completed.push(places)?;
+    }
+    Ok(completed)
 }
 
 /// For each given literal on which blanks it depends: it does on one where it is out of scope by

@@ -34,10 +34,10 @@ impl Verdicts {
     pub(crate) fn get(&self, lit: &Lit) -> Option<Verdict<()>>
         ensures { (b : Basis) → AreRight b self.now → IfSome result (JudgedIs b lit.now) }
     {
-        if self.allowed.has(lit) {
-            Some(Verdict::Yes(()))
-        } else if self.is_refused(lit) {
+        if self.is_refused(lit) {
             Some(Verdict::No)
+        } else if self.allowed.has(lit) {
+            Some(Verdict::Yes(()))
         } else {
             None
         }

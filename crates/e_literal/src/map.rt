@@ -63,6 +63,15 @@ impl Map {
         Ok(Map { entries })
     }
 
+    /// The map with these entries, where the first one of an object counts.
+    pub fn of_entries(entries: Vec<Entry>) -> Self
+        requires one_sort { map (λ e. e.source.sort) entries.items
+            ≡ map (λ e. e.target.sort) entries.items }
+        ensures { result ≡ entries.items }
+    {
+        Map { entries }
+    }
+
     /// From now on `to` is the image of `from`, and each other object keeps its image.
     ///
     /// It fails only when out of memory, and then the map is as before.

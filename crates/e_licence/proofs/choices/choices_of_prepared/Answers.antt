@@ -11,24 +11,24 @@ returns-then-has_empty-clause-choices c =
 
 pub returns-in-Done-clause-choices : goal.returns-in-Done-clause-choices
 returns-in-Done-clause-choices c =
-    swept_all c.as_found.result c.args.context.now (as_view c.args.statement.now) c.args.pattern.now c.in_ok-declared.declared.items c.deref-6.result.now c.args.most c.new-chosen.result.items c.sweep.new.chosen.items
+    swept_all c.as_found.result c.args.context.now (as_view c.args.statement.now) c.args.pattern.now c.in_ok-declared.declared.items c.deref-7.result.now c.args.most c.new-chosen.result.items c.sweep.new.chosen.items
     c.empty-found.result c.sweep.new.found c.in_ok-sweep.field-0
     (record { states = c.requires.states; fits = c.requires.fits })
     (record { objects = search rules; spans = search rules; starts = search rules })
-    (ap has_empty (c.deref-6.ensures.value ∙ sym c.deref-2.ensures.value) ∙ sym c.has_empty.ensures ∙ c.if-has_empty.false) (search rules) c.in-Done.is c.as_found.ensures c.in_ok-sweep.ensures.outcome
+    (ap has_empty (c.deref-7.ensures.value ∙ sym c.deref-2.ensures.value) ∙ sym c.has_empty.ensures ∙ c.if-has_empty.false) (search rules) c.in-Done.is c.as_found.ensures c.in_ok-sweep.ensures.outcome
 
 pub returns-in-Full-clause-choices : goal.returns-in-Full-clause-choices
 returns-in-Full-clause-choices c =
-    swept_full c.as_found-in-Full.result c.args.context.now (as_view c.args.statement.now) c.args.pattern.now c.in_ok-declared.declared.items c.deref-6.result.now c.args.most c.new-chosen.result.items c.sweep.new.chosen.items
+    swept_full c.as_found-in-Full.result c.args.context.now (as_view c.args.statement.now) c.args.pattern.now c.in_ok-declared.declared.items c.deref-7.result.now c.args.most c.new-chosen.result.items c.sweep.new.chosen.items
     c.empty-found.result c.sweep.new.found c.in_ok-sweep.field-0
     (record { states = c.requires.states; fits = c.requires.fits })
     (record { objects = search rules; spans = search rules; starts = search rules })
-    (ap has_empty (c.deref-6.ensures.value ∙ sym c.deref-2.ensures.value) ∙ sym c.has_empty.ensures ∙ c.if-has_empty.false) (search rules) c.in-Full.is c.as_found-in-Full.ensures c.in_ok-sweep.ensures.outcome
+    (ap has_empty (c.deref-7.ensures.value ∙ sym c.deref-2.ensures.value) ∙ sym c.has_empty.ensures ∙ c.if-has_empty.false) (search rules) c.in-Full.is c.as_found-in-Full.ensures c.in_ok-sweep.ensures.outcome
 
 pub returns-clause-choices : goal.returns-clause-choices
 returns-clause-choices c =
-    swept_wide c.args.context.now (as_view c.args.statement.now) c.args.pattern.now c.in_ok-declared.declared.items c.deref-6.result.now c.args.most c.new-chosen.result.items c.sweep.new.chosen.items
+    swept_wide c.args.context.now (as_view c.args.statement.now) c.args.pattern.now c.in_ok-declared.declared.items c.deref-7.result.now c.args.most c.new-chosen.result.items c.sweep.new.chosen.items
     c.empty-found.result c.sweep.new.found c.in_ok-sweep.field-0 c.in-TooWide.width
     (record { states = c.requires.states; fits = c.requires.fits })
     (record { objects = search rules; spans = search rules; starts = search rules })
-    (ap has_empty (c.deref-6.ensures.value ∙ sym c.deref-2.ensures.value) ∙ sym c.has_empty.ensures ∙ c.if-has_empty.false) (search rules) c.in-TooWide.is c.in_ok-sweep.ensures.outcome
+    (ap has_empty (c.deref-7.ensures.value ∙ sym c.deref-2.ensures.value) ∙ sym c.has_empty.ensures ∙ c.if-has_empty.false) (search rules) c.in-TooWide.is c.in_ok-sweep.ensures.outcome
