@@ -16,8 +16,9 @@ use Rattle.e_literal.proofs.CanonicalTerms.{one_term_is, one_term_of}
 use Rattle.e_literal.proofs.Booleans.{and_left, and_right, all_both}
 use Rattle.e_transfer.specs.declared.equations.Equation.{Equation}
 use Rattle.e_transfer.specs.declared.equations.Equation.TheVariants as equation
-use Rattle.e_transfer.specs.inner.Equations.{agrees, all_agree, some_agree, contrary, have_contrary, equations_from_term, equations_from_terms}
-use Rattle.e_transfer.specs.inner.Matches.{term_orders, matches_of_term, matches_of_sum, cancellations_of_terms, cancellations_of_sum, cancelling_matches, match_product, pairs_of_term, pairs_of_sum, equations_of_pair, cancels, none_cancels, all_cancel, sum_under, AgreeAlso, CoverSums}
+use Rattle.e_transfer.specs.declared.equations.Points.{Points}
+use Rattle.e_transfer.specs.inner.Equations.{equations_of_points, agrees, all_agree, some_agree, contrary, have_contrary, equations_from_term, equations_from_terms}
+use Rattle.e_transfer.specs.inner.Matches.{term_orders, matches_of_term, matches_of_sum, cancellations_of_terms, cancellations_of_sum, cancelling_matches, match_product, points_of_term, points_of_sum, cancels, none_cancels, all_cancel, sum_under, AgreeAlso, CoverSums}
 use Rattle.e_transfer.proofs.Elements.{list_any-map, list_any-flat_map, weaker, any_left, any_right}
 use Rattle.e_transfer.proofs.Orders.{one_order}
 
@@ -298,40 +299,40 @@ product_step first second old new a before added f h =
     let more : match_product (first ++ a ∷ []) second ≡ match_product first second ++ g a = flat_map-append g first (a ∷ []) ∙ ap (λ l. match_product first second ++ l) (append-nil (g a)) in
     added f (agree_behind (match_product first second) old (g a) before f (ap (some_agree f) (sym more) ∙ h))
 
--- ---- pairs of terms
+-- ---- points
 
--- what one more pair says
-pub pairs_more : (ps : List (Term × Term)) (i : ℕ) (d : Term × Term) → i < length ps → map equations_of_pair (take (i + 1) ps) ≡ map equations_of_pair (take i ps) ++ equations_of_pair (get_or ps i d) ∷ []
-pairs_more ps i d less = ap (map equations_of_pair) (take_more ps i d less) ∙ map-append equations_of_pair (take i ps) (get_or ps i d ∷ [])
+-- what one more says
+pub points_more : (ps : List Points) (i : ℕ) (d : Points) → i < length ps → map equations_of_points (take (i + 1) ps) ≡ map equations_of_points (take i ps) ++ equations_of_points (get_or ps i d) ∷ []
+points_more ps i d less = ap (map equations_of_points) (take_more ps i d less) ∙ map-append equations_of_points (take i ps) (get_or ps i d ∷ [])
 
-term_of_pairs : (m goal : Term) → map equations_of_pair (pairs_of_term m goal) ≡ matches_of_term m goal
-term_of_pairs (Seg x y) (Seg a b) = refl
-term_of_pairs (Ang x y z) (Ang a b c) = refl
-term_of_pairs (Area x y z) (Area a b c) = refl
-term_of_pairs Right Right = refl
-term_of_pairs (Seg x y) (Ang d e g) = refl
-term_of_pairs (Seg x y) (Area d e g) = refl
-term_of_pairs (Seg x y) Right = refl
-term_of_pairs (Ang x y z) (Seg d e) = refl
-term_of_pairs (Ang x y z) (Area d e g) = refl
-term_of_pairs (Ang x y z) Right = refl
-term_of_pairs (Area x y z) (Seg d e) = refl
-term_of_pairs (Area x y z) (Ang d e g) = refl
-term_of_pairs (Area x y z) Right = refl
-term_of_pairs Right (Seg d e) = refl
-term_of_pairs Right (Ang d e g) = refl
-term_of_pairs Right (Area d e g) = refl
+term_of_points : (m goal : Term) → map equations_of_points (points_of_term m goal) ≡ matches_of_term m goal
+term_of_points (Seg x y) (Seg a b) = refl
+term_of_points (Ang x y z) (Ang a b c) = refl
+term_of_points (Area x y z) (Area a b c) = refl
+term_of_points Right Right = refl
+term_of_points (Seg x y) (Ang d e g) = refl
+term_of_points (Seg x y) (Area d e g) = refl
+term_of_points (Seg x y) Right = refl
+term_of_points (Ang x y z) (Seg d e) = refl
+term_of_points (Ang x y z) (Area d e g) = refl
+term_of_points (Ang x y z) Right = refl
+term_of_points (Area x y z) (Seg d e) = refl
+term_of_points (Area x y z) (Ang d e g) = refl
+term_of_points (Area x y z) Right = refl
+term_of_points Right (Seg d e) = refl
+term_of_points Right (Ang d e g) = refl
+term_of_points Right (Area d e g) = refl
 
-sum_of_pairs : (goal : Term) (x : List Mono) → map equations_of_pair (pairs_of_sum goal x) ≡ matches_of_sum goal x
-sum_of_pairs goal [] = refl
-sum_of_pairs goal (m ∷ ms) =
-    map-append equations_of_pair (pairs_of_term m.term goal) (pairs_of_sum goal ms) ∙ ap (λ l. l ++ map equations_of_pair (pairs_of_sum goal ms)) (term_of_pairs m.term goal)
-    ∙ ap (λ l. matches_of_term m.term goal ++ l) (sum_of_pairs goal ms)
+sum_of_points : (goal : Term) (x : List Mono) → map equations_of_points (points_of_sum goal x) ≡ matches_of_sum goal x
+sum_of_points goal [] = refl
+sum_of_points goal (m ∷ ms) =
+    map-append equations_of_points (points_of_term m.term goal) (points_of_sum goal ms) ∙ ap (λ l. l ++ map equations_of_points (points_of_sum goal ms)) (term_of_points m.term goal)
+    ∙ ap (λ l. matches_of_term m.term goal ++ l) (sum_of_points goal ms)
 
--- what the pairs of a term that does not cancel say
-pub pairs_match : (x y z w : List Mono) (t : Term) (ps : List (Term × Term)) → not (cancels z w t) ≡ true → ps ≡ pairs_of_sum t x ++ pairs_of_sum t y → CoverSums x y z w (map equations_of_pair ps)
-pairs_match x y z w t ps h are =
-    let same : matches_of_sum t x ++ matches_of_sum t y ≡ map equations_of_pair ps =
-    ap (λ l. l ++ matches_of_sum t y) (sym (sum_of_pairs t x)) ∙ ap (λ l. map equations_of_pair (pairs_of_sum t x) ++ l) (sym (sum_of_pairs t y))
-    ∙ sym (map-append equations_of_pair (pairs_of_sum t x) (pairs_of_sum t y)) ∙ ap (map equations_of_pair) (sym are) in
+-- what the points of a term that does not cancel say
+pub points_match : (x y z w : List Mono) (t : Term) (ps : List Points) → not (cancels z w t) ≡ true → ps ≡ points_of_sum t x ++ points_of_sum t y → CoverSums x y z w (map equations_of_points ps)
+points_match x y z w t ps h are =
+    let same : matches_of_sum t x ++ matches_of_sum t y ≡ map equations_of_points ps =
+    ap (λ l. l ++ matches_of_sum t y) (sym (sum_of_points t x)) ∙ ap (λ l. map equations_of_points (points_of_sum t x) ++ l) (sym (sum_of_points t y))
+    ∙ sym (map-append equations_of_points (points_of_sum t x) (points_of_sum t y)) ∙ ap (map equations_of_points) (sym are) in
     subst (λ (l : List (List Equation)). CoverSums x y z w l) same (sums_match x y z w t h)

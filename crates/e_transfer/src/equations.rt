@@ -4,7 +4,7 @@ ghost use Rattle.std.specs.Prelude.{◌≡◌, ◌+◌, ◌++◌, ◌∷◌, [],
 ghost use Rattle.std.specs.List.{list_any};
 ghost use Rattle.e_clause.specs.Views.{atom_of, row_of};
 ghost use Rattle.e_transfer.specs.inner.Equations;
-ghost use Rattle.e_transfer.specs.inner.Equations.{contrary};
+ghost use Rattle.e_transfer.specs.inner.Equations.{contrary, equations_of_points};
 ghost use Rattle.e_transfer.specs.declared.equations.Equation.TheVariants as bound;
 
 use e_clause::{Row, Shape};
@@ -19,6 +19,15 @@ pub enum Equation {
     Is(usize, u16),
     /// The two variables are one object.
     Same(usize, usize),
+}
+
+/// Which points the variables of a term are: the variables come first, and then the points.
+#[derive(Clone, Copy)]
+pub enum Points {
+    /// The term has none.
+    Nothing,
+    Two(u16, u16, u16, u16),
+    Three(u16, u16, u16, u16, u16, u16),
 }
 
 fn two(alloc: Global, first: Equation, second: Equation) -> Result<Items<Equation>, AllocError>
@@ -99,42 +108,35 @@ pub fn equations_of_atom(
     Ok(Some(equations?))
 }
 
-/// Adds what a term of points says of the variables of a term, place by place: nothing where they
-/// are of different kinds.
-pub fn add_equations_of_term(
-    equations: &mut Vec<Equation>,
-    term: Term,
-    goal: Term,
-) -> Result<(), AllocError>
+/// Adds what is known of the variables of a term.
+pub fn add_equations(equations: &mut Vec<Equation>, points: Points) -> Result<(), AllocError>
     ensures { OnOk result
-        (equations.new.items ≡ equations.old.items ++ Equations.equations_of_term term goal) }
+        (equations.new.items ≡ equations.old.items ++ equations_of_points points) }
 {
-    match (term, goal) {
-        (Term::Seg(x, y), Term::Seg(a, b)) => {
-            equations.extend_from_slice(&[point(x, a), point(y, b)])
-        }
-        (Term::Ang(x, y, z), Term::Ang(a, b, c)) | (Term::Area(x, y, z), Term::Area(a, b, c)) => {
+    match points {
+        Points::Nothing => Ok(()),
+        Points::Two(x, y, a, b) => equations.extend_from_slice(&[point(x, a), point(y, b)]),
+        Points::Three(x, y, z, a, b, c) => {
             equations.extend_from_slice(&[point(x, a), point(y, b), point(z, c)])
         }
-        _ => Ok(()),
     }
 }
 
-/// Whether a term of points gives a variable of the term another number than this.
-pub fn gives_other(term: Term, goal: Term, variable: u16, number: u16) -> bool
+/// Whether a variable is another point than this.
+pub fn gives_other(points: Points, variable: u16, number: u16) -> bool
     ensures { result
-        ≡ list_any (contrary (bound.Is variable number)) (Equations.equations_of_term term goal) }
+        ≡ list_any (contrary (bound.Is variable number)) (equations_of_points points) }
 {
-    match (term, goal) {
-        (Term::Seg(x, y), Term::Seg(a, b)) => {
+    match points {
+        Points::Nothing => false,
+        Points::Two(x, y, a, b) => {
             are_contrary(variable, number, x, a) || are_contrary(variable, number, y, b)
         }
-        (Term::Ang(x, y, z), Term::Ang(a, b, c)) | (Term::Area(x, y, z), Term::Area(a, b, c)) => {
+        Points::Three(x, y, z, a, b, c) => {
             are_contrary(variable, number, x, a)
                 || are_contrary(variable, number, y, b)
                 || are_contrary(variable, number, z, c)
         }
-        _ => false,
     }
 }
 

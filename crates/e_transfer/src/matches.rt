@@ -1,20 +1,19 @@
 //! How a goal may match a place of a clause, and what it says of the variables then.
 
 ghost use Rattle.std.specs.Prelude.{◌≡◌, ◌≤◌, ◌⊎◌, ◌++◌, map, take, if◌then◌else◌};
-ghost use Rattle.std.specs.Prelude.{List, false, option_to_list, IfOk, OnOk, IsTrue, [], ◌∷◌};
+ghost use Rattle.std.specs.Prelude.{List, option_to_list, IfOk, OnOk, IsTrue, [], ◌∷◌};
 ghost use Rattle.e_literal.specs.Literal.{negation};
 ghost use Rattle.e_literal.specs.declared.object.Mono.{Mono};
 ghost use Rattle.e_clause.specs.Views.{atom_of, lit_of_pattern, row_of};
-ghost use Rattle.e_transfer.specs.inner.Equations.{have_contrary};
+ghost use Rattle.e_transfer.specs.inner.Equations.{equations_of_points, have_contrary};
 ghost use Rattle.e_transfer.specs.inner.Matches;
 ghost use Rattle.e_transfer.specs.inner.Matches.{AgreeAlso, Cover, CoverAtom, CoverSums};
 ghost use Rattle.e_transfer.specs.inner.Matches.{AreTermsLeft, AreTermsOf, all_cancel};
-ghost use Rattle.e_transfer.specs.inner.Matches.{none_cancels, pairs_of_term, pairs_of_sum};
-ghost use Rattle.e_transfer.specs.inner.Matches.{equations_of_pair};
+ghost use Rattle.e_transfer.specs.inner.Matches.{none_cancels, points_of_term, points_of_sum};
 ghost use Rattle.e_transfer.specs.inner.Matches.{cancellations_of_terms, cancellations_of_sum};
 
 use crate::equations::{
-    Equation, add_equations_of_term, equations_of_atom, equations_of_terms, gives_other,
+    Equation, Points, add_equations, equations_of_atom, equations_of_terms, gives_other,
 };
 use e_clause::{Pattern, Row, Shape};
 use e_literal::{Atom, Items, Lit, Mono, Term, coefficient_in, is_one_term};
@@ -23,14 +22,10 @@ use std::alloc::{AllocError, Global};
 /// Matches: each is a list of equations.
 pub type MatchList = Vec<Items<Equation>>;
 
-/// A term over variables, and a term of points of its kind, which it is where each variable is the
-/// point at its place.
-type Pair = (Term, Term);
-
 /// A term may be written in at most so many orders.
 const MOST_ORDERS: usize = 6;
 
-/// Two pairs say so much at most.
+/// Two say so much at most.
 const MOST_EQUATIONS: usize = 6;
 
 /// The orders in which a term may be written, and how many they are: what comes after them is not
@@ -73,64 +68,66 @@ fn add_some(matches: &mut MatchList, equations: Option<Items<Equation>>) -> Resu
     Ok(())
 }
 
-/// Whether the terms are of one kind: else the one is not the other in any order.
-fn are_of_one_kind(term: Term, goal: Term) -> bool
-    ensures { result ≡ Matches.are_of_one_kind term goal }
+/// Adds the ways in which the term may be the goal's.
+fn add_points(points: &mut Vec<Points>, term: Term, goal: Term) -> Result<(), AllocError>
+    ensures { OnOk result (points.new.items ≡ points.old.items ++ points_of_term term goal) }
 {
-    matches!(
-        (term, goal),
-        (Term::Seg(_, _), Term::Seg(_, _))
-            | (Term::Ang(_, _, _), Term::Ang(_, _, _))
-            | (Term::Area(_, _, _), Term::Area(_, _, _))
-            | (Term::Right, Term::Right)
-    )
+    match (term, goal) {
+        (Term::Seg(x, y), Term::Seg(a, b)) => {
+            points.extend_from_slice(&[Points::Two(x, y, a, b), Points::Two(x, y, b, a)])
+        }
+        (Term::Ang(x, y, z), Term::Ang(a, b, c)) => points.extend_from_slice(&[
+            Points::Three(x, y, z, a, b, c),
+            Points::Three(x, y, z, c, b, a),
+        ]),
+        (Term::Area(x, y, z), Term::Area(a, b, c)) => points.extend_from_slice(&[
+            Points::Three(x, y, z, a, b, c),
+            Points::Three(x, y, z, a, c, b),
+            Points::Three(x, y, z, b, a, c),
+            Points::Three(x, y, z, b, c, a),
+            Points::Three(x, y, z, c, a, b),
+            Points::Three(x, y, z, c, b, a),
+        ]),
+        (Term::Right, Term::Right) => points.extend_from_slice(&[Points::Nothing]),
+        _ => Ok(()),
+    }
 }
 
-/// Adds the term beside each order of the goal's, if they are of one kind.
-fn add_pairs(pairs: &mut Vec<Pair>, term: Term, goal: Term) -> Result<(), AllocError>
-    ensures { OnOk result (pairs.new.items ≡ pairs.old.items ++ pairs_of_term term goal) }
+/// The ways in which one term of two sums may be the goal's.
+fn points_in_sums(
+    alloc: Global,
+    x: &[Mono],
+    y: &[Mono],
+    goal: Term,
+) -> Result<Vec<Points>, AllocError>
+    ensures { IfOk result (λ v. v.items ≡ points_of_sum goal x.now ++ points_of_sum goal y.now) }
 {
-    if !are_of_one_kind(term, goal) {
-        return Ok(());
-    }
-    let (orders, many) = orders(goal);
-    let list = &orders[..many];
-    for order in list {
-        pairs.push((term, *order))?;
-    }
-    Ok(())
-}
-
-/// The terms of two sums that may be the goal's, each beside each order of the goal's.
-fn pairs_in_sums(alloc: Global, x: &[Mono], y: &[Mono], goal: Term) -> Result<Vec<Pair>, AllocError>
-    ensures { IfOk result (λ v. v.items ≡ pairs_of_sum goal x.now ++ pairs_of_sum goal y.now) }
-{
-    let mut pairs = Vec::new(alloc);
+    let mut points = Vec::new(alloc);
     for m in x {
-        add_pairs(&mut pairs, m.term, goal)?;
+        add_points(&mut points, m.term, goal)?;
     }
     for m in y {
-        add_pairs(&mut pairs, m.term, goal)?;
+        add_points(&mut points, m.term, goal)?;
     }
-    Ok(pairs)
+    Ok(points)
 }
 
-/// What each pair says, as a match.
-fn matches_of_pairs(alloc: Global, pairs: &[Pair]) -> Result<MatchList, AllocError>
-    ensures { IfOk result (λ v. v.items ≡ map equations_of_pair pairs.now) }
+/// Each of these as a match.
+fn matches_of_points(alloc: Global, points: &[Points]) -> Result<MatchList, AllocError>
+    ensures { IfOk result (λ v. v.items ≡ map equations_of_points points.now) }
 {
     let mut matches = Vec::new(alloc);
-    for pair in pairs {
-        matches.push(equations_of(alloc, *pair)?)?;
+    for one in points {
+        matches.push(equations_of(alloc, *one)?)?;
     }
     Ok(matches)
 }
 
-fn equations_of(alloc: Global, pair: Pair) -> Result<Items<Equation>, AllocError>
-    ensures { IfOk result (λ v. v ≡ equations_of_pair pair) }
+fn equations_of(alloc: Global, points: Points) -> Result<Items<Equation>, AllocError>
+    ensures { IfOk result (λ v. v ≡ equations_of_points points) }
 {
     let mut equations = Vec::new(alloc);
-    add_equations_of_term(&mut equations, pair.0, pair.1)?;
+    add_equations(&mut equations, points)?;
     Ok(Items::new(equations))
 }
 
@@ -182,42 +179,37 @@ fn match_without_equations(alloc: Global) -> Result<MatchList, AllocError>
     Ok(matches)
 }
 
-/// What two pairs say together.
+/// What both say together.
 fn equations_of_both(
     alloc: Global,
-    first: Pair,
-    second: Pair,
+    first: Points,
+    second: Points,
 ) -> Result<Items<Equation>, AllocError>
-    ensures { IfOk result (λ v. v ≡ equations_of_pair first ++ equations_of_pair second) }
+    ensures { IfOk result (λ v. v ≡ equations_of_points first ++ equations_of_points second) }
 {
     let mut equations = Vec::with_capacity(alloc, MOST_EQUATIONS)?;
-    add_equations_of_term(&mut equations, first.0, first.1)?;
-    add_equations_of_term(&mut equations, second.0, second.1)?;
+    add_equations(&mut equations, first)?;
+    add_equations(&mut equations, second)?;
     Ok(Items::new(equations))
 }
 
-/// Whether the one pair gives a variable a number, and the other another.
-fn are_contrary(first: Pair, second: Pair) -> bool
-    ensures { result ≡ have_contrary (equations_of_pair first) (equations_of_pair second) }
+/// Whether a variable is one point by the first, and another by the second.
+fn are_contrary(first: Points, second: Points) -> bool
+    ensures { result ≡ have_contrary (equations_of_points first) (equations_of_points second) }
 {
-    let (term, goal) = second;
     match first {
-        (Term::Seg(x, y), Term::Seg(a, b)) => {
-            gives_other(term, goal, x, a) || gives_other(term, goal, y, b)
+        Points::Nothing => false,
+        Points::Two(x, y, a, b) => gives_other(second, x, a) || gives_other(second, y, b),
+        Points::Three(x, y, z, a, b, c) => {
+            gives_other(second, x, a) || gives_other(second, y, b) || gives_other(second, z, c)
         }
-        (Term::Ang(x, y, z), Term::Ang(a, b, c)) | (Term::Area(x, y, z), Term::Area(a, b, c)) => {
-            gives_other(term, goal, x, a)
-                || gives_other(term, goal, y, b)
-                || gives_other(term, goal, z, c)
-        }
-        _ => false,
     }
 }
 
 /// Each match of the first with each of the second, but for those that contradict each other.
-fn product(alloc: Global, first: &[Pair], second: &[Pair]) -> Result<MatchList, AllocError>
-    ensures { IfOk result (λ v. AgreeAlso (Matches.match_product (map equations_of_pair first.now)
-        (map equations_of_pair second.now)) v.items) }
+fn product(alloc: Global, first: &[Points], second: &[Points]) -> Result<MatchList, AllocError>
+    ensures { IfOk result (λ v. AgreeAlso (Matches.match_product (map equations_of_points first.now)
+        (map equations_of_points second.now)) v.items) }
 {
     let mut matches = Vec::new(alloc);
     for a in first {
@@ -230,11 +222,11 @@ fn product(alloc: Global, first: &[Pair], second: &[Pair]) -> Result<MatchList, 
 fn add_each(
     alloc: Global,
     matches: &mut MatchList,
-    first: Pair,
-    second: &[Pair],
+    first: Points,
+    second: &[Points],
 ) -> Result<(), AllocError>
-    ensures { OnOk result (AgreeAlso (matches.old.items ++ map (λ b. equations_of_pair first ++ b)
-        (map equations_of_pair second.now)) matches.new.items) }
+    ensures { OnOk result (AgreeAlso (matches.old.items ++ map (λ b. equations_of_points first ++ b)
+        (map equations_of_points second.now)) matches.new.items) }
 {
     for b in second {
         add_both(alloc, matches, first, *b)?;
@@ -246,11 +238,11 @@ fn add_each(
 fn add_both(
     alloc: Global,
     matches: &mut MatchList,
-    first: Pair,
-    second: Pair,
+    first: Points,
+    second: Points,
 ) -> Result<(), AllocError>
     ensures { OnOk result (AgreeAlso (matches.old.items
-        ++ (equations_of_pair first ++ equations_of_pair second) ∷ []) matches.new.items) }
+        ++ (equations_of_points first ++ equations_of_points second) ∷ []) matches.new.items) }
 {
     if are_contrary(first, second) {
         return Ok(());
@@ -324,12 +316,12 @@ fn matches_of_sums(
     match terms {
         [] => cancellations(alloc, x, y),
         [term] => {
-            let pairs = pairs_in_sums(alloc, x, y, *term)?;
-            matches_of_pairs(alloc, &pairs)
+            let points = points_in_sums(alloc, x, y, *term)?;
+            matches_of_points(alloc, &points)
         }
         [first, second, ..] => {
-            let one = pairs_in_sums(alloc, x, y, *first)?;
-            let other = pairs_in_sums(alloc, x, y, *second)?;
+            let one = points_in_sums(alloc, x, y, *first)?;
+            let other = points_in_sums(alloc, x, y, *second)?;
             product(alloc, &one, &other)
         }
     }

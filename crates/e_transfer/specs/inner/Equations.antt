@@ -12,6 +12,8 @@ use Rattle.e_literal.specs.declared.object.Term.TheVariants.{Seg, Ang, Area, Rig
 use Rattle.e_clause.specs.Rows.{Row}
 use Rattle.e_transfer.specs.declared.equations.Equation.{Equation}
 use Rattle.e_transfer.specs.declared.equations.Equation.TheVariants as equation
+use Rattle.e_transfer.specs.declared.equations.Points.{Points}
+use Rattle.e_transfer.specs.declared.equations.Points.TheVariants as points
 
 -- the numbers of the variables are as it says
 abbrev pub agrees : (ℕ → ℕ) → Equation → Bool
@@ -78,14 +80,12 @@ equations_from_term (Area x y z) (Area a b c) = all_three x a y b z c
 equations_from_term Right Right = Some []
 equations_from_term _ _ = None
 
--- the same, and nothing where they are of different kinds
-abbrev pub equations_of_term : Term → Term → List Equation
-equations_of_term (Seg x y) (Seg a b) = equation.Is x a ∷ equation.Is y b ∷ []
-equations_of_term (Ang x y z) (Ang a b c) =
+-- what is known where the variables of a term are these points
+abbrev pub equations_of_points : Points → List Equation
+equations_of_points points.Nothing = []
+equations_of_points (points.Two x y a b) = equation.Is x a ∷ equation.Is y b ∷ []
+equations_of_points (points.Three x y z a b c) =
     equation.Is x a ∷ equation.Is y b ∷ equation.Is z c ∷ []
-equations_of_term (Area x y z) (Area a b c) =
-    equation.Is x a ∷ equation.Is y b ∷ equation.Is z c ∷ []
-equations_of_term _ _ = []
 
 -- two terms of a row are one, point by point
 abbrev pub equations_from_terms : Term → Term → Option (List Equation)

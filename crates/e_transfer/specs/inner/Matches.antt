@@ -1,5 +1,5 @@
 -- The ways in which a goal at a place of a clause binds the variables.
-use Rattle.std.specs.Prelude.{ℕ, List, [], ◌∷◌, ◌++◌, map, flat_map, Bool, true, false, not, ◌==◌, ◌||◌}
+use Rattle.std.specs.Prelude.{ℕ, List, [], ◌∷◌, ◌++◌, map, flat_map, Bool, not, ◌==◌, ◌||◌}
 use Rattle.std.specs.Prelude.{◌≡◌, option_to_list, IsTrue, if◌then◌else◌}
 use Rattle.std.specs.List.{list_all}
 use Rattle.e_literal.specs.declared.object.Mono.{Mono}
@@ -12,9 +12,10 @@ use Rattle.e_literal.specs.Same.{coeff_of, agree, same_atom, same_lit}
 use Rattle.e_literal.specs.Rename.{mono_at, atom_at}
 use Rattle.e_clause.specs.Rows.{Row}
 use Rattle.e_transfer.specs.declared.equations.Equation.{Equation}
+use Rattle.e_transfer.specs.declared.equations.Points.{Points}
+use Rattle.e_transfer.specs.declared.equations.Points.TheVariants as points
 use Rattle.e_transfer.specs.inner.Equations.{line_variable, circle_variable, some_agree}
 use Rattle.e_transfer.specs.inner.Equations.{equations_from_term, equations_from_terms}
-use Rattle.e_transfer.specs.inner.Equations.{equations_of_term}
 
 -- the atom, or the literal, of a row with these numbers for its variables
 abbrev pub atom_under : Row → (ℕ → ℕ) → Atom → Atom
@@ -50,24 +51,19 @@ matches_of_term term goal =
 abbrev pub matches_of_sum : Term → List Mono → List (List Equation)
 matches_of_sum goal x = flat_map (λ m. matches_of_term m.term goal) x
 
-abbrev pub are_of_one_kind : Term → Term → Bool
-are_of_one_kind (Seg a b) (Seg c d) = true
-are_of_one_kind (Ang a b c) (Ang d e f) = true
-are_of_one_kind (Area a b c) (Area d e f) = true
-are_of_one_kind Right Right = true
-are_of_one_kind _ _ = false
+-- the same, as points
+abbrev pub points_of_term : Term → Term → List Points
+points_of_term (Seg x y) (Seg a b) = points.Two x y a b ∷ points.Two x y b a ∷ []
+points_of_term (Ang x y z) (Ang a b c) =
+    points.Three x y z a b c ∷ points.Three x y z c b a ∷ []
+points_of_term (Area x y z) (Area a b c) =
+    points.Three x y z a b c ∷ points.Three x y z a c b ∷ points.Three x y z b a c
+    ∷ points.Three x y z b c a ∷ points.Three x y z c a b ∷ points.Three x y z c b a ∷ []
+points_of_term Right Right = points.Nothing ∷ []
+points_of_term _ _ = []
 
--- the term of a row beside each order of the goal's, if they are of one kind
-abbrev pub pairs_of_term : Term → Term → List (Term × Term)
-pairs_of_term term goal =
-    if are_of_one_kind term goal then map (λ order. (term, order)) (term_orders goal) else []
-
-abbrev pub pairs_of_sum : Term → List Mono → List (Term × Term)
-pairs_of_sum goal x = flat_map (λ m. pairs_of_term m.term goal) x
-
--- what such a pair says
-abbrev pub equations_of_pair : Term × Term → List Equation
-equations_of_pair p = equations_of_term p.0 p.1
+abbrev pub points_of_sum : Term → List Mono → List Points
+points_of_sum goal x = flat_map (λ m. points_of_term m.term goal) x
 
 -- the ways in which two terms of a row may be one
 abbrev pub cancellations_of_terms : Term → Term → List (List Equation)
