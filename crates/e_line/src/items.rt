@@ -204,5 +204,8 @@ pub fn book_line_of(alloc: Global, words: &[&[u8]]) -> Result<BookLine, LineErro
     if is_line_with_items(word, b"superpose", after) {
         return line_with_items(alloc, placing_of(alloc, head)?, after);
     }
-    Ok(BookLine::Plain(raw_line_named(alloc, word, rest)?))
+    match raw_line_named(alloc, word, rest) {
+        Ok(raw_line) => Ok(BookLine::Plain(raw_line)),
+        Err(error) => Err(error),
+    }
 }
