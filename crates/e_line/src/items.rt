@@ -4,12 +4,12 @@ ghost use Rattle.std.specs.Prelude.{◌≡◌, ◌&&◌};
 ghost use Rattle.std.specs.Str.{bytes_eq};
 ghost use Rattle.e_line.specs.Reading.{texts, Gives, Moves, with_front};
 ghost use Rattle.e_line.specs.Items.{as_of, item_of, items_of, begins_item, has_item, define_of};
-ghost use Rattle.e_line.specs.Items.{placing_of, line_with_items, book_line_of};
+ghost use Rattle.e_line.specs.Items.{placing_of, line_with_items, line_named, book_line_of};
 
 use crate::fault::LineError;
 use crate::lets::{Slot, are_words_of, names_at};
 use crate::literal::{RawLit, lit_of};
-use crate::raw_line::{RawLine, raw_line_named};
+use crate::raw_line::{RawLine, by_of, raw_line_named};
 use crate::superposes::{head_and_lits, superposition_pieces};
 use crate::words::{Words, first_index_of, names_of};
 use e_literal::Items;
@@ -180,14 +180,18 @@ fn is_line_with_items(word: &[u8], keyword: &[u8], literals: &[&[u8]]) -> bool
     is(word, keyword) && has_item(literals)
 }
 
-/// A line of a book, by its words alone.
-#[tactic(auto, unfolding(crate::specs::Items::book_line_of, crate::specs::Items::line_named))]
-pub fn book_line_of(alloc: Global, words: &[&[u8]]) -> Result<BookLine, LineError>
-    ensures { Gives (λ l. l) result (book_line_of (texts words.now)) }
+/// A line of a book with this first word and this rest. Most lines of a proof are citations: their
+/// word is looked for first.
+#[tactic(auto, unfolding(crate::specs::Items::line_named))]
+fn line_named(alloc: Global, word: &[u8], rest: &[&[u8]]) -> Result<BookLine, LineError>
+    ensures { Gives (λ l. l) result (line_named word.now (texts rest.now)) }
 {
-    let [word, rest @ ..] = words else {
-        return Err(LineError::MALFORMED);
-    };
+    if is(word, b"by") {
+        return match by_of(alloc, rest) {
+            Ok(raw_line) => Ok(BookLine::Plain(raw_line)),
+            Err(error) => Err(error),
+        };
+    }
     if is(word, b"define") {
         return define_of(Words::new(rest));
     }
@@ -204,5 +208,19 @@ pub fn book_line_of(alloc: Global, words: &[&[u8]]) -> Result<BookLine, LineErro
     if is_line_with_items(word, b"superpose", after) {
         return line_with_items(alloc, placing_of(alloc, head)?, after);
     }
-    Ok(BookLine::Plain(raw_line_named(alloc, word, rest)?))
+    match raw_line_named(alloc, word, rest) {
+        Ok(raw_line) => Ok(BookLine::Plain(raw_line)),
+        Err(error) => Err(error),
+    }
+}
+
+/// A line of a book, by its words alone.
+#[tactic(auto, unfolding(crate::specs::Items::book_line_of))]
+pub fn book_line_of(alloc: Global, words: &[&[u8]]) -> Result<BookLine, LineError>
+    ensures { Gives (λ l. l) result (book_line_of (texts words.now)) }
+{
+    match words {
+        [] => Err(LineError::MALFORMED),
+        [word, rest @ ..] => line_named(alloc, word, rest),
+    }
 }

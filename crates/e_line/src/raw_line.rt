@@ -92,7 +92,7 @@ fn made_of(alloc: Global, words: &[&[u8]]) -> Result<RawLine, LineError>
 }
 
 #[tactic(auto, unfolding(crate::specs::RawLines::by_of, crate::specs::Reading::first_title, crate::specs::Reading::first_word))]
-fn by_of(alloc: Global, words: &[&[u8]]) -> Result<RawLine, LineError>
+pub(crate) fn by_of(alloc: Global, words: &[&[u8]]) -> Result<RawLine, LineError>
     ensures { Gives (λ f. f) result (by_of (texts words.now)) }
 {
     let [rule, rest @ ..] = words else {

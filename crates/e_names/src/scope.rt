@@ -80,12 +80,17 @@ fn object_named(names: &Names, name: Name) -> Result<Obj, LineError>
     }
 }
 
-/// The number of the object of this sort.
+/// The number of the object of this sort. A point is looked for among the points before all else.
 #[tactic(auto, unfolding(crate::specs::Scope::number_of_name))]
 pub(crate) fn number_of(names: &Names, sort: Sort, name: Name) -> Result<u16, LineError>
     requires { FewNames names.now }
     ensures { Gives (λ n. n) result (number_of_name names.now sort name) }
 {
+    if matches!(sort, Sort::Point) {
+        if let Some(place) = place_of(names.points.items(), name) {
+            return Ok(place as u16);
+        }
+    }
     let object = object_named(names, name)?;
     if is_same_sort(object.sort, sort) {
         Ok(object.num)

@@ -8,21 +8,7 @@ use crate::scope::number_of;
 use e_deriv::Names;
 use e_line::{FaultKind, LineError, RawMono, RawTerm};
 use e_literal::{Form, Kind as Magnitude, Mono, Sort, Term};
-use e_text::{Name, place_of};
 use std::alloc::Global;
-
-/// The number of a point, looked for among the points before all else.
-#[tactic(auto, unfolding(crate::specs::Scope::number_of_name))]
-fn point(names: &Names, name: Name) -> Result<u16, LineError>
-    requires { FewNames names.now }
-    ensures { Gives (λ n. n) result
-        (Rattle.e_names.specs.Scope.number_of_name names.now Sort.Point name) }
-{
-    match place_of(names.points.items(), name) {
-        Some(place) => Ok(place as u16),
-        None => number_of(names, Sort::Point, name),
-    }
-}
 
 /// A term with the points of its names; the leftmost fault.
 #[tactic(auto, unfolding(crate::specs::Scope::term_in))]
@@ -32,20 +18,20 @@ pub fn term_in(names: &Names, term: &RawTerm) -> Result<Term, LineError>
 {
     match term {
         RawTerm::Seg(x, y) => {
-            let first = point(names, *x)?;
-            let second = point(names, *y)?;
+            let first = number_of(names, Sort::Point, *x)?;
+            let second = number_of(names, Sort::Point, *y)?;
             Ok(Term::Seg(first, second))
         }
         RawTerm::Ang(x, y, z) => {
-            let first = point(names, *x)?;
-            let middle = point(names, *y)?;
-            let last = point(names, *z)?;
+            let first = number_of(names, Sort::Point, *x)?;
+            let middle = number_of(names, Sort::Point, *y)?;
+            let last = number_of(names, Sort::Point, *z)?;
             Ok(Term::Ang(first, middle, last))
         }
         RawTerm::Area(x, y, z) => {
-            let first = point(names, *x)?;
-            let second = point(names, *y)?;
-            let third = point(names, *z)?;
+            let first = number_of(names, Sort::Point, *x)?;
+            let second = number_of(names, Sort::Point, *y)?;
+            let third = number_of(names, Sort::Point, *z)?;
             Ok(Term::Area(first, second, third))
         }
         RawTerm::Right => Ok(Term::Right),

@@ -4,18 +4,17 @@ ghost use Rattle.e_literal.specs.declared.object.Sort.TheVariants.{Point, Line};
 ghost use Rattle.e_literal.specs.Literal.{obj};
 ghost use Rattle.e_text.specs.Tokens.{with_spaces};
 ghost use Rattle.e_deriv.specs.Naming.{names_of_sort};
-ghost use Rattle.e_line.specs.Canonical.{lit_words};
-ghost use Rattle.e_names.specs.Canonical.{raw_of, name_at, name_of_object};
+ghost use Rattle.e_line.specs.Canonical.{mono_words, more_monos, sum_words, sums_words, lit_words};
+ghost use Rattle.e_names.specs.Canonical.{raw_mono, raw_sum, raw_of, name_at, name_of_object};
 ghost use Rattle.e_names.specs.Canonical.{argument_name, placed_names};
 ghost use Rattle.e_spell.specs.Certificates.{named_term};
 ghost use Rattle.e_spell.specs.inner.Parts.{lit_text, lits_text};
 
 use e_construct::Superpose;
 use e_deriv::Names;
-use e_line::put_word_and_lit;
-use e_literal::{Items, Lit, Obj, Sort, Term};
+use e_literal::{Atom, Items, Lit, Mono, Obj, Sort, Term};
 use e_names::{name_at, name_of_object, raw_of, raw_term};
-use e_text::{Name, end_line, put};
+use e_text::{Name, end_line, put, put_coefficient};
 use std::alloc::{AllocError, Global};
 use std::mem;
 
@@ -130,7 +129,59 @@ pub(crate) fn put_term(out: &mut Vec<u8>, names: &Names, term: Term) -> Result<(
     e_line::put_term(out, &raw)
 }
 
-/// A literal by the names of its objects.
+/// A monomial by the names of its points.
+#[tactic(auto, using(e_text::proofs::Spaced::spaced_append))]
+fn put_mono(out: &mut Vec<u8>, names: &Names, mono: &Mono) -> Result<(), AllocError>
+    ensures { OnOk result (out.new.items ≡ out.old.items ++ with_spaces (mono_words (raw_mono names.now mono.now))) }
+{
+    put_coefficient(out, mono.coeff)?;
+    put_term(out, names, mono.term)
+}
+
+/// More monomials, each after a plus.
+#[tactic(auto, using(e_text::proofs::Spaced::spaced_append))]
+fn put_more(out: &mut Vec<u8>, names: &Names, monos: &[Mono]) -> Result<(), AllocError>
+    ensures { OnOk result (out.new.items ≡ out.old.items ++ with_spaces (more_monos (raw_sum names.now monos.now))) }
+{
+    for mono in monos {
+        put(out, b"+")?;
+        put_mono(out, names, mono)?;
+    }
+    Ok(())
+}
+
+/// Monomials with a plus between two, and 0 for none.
+#[tactic(auto, using(e_text::proofs::Spaced::spaced_append))]
+fn put_sum(out: &mut Vec<u8>, names: &Names, sum: &[Mono]) -> Result<(), AllocError>
+    ensures { OnOk result (out.new.items ≡ out.old.items ++ with_spaces (sum_words (raw_sum names.now sum.now))) }
+{
+    match sum {
+        [] => put(out, b"0"),
+        [first, rest @ ..] => {
+            put_mono(out, names, first)?;
+            put_more(out, names, rest)
+        }
+    }
+}
+
+/// Two sums with a sign between them.
+fn put_sums(
+    out: &mut Vec<u8>,
+    names: &Names,
+    left: &[Mono],
+    sign: &[u8],
+    right: &[Mono],
+) -> Result<(), AllocError>
+    ensures { OnOk result (out.new.items ≡ out.old.items
+        ++ with_spaces (sums_words (raw_sum names.now left.now) sign.now (raw_sum names.now right.now))) }
+{
+    put_sum(out, names, left)?;
+    put(out, sign)?;
+    put_sum(out, names, right)?;
+    Ok(())
+}
+
+/// A literal by the names of its objects: sums are written without a copy that holds the names.
 pub(crate) fn put_literal(
     alloc: Global,
     out: &mut Vec<u8>,
@@ -140,10 +191,28 @@ pub(crate) fn put_literal(
     ensures { OnOk result
         (out.new.items ≡ out.old.items ++ with_spaces (lit_words (raw_of names.now lit.now))) }
 {
-    let raw = raw_of(alloc, names, lit)?;
-    let put = e_line::put_literal(out, &raw);
-    mem::drop(raw);
-    put
+    match &lit.atom {
+        Atom::MagEq(x, y) => {
+            if lit.neg {
+                put_sums(out, names, x.items(), b"!=", y.items())
+            } else {
+                put_sums(out, names, x.items(), b"=", y.items())
+            }
+        }
+        Atom::MagLt(x, y) => {
+            if lit.neg {
+                put_sums(out, names, y.items(), b"<=", x.items())
+            } else {
+                put_sums(out, names, x.items(), b"<", y.items())
+            }
+        }
+        _ => {
+            let raw = raw_of(alloc, names, lit)?;
+            let put = e_line::put_literal(out, &raw);
+            mem::drop(raw);
+            put
+        }
+    }
 }
 
 /// A line of a word and a literal.
@@ -156,10 +225,8 @@ pub(crate) fn put_literal_line(
 ) -> Result<(), AllocError>
     ensures { OnOk result (out.new.items ≡ out.old.items ++ lit_text word.now names.now lit.now) }
 {
-    let raw = raw_of(alloc, names, lit)?;
-    let put = put_word_and_lit(out, word, &raw);
-    mem::drop(raw);
-    put?;
+    out.extend_from_slice(word)?;
+    put_literal(alloc, out, names, lit)?;
     end_line(out)
 }
 

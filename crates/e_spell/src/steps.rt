@@ -1,23 +1,46 @@
 //! The lines of steps and closes, without certificates.
-ghost use Rattle.std.specs.Prelude.{◌≡◌, ◌++◌, OnOk};
+ghost use Rattle.std.specs.Prelude.{◌≡◌, ◌++◌, ◌∷◌, codes, map, OnOk};
+ghost use Rattle.e_text.specs.Tokens.{with_spaces};
 ghost use Rattle.e_line.specs.declared.raw_line.RawLine.TheVariants as rawlines;
 ghost use Rattle.e_names.specs.TitledStatements.{title_at};
-ghost use Rattle.e_line.specs.Canonical.{line_of};
+ghost use Rattle.e_line.specs.Canonical.{line_of, lit_words};
+ghost use Rattle.e_names.specs.Canonical.{rule_name, name_of_object, raw_of};
 ghost use Rattle.e_names.specs.Canonical.{by_raw_line, let_raw_line, apply_raw_line};
 ghost use Rattle.e_names.specs.Canonical.{claim_raw_line, qed_raw_line};
 ghost use Rattle.e_spell.specs.inner.Parts.{raw_line_text, superposition_text};
 
-use crate::literals::{names_of_arguments, names_of_objects, placed_names};
-use crate::rules::rule_name;
-use e_clause::By;
+use crate::literals::{
+    names_of_arguments, names_of_objects, placed_names, put_literal, put_objects,
+};
+use crate::rules::put_rule;
+use e_clause::{By, Rule};
 use e_construct::{Construction, Superpose};
 use e_deriv::Names;
-use e_line::{put_apply, put_by, put_let, put_named, put_stated, put_superpose};
+use e_line::{put_apply, put_let, put_named, put_stated, put_superpose};
 use e_literal::{Lit, Obj};
-use e_names::{Theorems, raw_lits, raw_of};
-use e_text::{Name, end_line};
+use e_names::{Theorems, raw_lits};
+use e_text::{Name, end_line, put};
 use std::alloc::{AllocError, Global};
 use std::{mem, slice};
+
+/// A citation after its first word.
+fn put_cited(
+    alloc: Global,
+    out: &mut Vec<u8>,
+    names: &Names,
+    rule: Rule,
+    args: &[Obj],
+    lit: &Lit,
+) -> Result<(), AllocError>
+    ensures { OnOk result (out.new.items ≡ out.old.items ++ with_spaces (rule_name rule
+        ∷ (map (name_of_object names.now) args.now ++ codes ":" ∷ lit_words (raw_of names.now lit.now)))) }
+{
+    put_rule(out, rule)?;
+    put_objects(out, names, args)?;
+    put(out, b":")?;
+    put_literal(alloc, out, names, lit)?;
+    Ok(())
+}
 
 /// A rule, its objects and the literal that it gives.
 pub(crate) fn put_citation(
@@ -29,18 +52,8 @@ pub(crate) fn put_citation(
     ensures { OnOk result
         (out.new.items ≡ out.old.items ++ raw_line_text (by_raw_line names.now by.now)) }
 {
-    let raw = raw_of(alloc, names, &by.lit)?;
-    let args = match names_of_objects(alloc, names, by.args.items()) {
-        Ok(args) => args,
-        Err(error) => {
-            mem::drop(raw);
-            return Err(error);
-        }
-    };
-    let put = put_by(out, rule_name(by.rule), args.items(), &raw);
-    mem::drop(args);
-    mem::drop(raw);
-    put?;
+    out.extend_from_slice(b"by")?;
+    put_cited(alloc, out, names, by.rule, by.args.items(), &by.lit)?;
     end_line(out)
 }
 
