@@ -262,19 +262,27 @@ some_at [] at less = absurd (omega (arith, less))
 some_at (l ∷ ls) zero less = (l, refl)
 some_at (l ∷ ls) (suc at) less = some_at ls at (omega (arith, less))
 
--- the same, by what is read of the clause: what has to be a fact, and has no mark
-pub none_marked_at : (m : Strength) (facts : List Lit) (marks : List Bool) (goal : Lit) (r : Row) (at goal_mark relation : ℕ) (neg : Bool) (k : Lit) → slice_get (clause_of r) at ≡ Some k
-    → relation ≡ relation_number k.atom → neg ≡ k.neg → mark_number relation neg ≢ goal_mark → goal_mark ≡ lit_mark goal → (m ≡ strength.Facts) ⊎ (relation < 12) → are_marked marks facts ≡ true
-    → get_or marks (mark_number relation (not neg)) false ≡ false → NoneHolds m facts goal r at
-none_marked_at m facts marks goal r at goal_mark relation neg k here is sign unlike of_goal asked all unmarked =
+turned : (a c : ℕ) (b d : Bool) → mark_number a b ≡ mark_number c d → mark_number a (not b) ≡ mark_number c (not d)
+turned a c false false same = let e : 2 * a + 0 ≡ 2 * c + 0 = same in let f : 2 * a + 1 ≡ 2 * c + 1 = omega (arith, e) in f
+turned a c true true same = let e : 2 * a + 1 ≡ 2 * c + 1 = same in let f : 2 * a + 0 ≡ 2 * c + 0 = omega (arith, e) in f
+turned a c false true same = let e : 2 * a + 0 ≡ 2 * c + 1 = same in absurd (omega (arith, e))
+turned a c true false same = let e : 2 * a + 1 ≡ 2 * c + 0 = same in absurd (omega (arith, e))
+
+of_low_mark : (a : ℕ) (b : Bool) → mark_number a b < 24 → a < 12
+of_low_mark a false low = let e : 2 * a + 0 < 24 = low in omega (arith, e)
+of_low_mark a true low = let e : 2 * a + 1 < 24 = low in omega (arith, e)
+
+-- the same, by the mark of the negation: what has to be a fact, and has no mark
+pub none_lacking_at : (m : Strength) (facts : List Lit) (marks : List Bool) (goal : Lit) (r : Row) (at needed : ℕ) (k : Lit) → slice_get (clause_of r) at ≡ Some k → needed ≡ lit_mark (negation k)
+    → needed ≢ lit_mark (negation goal) → (m ≡ strength.Facts) ⊎ (needed < 24) → are_marked marks facts ≡ true → get_or marks needed false ≡ false → NoneHolds m facts goal r at
+none_lacking_at m facts marks goal r at needed k here is unlike asked all unmarked =
     let number = relation_number k.atom in
-    let turned : mark_number number (not k.neg) ≡ mark_number relation (not neg) = ap (λ n. mark_number n (not k.neg)) (sym is) ∙ ap (λ b. mark_number relation (not b)) (sym sign) in
-    let as_asked : (m ≡ strength.Facts) ⊎ (relation_number k.atom < 12) = elim asked [
+    let as_asked : (m ≡ strength.Facts) ⊎ (number < 12) = elim asked [
       | inl e ↦ inl e
-      | inr low ↦ inr (omega (arith, low, is))
+      | inr low ↦ inr (of_low_mark number (not k.neg) (subst (λ n. n < 24) is low))
     ] in
-    none_holds m facts goal r at k.neg k.atom here (λ e. unlike (ap (λ n. mark_number n neg) is ∙ ap (mark_number number) sign ∙ e ∙ sym of_goal))
-    (none_unmarked m facts marks (not k.neg) k.atom as_asked all (ap (λ n. get_or marks n false) turned ∙ unmarked))
+    none_holds m facts goal r at k.neg k.atom here (λ e. unlike (is ∙ turned number (relation_number goal.atom) k.neg goal.neg e))
+    (none_unmarked m facts marks (not k.neg) k.atom as_asked all (ap (λ n. get_or marks n false) (sym is) ∙ unmarked))
 
 -- or a literal of sums whose negation does not suffice
 pub none_followed_at : (m : Strength) (facts : List Lit) (goal : Lit) (r : Row) (at goal_mark relation : ℕ) (neg : Bool) (k j : Lit) → slice_get (clause_of r) at ≡ Some k

@@ -1,11 +1,12 @@
 //! Which relations occur among the facts, and with which sign: what an instance needs of another
 //! relation or sign is no fact.
 
-ghost use Rattle.std.specs.Prelude.{◌≡◌, ◌≢◌, ℕ, ◌<◌, length, slice_get, IsTrue, Some, true, false};
-ghost use Rattle.std.specs.Prelude.{not, slice_index_or};
+ghost use Rattle.std.specs.Prelude.{◌≡◌, ◌≢◌, ℕ, ◌<◌, ◌+◌, length, slice_get, IsTrue, Some, true, false};
 ghost use Rattle.e_literal.specs.Literal.{negation};
 ghost use Rattle.e_literal.specs.declared.literal.Lit.{Lit};
 ghost use Rattle.e_clause.specs.Instance.{clause_of};
+ghost use Rattle.e_clause.specs.RuleKinds.{rule_count, diagram_rule_count};
+ghost use Rattle.e_clause.specs.Rows;
 ghost use Rattle.e_clause.specs.Table.{table};
 ghost use Rattle.e_clause.specs.Views.{atom_of, row_of};
 ghost use Rattle.e_transfer.specs.GivenGoals.{signed_literal, NoneAt};
@@ -13,6 +14,7 @@ ghost use Rattle.e_transfer.specs.Marks;
 ghost use Rattle.e_transfer.specs.Marks.{are_marked, NoneHolds};
 
 use crate::clause::{clause_len, pattern_at};
+use crate::order::marks_needed;
 use crate::query::{Query, asks_facts};
 use e_clause::{Pattern, Row, Shape};
 use e_facts::Facts;
@@ -108,6 +110,13 @@ pub fn mark(relation: usize, neg: bool) -> usize
     if neg { 2 * relation + 1 } else { 2 * relation }
 }
 
+/// The mark of the literal's negation.
+pub fn turned_mark_of(lit: &Lit) -> usize
+    ensures { result ≡ Marks.lit_mark (negation lit.now) }
+{
+    mark(relation(&lit.atom), !lit.neg)
+}
+
 /// The mark of the literal's relation and sign.
 pub fn mark_of(lit: &Lit) -> usize
     ensures is { result ≡ Marks.lit_mark lit.now }
@@ -196,39 +205,42 @@ pub fn relation_at(row: &Row, at: usize) -> (usize, bool)
     (relation_of(shape), neg)
 }
 
-/// The mark at a place of the clause.
-fn mark_at(row: &Row, at: usize) -> usize
-    requires { at < length (clause_of (row_of row.now)) }
-    ensures { (l : Lit) × (slice_get (clause_of (row_of row.now)) at ≡ Some l)
-        × (result ≡ Marks.lit_mark l) }
+/// Whether a literal whose negation has this mark does not fit: it is not the goal, whose negation
+/// has another, and its negation has to be a fact, but none has the mark.
+fn is_lacking(query: &Query, goal_turned: usize, needed: usize) -> bool
+    requires { goal_turned ≡ Marks.lit_mark (negation query.now.goal.now) }
+    ensures { result ≡ true → (l : Lit) → needed ≡ Marks.lit_mark (negation l)
+        → (r : Rows.Row) → (at : ℕ) → slice_get (clause_of r) at ≡ Some l
+        → NoneHolds query.now.strength query.now.facts.now query.now.goal.now r at }
 {
-    let (relation, neg) = relation_at(row, at);
-    mark(relation, neg)
+    if needed == goal_turned || needed >= MARKS {
+        return false;
+    }
+    if needed >= 2 * OF_DIAGRAMS && !asks_facts(query.strength) {
+        return false;
+    }
+    !query.marks[needed]
 }
 
-/// Whether an instance may have the goal, which has this mark, at this place of the clause.
-pub fn may_be_goal(query: &Query, goal_mark: usize, row: &Row, place: usize) -> bool
-    requires in_clause { place < length (clause_of (row_of row.now)) }
-    requires of_goal { goal_mark ≡ Marks.lit_mark query.now.goal.now }
-    ensures { result ≡ false → (rule : ℕ) → slice_get table rule ≡ Some (row_of row.now)
-        → NoneAt query.now.strength query.now.scope query.now.facts.now query.now.goal.now
-        rule place }
+/// Whether each instance of the transfer clause at this place of the table lacks a fact.
+pub fn lacks_fact(query: &Query, goal_turned: usize, at: u8) -> bool
+    requires in_table { diagram_rule_count + at < rule_count }
+    requires of_goal { goal_turned ≡ Marks.lit_mark (negation query.now.goal.now) }
+    ensures { result ≡ true → (place : ℕ) → NoneAt query.now.strength query.now.scope
+        query.now.facts.now query.now.goal.now (diagram_rule_count + at) place }
 {
-    mark_at(row, place) == goal_mark
+    let marks = marks_needed(at);
+    for needed in marks {
+        if is_lacking(query, goal_turned, usize::from(*needed)) {
+            return true;
+        }
+    }
+    false
 }
 
-/// Whether a fact has the relation, and the other sign.
-fn has_contrary(query: &Query, relation: usize, neg: bool) -> bool
-    requires { relation < 14 }
-    ensures { result
-        ≡ slice_index_or query.now.marks (Marks.mark_number relation (not neg)) false }
-{
-    query.marks[mark(relation, !neg)]
-}
-
-/// Whether the negation of a literal of sums at this place may hold: it does not where it says that
-/// areas differ, or that one is less, and there are values with which the facts are true and all
-/// areas are 0.
+/// Whether the negation of a literal at this place may hold: it does not where it says that areas
+/// differ, or that one is less, and there are values with which the facts are true and all areas
+/// are 0.
 fn may_follow(query: &Query, row: &Row, at: usize) -> bool
     requires { at < length (clause_of (row_of row.now)) }
     ensures { result ≡ false → (l : Lit) × (slice_get (clause_of (row_of row.now)) at ≡ Some l)
@@ -245,34 +257,18 @@ fn may_follow(query: &Query, row: &Row, at: usize) -> bool
     !is_strict_of_areas(!neg, shape)
 }
 
-/// Whether an instance may have at this place of the clause the goal, which has this mark, or a
-/// literal whose negation holds.
-fn may_hold(query: &Query, goal_mark: usize, row: &Row, at: usize) -> bool
-    requires in_clause { at < length (clause_of (row_of row.now)) }
-    requires of_goal { goal_mark ≡ Marks.lit_mark query.now.goal.now }
-    ensures { result ≡ false
-        → NoneHolds query.now.strength query.now.facts.now query.now.goal.now (row_of row.now) at }
-{
-    let (relation, neg) = relation_at(row, at);
-    if mark(relation, neg) == goal_mark {
-        return true;
-    }
-    if relation < OF_DIAGRAMS {
-        return has_contrary(query, relation, neg);
-    }
-    if asks_facts(query.strength) {
-        return has_contrary(query, relation, neg);
-    }
-    may_follow(query, row, at)
-}
-
-/// Whether at each place of the clause an instance may have the goal, or a literal whose negation
-/// holds.
-pub fn may_all_hold(query: &Query, goal_mark: usize, row: &Row) -> bool
+/// Whether an instance may have the goal, which has this mark, at the last place of the clause, or
+/// there a literal whose negation holds. Where it does not, the literal says that areas are equal.
+pub fn last_may_hold(query: &Query, goal_mark: usize, row: &Row) -> bool
     requires of_goal { goal_mark ≡ Marks.lit_mark query.now.goal.now }
     ensures { result ≡ false → (rule place : ℕ) → slice_get table rule ≡ Some (row_of row.now)
         → NoneAt query.now.strength query.now.scope query.now.facts.now query.now.goal.now
         rule place }
 {
-    (0..clause_len(row)).all(|at| may_hold(query, goal_mark, row, at))
+    let count = clause_len(row);
+    if count == 0 || may_follow(query, row, count - 1) {
+        return true;
+    }
+    let (relation, neg) = relation_at(row, count - 1);
+    mark(relation, neg) == goal_mark
 }

@@ -1,29 +1,31 @@
 //! The search through all places of all transfer clauses.
 
 ghost use Rattle.std.specs.Prelude.{◌≡◌, ◌<◌, ◌+◌, length, slice_get, IfOk, IsTrue, Some};
+ghost use Rattle.e_literal.specs.Literal.{negation};
 ghost use Rattle.e_clause.specs.Instance.{clause_of};
 ghost use Rattle.e_clause.specs.RuleKinds.{is_transfer, rule_count, diagram_rule_count};
+ghost use Rattle.e_clause.specs.Rows;
 ghost use Rattle.e_clause.specs.Table.{table};
 ghost use Rattle.e_clause.specs.Views.{row_of};
 ghost use Rattle.e_transfer.specs.GivenGoals.{RuleSearchIs, NoneWithBindings};
-ghost use Rattle.e_transfer.specs.GivenGoals.{NoneWithEquations, NoneAt, NoneOf, NoneGives};
+ghost use Rattle.e_transfer.specs.GivenGoals.{NoneWithEquations, NoneAt, NoneGives};
 ghost use Rattle.e_transfer.specs.Marks;
 ghost use Rattle.e_transfer.specs.inner.Matches.{AreTermsOf};
 ghost use Rattle.e_transfer.specs.inner.Plans.{total_of};
 
 use crate::areas::{Equality, place_of_equality};
 use crate::bound_facts;
-use crate::clause::{clause_len, pattern_at};
+use crate::clause::pattern_at;
 use crate::equations::Equation;
 use crate::instance_search::InstanceSearch;
-use crate::marks::{is_equation, mark_of, may_all_hold, may_be_goal};
+use crate::marks::{is_equation, lacks_fact, last_may_hold, mark_of, turned_mark_of};
 use crate::matches::{matches, terms_of_goal};
-use crate::order::{has_mark, order};
+use crate::order::{order, places_with};
 use crate::plan::make_plan;
 use crate::query::Query;
 use crate::unify::{Binding, unify};
 use crate::walk::{Verdict, search};
-use e_clause::{Row, Rule, TRANSFER_RULES, TransferCert};
+use e_clause::{Row, Rule, TransferCert};
 use e_literal::Term;
 use std::alloc::{AllocError, Global};
 use std::mem;
@@ -125,9 +127,6 @@ fn search_place(
         query.now.goal.now (NoneAt query.now.strength query.now.scope query.now.facts.now
         query.now.goal.now rule place)) }
 {
-    if !may_be_goal(query, goal_mark, row, place) {
-        return Ok(Verdict::No);
-    }
     let (pattern, negated) = pattern_at(row, place);
     let matches = matches(alloc, row, pattern, negated, query.goal, goal_terms)?;
     let equality = if query.hints.is_none() || is_equation(query.goal) {
@@ -155,64 +154,44 @@ fn search_place(
     Ok(Verdict::No)
 }
 
-/// The instances of a rule that have the goal.
-fn search_rule(
-    alloc: Global,
-    query: &Query,
-    rule: Rule,
-    preferred: &[u8],
-    goal_mark: usize,
-    goal_terms: &[Term],
-) -> Result<Verdict<TransferCert>, AllocError>
-    requires transfer { IsTrue (is_transfer rule) }
-    requires of_goal { goal_mark ≡ Marks.lit_mark query.now.goal.now }
-    requires terms { AreTermsOf query.now.goal.now.atom goal_terms.now }
-    ensures { IfOk result
-        (RuleSearchIs query.now.strength query.now.scope query.now.facts.now query.now.goal.now
-        (NoneOf query.now.strength query.now.scope query.now.facts.now query.now.goal.now rule)) }
-{
-    let row = rule.table_row();
-    if !may_all_hold(query, goal_mark, row) {
-        return Ok(Verdict::No);
-    }
-    for place in 0..clause_len(row) {
-        match search_place(
-            alloc, query, rule, row, preferred, goal_mark, goal_terms, place,
-        )? {
-            Verdict::No => {}
-            Verdict::Yes(cert) => return Ok(Verdict::Yes(cert)),
-            Verdict::TooWide(width) => return Ok(Verdict::TooWide(width)),
-        }
-    }
-    Ok(Verdict::No)
-}
-
-/// The instances of the transfer clause at this place of the table that have the goal.
+/// The instances of the transfer clause at this place of the table that have the goal at a place of
+/// the clause.
 fn search_clause(
     alloc: Global,
     query: &Query,
-    at: u8,
     goal_mark: usize,
+    goal_turned: usize,
     goal_terms: &[Term],
+    at: u8,
+    place: usize,
 ) -> Result<Verdict<TransferCert>, AllocError>
     requires in_table { diagram_rule_count + at < rule_count }
     requires of_goal { goal_mark ≡ Marks.lit_mark query.now.goal.now }
+    requires turned { goal_turned ≡ Marks.lit_mark (negation query.now.goal.now) }
     requires terms { AreTermsOf query.now.goal.now.atom goal_terms.now }
-    requires below { goal_mark < 28 }
+    requires in_clause { (r : Rows.Row) → slice_get table (diagram_rule_count + at) ≡ Some r
+        → place < length (clause_of r) }
     ensures { IfOk result (RuleSearchIs query.now.strength query.now.scope query.now.facts.now
-        query.now.goal.now (NoneOf query.now.strength query.now.scope query.now.facts.now
-        query.now.goal.now (diagram_rule_count + at))) }
+        query.now.goal.now (NoneAt query.now.strength query.now.scope query.now.facts.now
+        query.now.goal.now (diagram_rule_count + at) place)) }
 {
-    if !has_mark(at, goal_mark) {
+    if lacks_fact(query, goal_turned, at) {
         return Ok(Verdict::No);
     }
-    search_rule(
+    let rule = Rule::transfer(at);
+    let row = rule.table_row();
+    if !last_may_hold(query, goal_mark, row) {
+        return Ok(Verdict::No);
+    }
+    search_place(
         alloc,
         query,
-        Rule::transfer(at),
+        rule,
+        row,
         order(at),
         goal_mark,
         goal_terms,
+        place,
     )
 }
 
@@ -224,9 +203,20 @@ pub fn search_rules(alloc: Global, query: &Query) -> Result<Verdict<TransferCert
         (NoneGives query.now.strength query.now.scope query.now.facts.now query.now.goal.now)) }
 {
     let goal_mark = mark_of(query.goal);
+    let goal_turned = turned_mark_of(query.goal);
     let goal_terms = terms_of_goal(alloc, query.goal)?;
-    for at in 0..TRANSFER_RULES {
-        match search_clause(alloc, query, at, goal_mark, &goal_terms)? {
+    let places = places_with(goal_mark);
+    for pair in places {
+        let (at, place) = *pair;
+        match search_clause(
+            alloc,
+            query,
+            goal_mark,
+            goal_turned,
+            &goal_terms,
+            at,
+            usize::from(place),
+        )? {
             Verdict::No => {}
             Verdict::Yes(cert) => return Ok(Verdict::Yes(cert)),
             Verdict::TooWide(width) => return Ok(Verdict::TooWide(width)),

@@ -1,6 +1,8 @@
-use Rattle.std.proofs.Common.{ℕ, ◌+◌, ◌<◌}
-use Rattle.e_transfer.specs.GivenGoals.{NoneOf}
+use Rattle.std.proofs.Common.{ℕ, ◌+◌, ◌<◌, get_or}
+use Rattle.e_transfer.specs.GivenGoals.{NoneAt}
 use Rattle.e_transfer.proofs.rule_search.search_rules.Given as goal
 
-abbrev pub invariant-loop-at : goal.invariant-loop-at
-invariant-loop-at l = (k : ℕ) → k < l.at → NoneOf l.query.strength l.query.scope l.query.facts.now l.query.goal.now (76 + k)
+abbrev pub invariant-loop-pair : goal.invariant-loop-pair
+invariant-loop-pair l =
+    (i : ℕ) → i < l.pair-index
+    → NoneAt l.query.strength l.query.scope l.query.facts.now l.query.goal.now (76 + (get_or l.places i (0, 0)).0) (get_or l.places i (0, 0)).1
