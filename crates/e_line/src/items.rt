@@ -219,8 +219,8 @@ fn line_named(alloc: Global, word: &[u8], rest: &[&[u8]]) -> Result<BookLine, Li
 pub fn book_line_of(alloc: Global, words: &[&[u8]]) -> Result<BookLine, LineError>
     ensures { Gives (λ l. l) result (book_line_of (texts words.now)) }
 {
-    match words {
-        [] => Err(LineError::MALFORMED),
-        [word, rest @ ..] => line_named(alloc, word, rest),
-    }
+    let [word, rest @ ..] = words else {
+        return Err(LineError::MALFORMED);
+    };
+    line_named(alloc, word, rest)
 }
