@@ -15,8 +15,8 @@ ghost use Rattle.e_transfer.specs.inner.BoundFacts.{NoneHoldsWith};
 use crate::angles::may_be;
 use crate::clause::{clause_len, pattern_at};
 use crate::equations::Equation;
-use crate::listing::{Triple, numbers_of};
-use crate::marks::{has_to_be_fact, mark, mark_of, parts, relation_at};
+use crate::listing::Triple;
+use crate::marks::{has_to_be_fact, mark, parts, relation_at};
 use crate::query::Query;
 use e_clause::{Row, Shape};
 
@@ -112,13 +112,7 @@ fn may_be_fact(query: &Query, mark: usize, known: Known) -> bool
     requires { mark < 28 }
     ensures { result ≡ BoundFacts.may_be_among mark known query.now.facts.now }
 {
-    match query.hints {
-        Some(hints) => is_any(known, hints.listing[mark].items()),
-        None => {
-            let facts = query.facts.items();
-            facts.iter().any(|fact| mark_of(fact) == mark && fits(known, numbers_of(&fact.atom)))
-        }
-    }
+    is_any(known, query.listing[mark].items())
 }
 
 /// Whether an instance whose variables are so may have at this place of the clause the goal, or a
