@@ -24,7 +24,7 @@ one_taken f bs i d less h =
     (and_left (all_agree f (take i bs)) (agrees f (get_or bs i d)) e, and_right (all_agree f (take i bs)) (agrees f (get_or bs i d)) e)
 
 -- a vector whose slice was written
-pub whole : (n : ℕ) (new old : List Binding) → n ≡ length old → length new ≡ length old → take n (new ++ drop (length new) old) ≡ new
+pub whole : {X : Type 0} (n : ℕ) (new old : List X) → n ≡ length old → length new ≡ length old → take n (new ++ drop (length new) old) ≡ new
 whole n new old e k =
     let all : drop (length new) old ≡ [] = drop_all (length new) old (omega (arith, k)) in
     ap (λ l. take n (new ++ l)) all ∙ ap (take n) (append-nil new) ∙ take_all n new (omega (arith, e, k))

@@ -1,5 +1,6 @@
 -- The numbers of the facts, by their marks.
-use Rattle.std.specs.Prelude.{◌≡◌, ℕ, ◌<◌, List, [], ◌∷◌, ◌==◌, flat_map, length, slice_index_or, if◌then◌else◌}
+use Rattle.std.specs.Prelude.{◌≡◌, ℕ, ◌<◌, List, [], ◌∷◌, ◌++◌, ◌==◌, flat_map, length, slice_index_or}
+use Rattle.std.specs.Prelude.{slice_set, if◌then◌else◌}
 use Rattle.e_literal.specs.declared.literal.Atom.{Atom}
 use Rattle.e_literal.specs.declared.literal.Atom.TheVariants.{On, OnC, Inside, Center, Between}
 use Rattle.e_literal.specs.declared.literal.Atom.TheVariants.{Same, MeetLL, MeetLC, MeetCC, EqP}
@@ -35,3 +36,8 @@ numbers_with mark facts = flat_map (numbers_if mark) facts
 pub record IsListing (facts : List Lit) (listing : List (List (ℕ × ℕ × ℕ))) : Type 0 where
   pub long : length listing ≡ 28
   pub at : (mark : ℕ) → mark < 28 → slice_index_or listing mark [] ≡ numbers_with mark facts
+
+-- one fact's numbers are there besides
+abbrev pub HasNumbersOf : List (List (ℕ × ℕ × ℕ)) → Lit → List (List (ℕ × ℕ × ℕ)) → Type 0
+HasNumbersOf old fact new = new ≡ slice_set old (lit_mark fact)
+    (slice_index_or old (lit_mark fact) [] ++ numbers_of_atom fact.atom ∷ [])

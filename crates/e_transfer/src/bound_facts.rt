@@ -3,7 +3,6 @@
 
 ghost use Rattle.std.specs.Prelude.{◌≡◌, ℕ, ◌<◌, length, slice_get, Some, false};
 ghost use Rattle.std.specs.List.{list_any};
-ghost use Rattle.e_literal.specs.declared.literal.Lit.{Lit};
 ghost use Rattle.e_clause.specs.Instance.{clause_of};
 ghost use Rattle.e_clause.specs.Table.{table};
 ghost use Rattle.e_clause.specs.Views.{atom_of, row_of};
@@ -15,8 +14,8 @@ ghost use Rattle.e_transfer.specs.inner.BoundFacts.{NoneHoldsWith};
 
 use crate::clause::{clause_len, pattern_at};
 use crate::equations::Equation;
-use crate::listing::{Triple, numbers_of};
-use crate::marks::{has_to_be_fact, mark, mark_of, parts, relation_at};
+use crate::listing::Triple;
+use crate::marks::{has_to_be_fact, mark, parts, relation_of};
 use crate::query::Query;
 use e_clause::{Row, Shape};
 
@@ -77,17 +76,6 @@ fn known_of_shape(row: &Row, es: &[Equation], shape: &Shape) -> Known
     }
 }
 
-/// What is known of the numbers at a place of the clause.
-fn known_at(row: &Row, es: &[Equation], at: usize) -> Known
-    requires { at < length (clause_of (row_of row.now)) }
-    ensures { (l : Lit) × (slice_get (clause_of (row_of row.now)) at ≡ Some l)
-        × (result ≡ BoundFacts.known_of_atom (row_of row.now) es.now l.atom) }
-{
-    let (pattern, negated) = pattern_at(row, at);
-    let (shape, _neg) = parts(pattern, negated);
-    known_of_shape(row, es, shape)
-}
-
 // Whether nothing is known: else what the relations of the facts tell is all that is known. It is a
 // matter of speed alone.
 pub fn is_unknown(known: Known) -> bool {
@@ -123,13 +111,7 @@ fn may_be_fact(query: &Query, mark: usize, known: Known) -> bool
     requires { mark < 28 }
     ensures { result ≡ BoundFacts.may_be_among mark known query.now.facts.now }
 {
-    match query.hints {
-        Some(hints) => is_any(known, hints.listing[mark].items()),
-        None => {
-            let facts = query.facts.items();
-            facts.iter().any(|fact| mark_of(fact) == mark && fits(known, numbers_of(&fact.atom)))
-        }
-    }
+    is_any(known, query.listing[mark].items())
 }
 
 /// Whether an instance whose variables are so may have at this place of the clause the goal, or a
@@ -140,11 +122,13 @@ fn may_hold(query: &Query, goal_mark: usize, row: &Row, es: &[Equation], at: usi
     ensures { result ≡ false → NoneHoldsWith query.now.strength query.now.facts.now
         query.now.goal.now (row_of row.now) es.now at }
 {
-    let (relation, neg) = relation_at(row, at);
+    let (pattern, negated) = pattern_at(row, at);
+    let (shape, neg) = parts(pattern, negated);
+    let relation = relation_of(shape);
     if !has_to_be_fact(relation, neg, goal_mark) {
         return true;
     }
-    let known = known_at(row, es, at);
+    let known = known_of_shape(row, es, shape);
     if is_unknown(known) {
         return true;
     }

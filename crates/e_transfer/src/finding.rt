@@ -7,8 +7,10 @@ ghost use Rattle.e_clause.specs.Wide.{TransferFromFacts};
 ghost use Rattle.e_metric.specs.Fronts.{AreFronts};
 ghost use Rattle.e_transfer.specs.FoundTransfers.{IsFound, IsFoundByFacts};
 ghost use Rattle.e_transfer.specs.GivenGoals.{IsWideTransfer};
+ghost use Rattle.e_transfer.specs.Listings.{IsListing};
 ghost use Rattle.e_transfer.specs.Prepared.{IsPrepared};
 
+use crate::listing::{Listing, listing_of};
 use crate::marks::marks_of;
 use crate::prepared::{Prepared, prepare};
 use crate::query::{Query, Strength};
@@ -69,6 +71,26 @@ pub fn find_by_facts<'a>(
     requires not_fact { IsFalse (has facts.now goal.now) }
     ensures { IfOk result (IsFoundByFacts scope facts.now goal.now) }
 {
+    let listing = listing_of(alloc, facts.items())?;
+    let found = find_listed(alloc, scope, facts, &listing, goal);
+    mem::drop(listing);
+    found
+}
+
+/// The answer of [`find_by_facts`], where the numbers of the facts are listed.
+fn find_listed<'a>(
+    alloc: Global,
+    scope: Scope,
+    facts: &'a Facts,
+    listing: &'a Listing,
+    goal: &'a Lit,
+) -> Result<Option<TransferCert>, AllocError>
+    requires facts { IsTrue (are_limited_facts scope facts.now) }
+    requires listed { IsListing facts.now listing.now.items }
+    requires goal { IsTrue (is_well_formed_in scope goal.now) }
+    requires not_fact { IsFalse (has facts.now goal.now) }
+    ensures { IfOk result (IsFoundByFacts scope facts.now goal.now) }
+{
     let query = Query {
         scope,
         facts,
@@ -76,6 +98,7 @@ pub fn find_by_facts<'a>(
         strength: Strength::Facts,
         step_facts: None,
         hints: None,
+        listing,
         marks: marks_of(facts),
         sum_marks: sum_marks_of(facts, goal),
     };
@@ -133,6 +156,7 @@ pub fn find_prepared<'a>(
         strength: Strength::Sums,
         step_facts: Some(&step_facts),
         hints: Some(prepared),
+        listing: &prepared.listing,
         marks: prepared.marks,
         sum_marks: [false; SUM_MARKS],
     };

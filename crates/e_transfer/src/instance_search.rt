@@ -444,9 +444,6 @@ impl<'a> InstanceSearch<'a> {
             self.now.query.facts.now self.now.query.goal.now self.now.rule self.now.place
             self.now.plan.now) numbers.now.part.now result }
     {
-        let Some(hints) = self.query.hints else {
-            return None;
-        };
         let (relation, neg) = relation_at(numbers.row, j);
         if is_equality_of_points(relation) || !has_to_be_fact(relation, neg, goal_mark) {
             return None;
@@ -457,7 +454,7 @@ impl<'a> InstanceSearch<'a> {
         if is_unknown(known) {
             return None;
         }
-        let triples = hints.listing[mark(relation, !neg)].items();
+        let triples = self.query.listing[mark(relation, !neg)].items();
         Some(seen_numbers(known, place, triples))
     }
 }

@@ -1,9 +1,9 @@
 //! The numbers of the facts by their marks: what a literal with known numbers may be is looked for
 //! among those of its mark alone.
 
-ghost use Rattle.std.specs.Prelude.{◌≡◌, ◌++◌, IfOk, OnOk};
+ghost use Rattle.std.specs.Prelude.{◌≡◌, [], length, IfOk, OnOk};
 ghost use Rattle.e_transfer.specs.Listings;
-ghost use Rattle.e_transfer.specs.Listings.{numbers_if, IsListing};
+ghost use Rattle.e_transfer.specs.Listings.{HasNumbersOf, IsListing};
 
 use crate::marks::{MARKS, mark_of};
 use e_literal::{Atom, Items, Lit};
@@ -35,33 +35,32 @@ pub fn numbers_of(atom: &Atom) -> Triple
     }
 }
 
-fn add_numbers(numbers: &mut Vec<Triple>, fact: &Lit, mark: usize) -> Result<(), AllocError>
-    ensures { OnOk result (numbers.new.items ≡ numbers.old.items ++ numbers_if mark fact.now) }
+/// The lists of no facts.
+fn empty_listing(alloc: Global) -> Result<Listing, AllocError>
+    ensures { IfOk result (λ v. IsListing [] v.items) }
 {
-    if mark_of(fact) == mark {
-        numbers.push(numbers_of(&fact.atom))?;
+    let mut listing = Vec::with_capacity(alloc, MARKS)?;
+    for _mark in 0..MARKS {
+        listing.push(Items::empty(alloc))?;
     }
-    Ok(())
+    Ok(listing)
 }
 
-/// The numbers of the facts with this mark.
-fn numbers_with(alloc: Global, facts: &[Lit], mark: usize) -> Result<Items<Triple>, AllocError>
-    ensures { IfOk result (λ v. v ≡ Listings.numbers_with mark facts.now) }
+/// Adds the numbers of a fact to those of its mark.
+fn add_numbers(listing: &mut [Items<Triple>], fact: &Lit) -> Result<(), AllocError>
+    requires { length listing.old ≡ 28 }
+    ensures { OnOk result (HasNumbersOf listing.old fact.now listing.new) }
 {
-    let mut numbers = Vec::new(alloc);
-    for fact in facts {
-        add_numbers(&mut numbers, fact, mark)?;
-    }
-    Ok(Items::new(numbers))
+    listing[mark_of(fact)].push(numbers_of(&fact.atom))
 }
 
 /// The numbers of the facts of each mark.
 pub fn listing_of(alloc: Global, facts: &[Lit]) -> Result<Listing, AllocError>
     ensures { IfOk result (λ v. IsListing facts.now v.items) }
 {
-    let mut listing = Vec::with_capacity(alloc, MARKS)?;
-    for mark in 0..MARKS {
-        listing.push(numbers_with(alloc, facts, mark)?)?;
+    let mut listing = empty_listing(alloc)?;
+    for fact in facts {
+        add_numbers(&mut listing, fact)?;
     }
     Ok(listing)
 }

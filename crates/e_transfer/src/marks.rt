@@ -79,7 +79,7 @@ fn relation(atom: &Atom) -> usize
 }
 
 /// The number of the relation of an atom over variables.
-fn relation_of(shape: &Shape) -> usize
+pub fn relation_of(shape: &Shape) -> usize
     ensures is { result ≡ Marks.relation_number (atom_of shape.now) }
     ensures below { result < 14 }
 {

@@ -1,6 +1,6 @@
-use Rattle.std.proofs.Common.{◌≡◌, ◌<◌, ℕ, [], length, get_or}
-use Rattle.e_transfer.specs.Listings.{numbers_with}
+use Rattle.std.proofs.Common.{take}
+use Rattle.e_transfer.specs.Listings.{IsListing}
 use Rattle.e_transfer.proofs.listing.listing_of.Given as goal
 
-abbrev pub invariant-loop-mark : goal.invariant-loop-mark
-invariant-loop-mark l = record { long : length l.listing.items ≡ l.mark; at : (m : ℕ) → m < l.mark → get_or l.listing.items m [] ≡ numbers_with m l.facts }
+abbrev pub invariant-loop-fact : goal.invariant-loop-fact
+invariant-loop-fact l = IsListing (take l.fact-index l.facts) l.listing.items

@@ -1,5 +1,5 @@
 use Rattle.std.proofs.Common.{◌≡◌, ◌≢◌, ◌<◌, ap, ◌∙◌, sym, subst, get_or, [], arith, ℕ, List, Some, not, length, true}
-use Rattle.std.specs.Prelude.{option_copied, slice_get}
+use Rattle.std.specs.Prelude.{slice_get}
 use Rattle.std.specs.List.{list_any}
 use Rattle.std.proofs.lemmas.List.{get_or_read}
 use Rattle.std.proofs.lemmas.Option.{same_Some}
@@ -15,8 +15,7 @@ use Rattle.e_transfer.proofs.instance_search.InstanceSearch.seen_at.Goals as goa
 
 pub index-requires : goal.index-requires
 index-requires c =
-    let is = c.args.self.now.query.hinted c.in-Some.hints.now (ap option_copied c.in-Some.is) in
-    let long = is.listed.long in
+    let long = c.args.self.now.query.listed.long in
     let low = c.mark.ensures.below in
     omega (arith, long, low)
 
@@ -26,8 +25,8 @@ returns c =
     let n = c.args.numbers.now in
     let r = row_of n.row.now in
     let facts = s.query.facts.now in
-    let hints = c.in-Some.hints.now in
-    let is = s.query.hinted hints (ap option_copied c.in-Some.is) in
+    let listing = s.query.listing.now.items in
+    let listed = s.query.listed in
     let at = c.relation_at-relation.ensures.is in
     let l : Lit = at.0 in
     let there = c.variables_at-variables.ensures in
@@ -37,11 +36,11 @@ returns c =
     c.mark.ensures.is ∙ ap (λ k. mark_number k (not c.relation_at-relation.result.1)) at.2 ∙ ap (λ b. mark_number (relation_number l.atom) (not b)) at.3 in
     let one : mark_number c.relation_at-relation.result.0 c.relation_at-relation.result.1 ≡ mark_number (relation_number l.atom) l.neg =
     ap (λ k. mark_number k c.relation_at-relation.result.1) at.2 ∙ ap (mark_number (relation_number l.atom)) at.3 in
-    let long = is.listed.long in
+    let long = listed.long in
     let low = c.mark.ensures.below in
-    let read : c.index.result.now ≡ get_or hints.listing.items c.mark.result [] = get_or_read hints.listing.items c.mark.result c.index.result.now (omega (arith, long, low)) c.index.ensures [] in
+    let read : c.index.result.now ≡ get_or listing c.mark.result [] = get_or_read listing c.mark.result c.index.result.now (omega (arith, long, low)) c.index.ensures [] in
     let triples : c.items-triples.result.now ≡ numbers_with (mark_number (relation_number l.atom) (not l.neg)) facts =
-    c.items-triples.ensures ∙ read ∙ is.listed.at c.mark.result low ∙ ap (λ k. numbers_with k facts) marked in
+    c.items-triples.ensures ∙ read ∙ listed.at c.mark.result low ∙ ap (λ k. numbers_with k facts) marked in
     let positions : n.positions.now ≡ s.plan.now.positions.items = c.requires.places in
     let known : c.known_numbers-known.result ≡ known_numbers s.plan.now.positions.items n.part.now (variables_of_atom r l.atom) =
     c.known_numbers-known.ensures ∙ ap (λ (ps : List ℕ). known_numbers ps n.part.now c.variables_at-variables.result) positions ∙ ap (known_numbers s.plan.now.positions.items n.part.now) vs in

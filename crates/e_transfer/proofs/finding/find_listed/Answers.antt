@@ -1,7 +1,7 @@
 use Rattle.e_transfer.specs.declared.query.Strength.TheVariants as strength
 use Rattle.e_transfer.specs.GivenGoals.{NoneGives}
 use Rattle.e_transfer.proofs.RuleSearches.{not_plain, search_nothing}
-use Rattle.e_transfer.proofs.finding.find_by_facts.Goals as goal
+use Rattle.e_transfer.proofs.finding.find_listed.Goals as goal
 
 pub returns-in-No : goal.returns-in-No
 returns-in-No c =
