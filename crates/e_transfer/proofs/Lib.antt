@@ -22,3 +22,4 @@ pub mod MarkedSums
 pub mod FreeAreas
 pub mod ListedTerms
 pub mod PreparedFacts
+pub mod Alike

@@ -10,3 +10,4 @@ pub mod BoundFacts
 pub mod ClauseMarks
 pub mod Candidates
 pub mod ListedTerms
+pub mod Alike

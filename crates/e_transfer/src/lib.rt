@@ -16,6 +16,7 @@ mod equations;
 mod finding;
 mod instance_check;
 mod instance_search;
+mod kinds;
 mod listing;
 mod marks;
 mod matches;

@@ -14,6 +14,7 @@ ghost use Rattle.e_transfer.specs.Marks;
 ghost use Rattle.e_transfer.specs.Marks.{are_marked, NoneHolds};
 
 use crate::clause::{clause_len, pattern_at};
+use crate::kinds::may_be_a_fact;
 use crate::order::marks_needed;
 use crate::query::{Query, asks_facts};
 use e_clause::{Pattern, Row, Shape};
@@ -238,27 +239,31 @@ pub fn lacks_fact(query: &Query, goal_turned: usize, at: u8) -> bool
     false
 }
 
-/// Whether the negation of a literal at this place may hold: it does not where it says that areas
-/// differ, or that one is less, and there are values with which the facts are true and all areas
-/// are 0.
+/// Whether the negation of a literal at this place may hold. Where facts alone are asked it does not
+/// if it is an equation, or says that sums differ, and each such fact has a term of another kind;
+/// else it does not where it says that areas differ, or that one is less, and there are values with
+/// which the facts are true and all areas are 0.
 fn may_follow(query: &Query, row: &Row, at: usize) -> bool
     requires { at < length (clause_of (row_of row.now)) }
     ensures { result ≡ false → (l : Lit) × (slice_get (clause_of (row_of row.now)) at ≡ Some l)
         × Marks.NoneSuffices query.now.strength query.now.facts.now (negation l) }
 {
+    let (pattern, negated) = pattern_at(row, at);
+    let (shape, neg) = parts(pattern, negated);
+    if asks_facts(query.strength) {
+        return may_be_a_fact(query.facts, !neg, shape);
+    }
     let Some(hints) = query.hints else {
         return true;
     };
     if !hints.flat_model {
         return true;
     }
-    let (pattern, negated) = pattern_at(row, at);
-    let (shape, neg) = parts(pattern, negated);
     !is_strict_of_areas(!neg, shape)
 }
 
 /// Whether an instance may have the goal, which has this mark, at the last place of the clause, or
-/// there a literal whose negation holds. Where it does not, the literal says that areas are equal.
+/// there a literal whose negation may hold.
 pub fn last_may_hold(query: &Query, goal_mark: usize, row: &Row) -> bool
     requires of_goal { goal_mark ≡ Marks.lit_mark query.now.goal.now }
     ensures { result ≡ false → (rule place : ℕ) → slice_get table rule ≡ Some (row_of row.now)
@@ -266,9 +271,13 @@ pub fn last_may_hold(query: &Query, goal_mark: usize, row: &Row) -> bool
         rule place }
 {
     let count = clause_len(row);
-    if count == 0 || may_follow(query, row, count - 1) {
+    if count == 0 {
         return true;
     }
     let (relation, neg) = relation_at(row, count - 1);
-    mark(relation, neg) == goal_mark
+    let own = mark(relation, neg);
+    if own == goal_mark {
+        return true;
+    }
+    may_follow(query, row, count - 1)
 }

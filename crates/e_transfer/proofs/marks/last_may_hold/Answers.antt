@@ -1,5 +1,4 @@
 use Rattle.std.proofs.Common.{◌≡◌, ◌<◌, ◌-◌, length, arith, ◌∙◌}
-use Rattle.std.proofs.lemmas.Bool.{eqb-false}
 use Rattle.e_clause.specs.Instance.{clause_of}
 use Rattle.e_clause.specs.Views.{row_of}
 use Rattle.e_transfer.proofs.MarkedFacts.{none_followed_at, none_elsewhere}
@@ -14,7 +13,7 @@ returns c = λ e rule place is.
     let some = c.if-count-eq0.false in
     let less : count - 1 < length (clause_of row) = omega (arith, long, some) in
     let at = c.relation_at-relation.ensures.is in
-    let none = c.may_follow.ensures c.if-may_follow.false in
+    let none = c.may_follow.ensures e in
     none_elsewhere s.strength s.scope s.facts.now s.goal.now rule place (count - 1) row is less
     (none_followed_at s.strength s.facts.now s.goal.now row (count - 1) c.args.goal_mark c.relation_at-relation.result.0 c.relation_at-relation.result.1 at.0 none.0 at.1 at.2 at.3
-    (λ same. eqb-false _ _ e (c.mark.ensures.is ∙ same)) c.requires.of_goal none.1 none.2)
+    (λ same. c.if-own-goal_mark.false (c.mark-own.ensures.is ∙ same)) c.requires.of_goal none.1 none.2)
