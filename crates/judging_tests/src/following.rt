@@ -2,12 +2,10 @@
 
 ghost use Rattle.e_metric.specs.Fronts.{AreFronts};
 
-use crate::literals::{facts_of, lit, term};
-use e_clause::RowName;
+use crate::literals::{facts_of, lit};
 use e_facts::Facts;
-use e_fraction::{Row, RowSense};
-use e_literal::{Kind, copy};
-use e_metric::{Metric, MetricFacts, absurd, are_few_facts, follows, is_metric_goal, system};
+use e_literal::copy;
+use e_metric::{Metric, MetricFacts, absurd, are_few_facts, follows, is_metric_goal};
 use std::alloc::{AllocError, Global};
 use std::mem;
 use std::process::Abort;
@@ -163,38 +161,5 @@ fn what_follows(rt: HostRuntime) -> Result<(), Fail> {
             "fact by fact: {line}"
         );
     }
-    Ok(())
-}
-
-// Whether the row says this of a form with these coefficients of `ab`, `cd` and `ef`.
-fn has_coefficients(row: &Row, sense: RowSense, ab: i64, cd: i64, ef: i64) -> bool {
-    row.sense == sense
-        && row.form.coefficient(term("ab")) == ab
-        && row.form.coefficient(term("cd")) == cd
-        && row.form.coefficient(term("ef")) == ef
-}
-
-// The lesser sum's equal parts cancel; then the negated goal, and a segment whose ends differ.
-fn are_of_segments(rows: &[(RowName, Row)]) -> bool {
-    rows.len() == 4
-        && has_coefficients(&rows[0].1, RowSense::More, -1, 0, 1)
-        && has_coefficients(&rows[1].1, RowSense::More, 0, -1, 1)
-        && has_coefficients(&rows[2].1, RowSense::AtLeast, -1, 0, 1)
-        && has_coefficients(&rows[3].1, RowSense::More, 1, 0, 0)
-}
-
-fn rows_of(rt: &impl Abort, alloc: Global, which: Kind) -> Result<Vec<(RowName, Row)>, AllocError> {
-    let facts = facts_of(alloc, "!b=a ab+cd<ef+cd cd<ef abc=r")?;
-    let goal = lit(alloc, "ef<ab")?;
-    assert!(rt; are_few_facts(&facts) && is_metric_goal(&goal));
-    system(alloc, which, &facts, Some(&goal))
-}
-
-#[test]
-fn rows_of_a_system(rt: HostRuntime) -> Result<(), Fail> {
-    let rows = rows_of(&rt, rt.alloc(), Kind::Segment)?;
-    assert!(rt; are_of_segments(&rows));
-    let rows = rows_of(&rt, rt.alloc(), Kind::Angle)?;
-    assert!(rt; rows.len() == 3);
     Ok(())
 }
