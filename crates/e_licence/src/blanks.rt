@@ -21,7 +21,9 @@ use crate::context::Context;
 use crate::licensing::Question;
 use crate::ready::{Ready, completed_places, ready_places};
 use crate::verdicts::Verdicts;
-use e_literal::{Entry, Items, Lit, Map, NOTHING, Obj, Scope, count, next_objects, with_images};
+use e_literal::{
+    Entry, Items, Lit, Map, NOTHING, Obj, Scope, count, kind, next_objects, with_images,
+};
 use e_metric::{MetricFacts, StepFacts};
 use e_theorem::Statement;
 use e_transfer::{CANDIDATES, Prepared, Span, Task, Verdict, is_well_formed_in, prepare, search};
@@ -376,7 +378,8 @@ impl<'a> Blanks<'a> {
         self.statement.given.items().get(at)
     }
 
-    /// Whether one of the given literals at these places is known to be refused.
+    /// Whether one of the given literals at these places, which is not metric, is known to be
+    /// refused.
     fn some_known_refused(
         &self,
         alloc: Global,
@@ -390,7 +393,7 @@ impl<'a> Blanks<'a> {
     {
         for at in places {
             if let Some(lit) = self.given(*at) {
-                if self.is_known_refused(alloc, memory, lit, images)? {
+                if kind(lit).is_none() && self.is_known_refused(alloc, memory, lit, images)? {
                     return Ok(true);
                 }
             }

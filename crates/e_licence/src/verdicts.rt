@@ -7,10 +7,13 @@ ghost use Rattle.e_licence.specs.Contexts.{Basis};
 ghost use Rattle.e_licence.specs.Verdicts.{AreRight, JudgedIs, has_loop, is_loop};
 
 use e_facts::Facts;
-use e_literal::{Atom, Lit, Mono, Term};
+use e_literal::{Atom, Lit, Mono, Term, kind};
 use e_transfer::Verdict;
 use std::alloc::{AllocError, Global};
 use std::mem;
+
+/// Where so many literals are refused no metric one is kept.
+const MOST_METRIC: usize = 1024;
 
 /// The literals that were asked, those that are allowed and those that are not.
 #[derive(Drop)]
@@ -51,12 +54,13 @@ impl Verdicts {
         self.refused.has(lit) && !has_loop(&lit.atom)
     }
 
-    /// Keeps what is answered on a literal.
+    /// Keeps what is answered on a literal; a metric one only while few are refused, since it is
+    /// looked for among all metric ones.
     pub(crate) fn keep(&mut self, lit: Lit, verdict: &Verdict<()>) -> Result<(), AllocError>
         ensures { OnOk result ((b : Basis) → AreRight b self.old → JudgedIs b lit verdict.now
             → AreRight b self.new) }
     {
-        if has_loop(&lit.atom) {
+        if has_loop(&lit.atom) || (kind(&lit).is_some() && self.refused.len() >= MOST_METRIC) {
             mem::drop(lit);
             return Ok(());
         }
